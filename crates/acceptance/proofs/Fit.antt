@@ -1,0 +1,61 @@
+-- A record that fits the technology fits still when it is raised.
+use mathlib.Core.Path.{_≡_, refl, ap, sym, subst, _∙_}
+use mathlib.Core.Bool.{Bool, true, false, cond, _&&_, _||_, not, false≢true, true≢false}
+use mathlib.Core.List.{List, [], _∷_}
+use Prim.Native.Nat.{ℕ, zero, suc, _+_, _≤_, _<_}
+use native.Mathlib.Omega.{arith}
+use lib.Dec.{ltb, eqb}
+use lib.ListN.{length}
+use borrow.Author.Tests.{eqb-true, eq-eqb, ltb-true, lt-ltb}
+use Rattle.lists.specs.Tests.{allBelow, among}
+use Rattle.lists.proofs.Tests.{split, and-left, and-right, and-both, below-at, at-below}
+use Rattle.records.specs.Table.{Field, table, rowOf, fieldOf, AD, TH}
+use Rattle.records.specs.Record.{mark, isMoney, value}
+use Rattle.records.specs.Raise.{Rise, stays, rises, limitOf, Raised}
+use Rattle.records.proofs.Raise.{raised-same}
+use Rattle.acceptance.specs.Fit.{levelsOf, holds, fieldFits, ruleFits, fits}
+
+rise-fits : (t : ℕ) (f : Field) {a b : ℕ} → Rise (limitOf t f) a b → fieldFits t f a ≡ true → fieldFits t f b ≡ true
+unfolding fieldFits limitOf
+rise-fits t f (stays e) h = rw (← e) h
+rise-fits t f {a} {b} (rises p q) h = go (among t (f .usedBy)) (f .positive) q h
+  where
+    go : (u m : Bool) → b ≤ cond u (f .highest) 0 → cond u (not m || ltb 0 a) (eqb a 0) ≡ true → cond u (not m || ltb 0 b) (eqb b 0) ≡ true
+    go true true y z = lt-ltb 0 b (omega (arith, ltb-true 0 a z))
+    go true false y z = refl
+    go false m y z = eq-eqb b 0 (omega arith)
+
+module _ {t : ℕ} {r s : List ℕ} (q : Raised t r s) where
+  field-stays : (j : ℕ) → fieldFits t (fieldOf (mark r) j) (value (mark r) j r) ≡ true → fieldFits t (fieldOf (mark r) j) (value (mark r) j s) ≡ true
+  field-stays j h =
+      split (isMoney (fieldOf (mark r) j .role))
+      (λ e. rise-fits t (fieldOf (mark r) j) (q .rising j e) h)
+      (λ e. rw (← raised-same q j e) h)
+
+  same-at : (k j : ℕ) → mark r ≡ k → isMoney (fieldOf k j .role) ≡ false → value k j r ≡ value k j s
+  same-at k j e m = subst (λ (x : ℕ). value x j r ≡ value x j s) e (raised-same q j (rw e m))
+
+  rule-stays : ruleFits t (mark r) r ≡ true → ruleFits t (mark r) s ≡ true
+  unfolding ruleFits fieldOf rowOf table
+  rule-stays = go (eqb (mark r) AD) refl (eqb (mark r) TH) refl
+    where
+      go : (a : Bool) → eqb (mark r) AD ≡ a → (b : Bool) → eqb (mark r) TH ≡ b
+          → cond a (holds t (value AD 2 r) && (not (eqb (value AD 1 r) 5) || (eqb t 2 && eqb (value AD 2 r) 1))) (cond b (holds t (value TH 1 r)) true) ≡ true
+          → cond a (holds t (value AD 2 s) && (not (eqb (value AD 1 s) 5) || (eqb t 2 && eqb (value AD 2 s) 1))) (cond b (holds t (value TH 1 s)) true) ≡ true
+      go true e b f h = rw (← same-at AD 1 (eqb-true (mark r) AD e) refl, ← same-at AD 2 (eqb-true (mark r) AD e) refl) h
+      go false e true f h = rw (← same-at TH 1 (eqb-true (mark r) TH f) refl) h
+      go false e false f h = refl
+
+  pub fits-stays : fits t (mark r) r ≡ true → fits t (mark r) s ≡ true
+  unfolding fits
+  fits-stays h =
+      let n : ℕ = length (rowOf (mark r) .fields) in
+      let f : ℕ → Bool = λ i. fieldFits t (fieldOf (mark r) i) (value (mark r) i r) in
+      let g : ℕ → Bool = λ i. fieldFits t (fieldOf (mark r) i) (value (mark r) i s) in
+      let u : Bool = among t (rowOf (mark r) .technologies) in
+      let z = and-right u (allBelow n f && ruleFits t (mark r) r) h in
+      and-both u (allBelow n g && ruleFits t (mark r) s)
+      (and-left u (allBelow n f && ruleFits t (mark r) r) h)
+      (and-both (allBelow n g) (ruleFits t (mark r) s)
+      (at-below n g (λ i p. field-stays i (below-at n f (and-left (allBelow n f) (ruleFits t (mark r) r) z) i p)))
+      (rule-stays (and-right (allBelow n f) (ruleFits t (mark r) r) z)))

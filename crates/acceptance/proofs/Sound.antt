@@ -1,0 +1,213 @@
+-- What an accepted dossier is, declared; it is the same in another order, and stays so in a raise.
+use mathlib.Core.Path.{_≡_, refl, ap, sym, subst, _∙_}
+use mathlib.Core.Bool.{Bool, true, false, cond, _&&_, _||_, not, false≢true, true≢false}
+use mathlib.Core.List.{List, [], _∷_}
+use Prim.Native.Nat.{ℕ, zero, suc, _+_, _≤_, _<_}
+use native.Mathlib.Omega.{arith}
+use lib.Dec.{ltb, eqb, lit≤}
+use lib.ListN.{length}
+use borrow.Author.Tests.{eqb-true, eq-eqb, ltb-true, ltb-false, le-ltb, not-false}
+use Rattle.lists.specs.Lists.{Each, done, also, Pairwise, none, more, Permutation, Member}
+use Rattle.lists.specs.Tests.{allBelow, among}
+use Rattle.lists.proofs.Lists.{each-map, each-permuted, member-each}
+use Rattle.lists.proofs.Tests.{and-left, and-right, below-at}
+use Rattle.records.specs.declared.Answer.{Answer}
+use Rattle.records.specs.declared.Answer.the-variants.{Accepted, Refused}
+use Rattle.records.specs.Table.{Field, table, rowOf, fieldOf, RS}
+use Rattle.records.specs.Record.{mark, issue, keyOf, isMoney, value, inRange, fault}
+use Rattle.records.specs.Answers.{orElse, refuseIf}
+use Rattle.records.specs.Dossier.{records, scan}
+use Rattle.records.specs.Raise.{Raised}
+use Rattle.records.proofs.Record.{faultless, field-range, range-low}
+use Rattle.records.proofs.Answers.{orElse-parts, parts-orElse, drawn-none, none-drawn, not-refuseIf, refuseIf-not}
+use Rattle.records.proofs.Dossier.{scan-each, each-scan, first-each, each-first}
+use Rattle.records.proofs.Raise.{raised-mark, raised-issue, raised-key, fault-stays}
+use Rattle.station.specs.Current.{current, present, twins, readable}
+use Rattle.station.specs.Parameters.{Parameters, parameters, amounts, technology, efficiency}
+use Rattle.station.specs.Declared.{IsCurrent, CurrentOf, absent, standing, Distinct}
+use Rattle.station.proofs.Current.{current-found, current-raised}
+use Rattle.station.proofs.Twins.{twins-distinct, distinct-twins, distinct-permuted, current-permuted, twins-same}
+use Rattle.station.proofs.Parameters.{parameters-permuted, same-parameters}
+use Rattle.acceptance.specs.Fit.{fieldFits, ruleFits, fits, isCurrent, unfit}
+use Rattle.acceptance.specs.Curve.{curveFits, fuelHolds, windowFits}
+use Rattle.acceptance.specs.Answer.{unsupported, answer, IsAccepted}
+use Rattle.acceptance.specs.Sound.{FitsIn, Sound}
+use Rattle.acceptance.proofs.Fit.{fits-stays}
+
+unfit-each : (l : List (List ℕ)) → unfit (technology (parameters l)) l ≡ Accepted → Each (FitsIn l) l
+unfolding unfit
+unfit-each l h =
+    first-each
+    (λ p r e. go (isCurrent l r) (fits (technology (parameters l)) (mark r) r) (not-refuseIf (isCurrent l r && not (fits (technology (parameters l)) (mark r) r)) 6 p e))
+    0 l h
+  where
+    go : (b c : Bool) → b && not c ≡ false → b ≡ true → c ≡ true
+    go true true e f = refl
+    go true false e f = absurd (true≢false e)
+    go false c e f = absurd (false≢true f)
+
+each-unfit : {l : List (List ℕ)} → Each (FitsIn l) l → unfit (technology (parameters l)) l ≡ Accepted
+unfolding unfit
+each-unfit {l} e =
+    each-first
+    (λ p r f. refuseIf-not (isCurrent l r && not (fits (technology (parameters l)) (mark r) r)) 6 p (go (isCurrent l r) (fits (technology (parameters l)) (mark r) r) f))
+    0 e
+  where
+    go : (b c : Bool) → (b ≡ true → c ≡ true) → b && not c ≡ false
+    go true true g = refl
+    go true false g = sym (g refl)
+    go false c g = refl
+
+-- ---- 7, 8 and 9
+
+held : (b : Bool) (n p : ℕ) → refuseIf (not b) n p ≡ Accepted → b ≡ true
+held b n p h = not-false b (not-refuseIf (not b) n p h)
+
+holding : (b : Bool) (n p : ℕ) → b ≡ true → refuseIf (not b) n p ≡ Accepted
+holding b n p h = refuseIf-not (not b) n p (ap not h)
+
+supported : (s : Parameters) (n : ℕ) → unsupported s n ≡ Accepted → (curveFits s ≡ true) × (fuelHolds s ≡ true) × (windowFits s ≡ true)
+unfolding unsupported
+supported s n h =
+    let a = orElse-parts (refuseIf (not (curveFits s)) 7 n) _ h in
+    let b = orElse-parts (refuseIf (not (fuelHolds s)) 8 n) (refuseIf (not (windowFits s)) 9 n) (a .1) in
+    (held (curveFits s) 7 n (a .0), held (fuelHolds s) 8 n (b .0), held (windowFits s) 9 n (b .1))
+
+supporting : (s : Parameters) (n : ℕ) → curveFits s ≡ true → fuelHolds s ≡ true → windowFits s ≡ true → unsupported s n ≡ Accepted
+unfolding unsupported
+supporting s n p q r =
+    parts-orElse (refuseIf (not (curveFits s)) 7 n) (orElse (refuseIf (not (fuelHolds s)) 8 n) (refuseIf (not (windowFits s)) 9 n))
+    (holding (curveFits s) 7 n p)
+    (parts-orElse (refuseIf (not (fuelHolds s)) 8 n) (refuseIf (not (windowFits s)) 9 n) (holding (fuelHolds s) 8 n q) (holding (windowFits s) 9 n r))
+
+-- ---- accepted is: not too long, and of sound records
+
+pub accepted-sound : (d : List ℕ) → IsAccepted d → (length d ≤ 60000) × Sound (records d)
+unfolding answer readable
+accepted-sound d h =
+    let l : List (List ℕ) = records d in
+    let s : Parameters = parameters l in
+    let a = orElse-parts (readable d) _ (h .clean) in
+    let b = orElse-parts (refuseIf (ltb 60000 (length d)) 13 0) _ (a .0) in
+    let c = orElse-parts (scan 0 l) (twins 0 [] l) (b .1) in
+    let e = orElse-parts (refuseIf (not (s .has RS 0)) 5 (length d)) _ (a .1) in
+    let f = orElse-parts (unfit (technology s) l) (unsupported s (length d)) (e .1) in
+    let g = supported s (length d) (f .1) in (
+      ltb-false 60000 (length d) (not-refuseIf (ltb 60000 (length d)) 13 0 (b .0)),
+      record {
+        clean = scan-each 0 l (c .0);
+        distinct = twins-distinct 0 l (c .1);
+        station = held (s .has RS 0) 5 (length d) (e .0);
+        fit = unfit-each l (f .0);
+        curve = g .0;
+        fuel = g .1;
+        window = g .2;
+      },
+    )
+
+pub sound-accepted : (d : List ℕ) → length d ≤ 60000 → Sound (records d) → IsAccepted d
+unfolding answer readable
+sound-accepted d n h =
+    let l : List (List ℕ) = records d in
+    let s : Parameters = parameters l in
+    record {
+      clean =
+          parts-orElse (readable d) (orElse (refuseIf (not (s .has RS 0)) 5 (length d)) (orElse (unfit (technology s) l) (unsupported s (length d))))
+          (parts-orElse (refuseIf (ltb 60000 (length d)) 13 0) (orElse (scan 0 l) (twins 0 [] l))
+          (refuseIf-not (ltb 60000 (length d)) 13 0 (le-ltb 60000 (length d) n))
+          (parts-orElse (scan 0 l) (twins 0 [] l) (each-scan 0 (h .clean)) (distinct-twins 0 l (h .distinct))))
+          (parts-orElse (refuseIf (not (s .has RS 0)) 5 (length d)) (orElse (unfit (technology s) l) (unsupported s (length d)))
+          (holding (s .has RS 0) 5 (length d) (h .station))
+          (parts-orElse (unfit (technology s) l) (unsupported s (length d))
+          (each-unfit (h .fit))
+          (supporting s (length d) (h .curve) (h .fuel) (h .window))));
+    }
+
+-- ---- in another order
+
+pub sound-permuted : {l m : List (List ℕ)} → Permutation l m → Sound l → Sound m
+unfolding isCurrent
+sound-permuted {l} {m} p h =
+    let f : parameters l ≡ parameters m = parameters-permuted p (h .distinct) in
+    record {
+      clean = each-permuted p (h .clean);
+      distinct = distinct-permuted p (h .distinct);
+      station = rw (← f) (h .station);
+      fit = each-map (λ r w. rw (← f, ← current-permuted (mark r) (keyOf r) p (h .distinct)) w) (each-permuted p (h .fit));
+      curve = rw (← f) (h .curve);
+      fuel = rw (← f) (h .fuel);
+      window = rw (← f) (h .window);
+    }
+
+-- ---- in a raise
+
+module _ {t : ℕ} where
+  clean-stays : {l m : List (List ℕ)} → Pairwise (Raised t) l m → Each (λ r. fault r ≡ 0) l → Each (λ r. fault r ≡ 0) m
+  clean-stays none e = done
+  clean-stays (more q a) (also h e) = also (fault-stays q h) (clean-stays a e)
+
+  current-same : {r s : List ℕ} {x y : List (List ℕ)} → Raised t r s → Pairwise (Raised t) x y → isCurrent x r ≡ isCurrent y s
+  unfolding isCurrent
+  current-same {r} {s} q b =
+      rw (← raised-mark q, ← raised-key q, ← raised-issue q, ← raised-issue (current-raised (mark r) (keyOf r) b)) refl
+
+  fit-stays : {x y : List (List ℕ)} → Pairwise (Raised t) x y → technology (parameters x) ≡ t → {l m : List (List ℕ)} → Pairwise (Raised t) l m → Each (FitsIn x) l → Each (FitsIn y) m
+  fit-stays b w none e = done
+  fit-stays {x} {y} b w (more {a = r} {b = s} q a) (also h e) =
+      also {a = s}
+      (λ c. rw (← same-parameters b, w, ← raised-mark q) (fits-stays q (rw w at (h (current-same q b ∙ c)))))
+      (fit-stays b w a e)
+
+pub sound-raised : {l m : List (List ℕ)} → Pairwise (Raised (technology (parameters l))) l m → Sound l → Sound m
+sound-raised {l} {m} a h =
+    record {
+      clean = clean-stays a (h .clean);
+      distinct = twins-distinct 0 m (sym (twins-same a none 0) ∙ distinct-twins 0 l (h .distinct));
+      station = rw (← same-parameters a) (h .station);
+      fit = fit-stays a refl a (h .fit);
+      curve = rw (← same-parameters a) (h .curve);
+      fuel = rw (← same-parameters a) (h .fuel);
+      window = rw (← same-parameters a) (h .window);
+    }
+
+-- ---- a current record that is there: its fields are in their ranges and fit the technology
+
+module _ {l : List (List ℕ)} (h : Sound l) (k n : ℕ) (there : parameters l .has k n ≡ true) where
+  pub the-current : IsCurrent k n l (current k n l)
+  unfolding parameters present
+  the-current = go (current k n l) (current-found k n l) there
+    where
+      go : (r : List ℕ) → CurrentOf k n l r → ltb 0 (length r) ≡ true → IsCurrent k n l r
+      go r (standing q) e = q
+      go r (absent p w) e = absurd (false≢true (rw p at e))
+
+  pub its-range : (i : ℕ) → i < length (rowOf k .fields) → inRange (fieldOf k i) (value k i (current k n l)) ≡ true
+  its-range = go (current k n l) the-current
+    where
+      go : (r : List ℕ) → IsCurrent k n l r → (i : ℕ) → i < length (rowOf k .fields) → inRange (fieldOf k i) (value k i r) ≡ true
+      go r q = rw (← q .marked) (field-range r (faultless r (member-each (q .member) (h .clean))))
+
+  its-fit : fits (technology (parameters l)) k (current k n l) ≡ true
+  unfolding isCurrent
+  its-fit =
+      let q = the-current in
+      let r : List ℕ = current k n l in
+      let c : isCurrent l r ≡ true = rw (q .marked, q .keyed) (eq-eqb (issue r) (issue r) refl) in
+      rw (q .marked) at (member-each (q .member) (h .fit) c)
+
+  pub field-fits : (i : ℕ) → i < length (rowOf k .fields) → fieldFits (technology (parameters l)) (fieldOf k i) (value k i (current k n l)) ≡ true
+  unfolding fits
+  field-fits i p =
+      let t : ℕ = technology (parameters l) in
+      let r : List ℕ = current k n l in
+      let f : ℕ → Bool = λ j. fieldFits t (fieldOf k j) (value k j r) in
+      let m : ℕ = length (rowOf k .fields) in
+      below-at m f (and-left (allBelow m f) (ruleFits t k r) (and-right (among t (rowOf k .technologies)) (allBelow m f && ruleFits t k r) its-fit)) i p
+
+-- what the exact level of a storage asks for
+pub efficient : {l : List (List ℕ)} → Sound l → technology (parameters l) ≡ 3 → 500 ≤ efficiency (parameters l)
+unfolding parameters fieldFits table rowOf fieldOf among
+efficient {l} h t =
+    let x : ℕ = value RS 7 (current RS 0 l) in
+    let f : ltb 0 x ≡ true = rw t at (field-fits h RS 0 (h .station) 7 (lit≤ tt)) in
+    range-low (fieldOf RS 7) x (its-range h RS 0 (h .station) 7 (lit≤ tt)) (ltb-true 0 x f)

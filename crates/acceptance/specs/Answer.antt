@@ -1,0 +1,34 @@
+-- The whole answer to a dossier.
+use mathlib.Core.Path.{_≡_}
+use mathlib.Core.Bool.{not}
+use mathlib.Core.List.{List}
+use Prim.Native.Nat.{ℕ}
+use lib.ListN.{length}
+use Rattle.records.specs.declared.Answer.{Answer}
+use Rattle.records.specs.declared.Answer.the-variants.{Accepted, Refused}
+use Rattle.records.specs.Table.{RS}
+use Rattle.records.specs.Answers.{orElse, refuseIf}
+use Rattle.records.specs.Dossier.{records}
+use Rattle.station.specs.Current.{readable}
+use Rattle.station.specs.Parameters.{Parameters, parameters, technology}
+use Rattle.acceptance.specs.Fit.{unfit}
+use Rattle.acceptance.specs.Curve.{curveFits, fuelHolds, windowFits}
+
+-- 7, 8, 9 at "dossier length"
+unfoldable pub unsupported : Parameters → ℕ → Answer
+unsupported s n =
+    orElse (refuseIf (not (curveFits s)) 7 n)
+    (orElse (refuseIf (not (fuelHolds s)) 8 n)
+    (refuseIf (not (windowFits s)) 9 n))
+
+-- "13; records in turn with 1, 2, 3; then 4 to 9"; "5 no RS" is at the dossier's length too
+unfoldable pub answer : List ℕ → Answer
+answer d =
+    orElse (readable d)
+    (orElse (refuseIf (not (parameters (records d) .has RS 0)) 5 (length d))
+    (orElse (unfit (technology (parameters (records d))) (records d))
+    (unsupported (parameters (records d)) (length d))))
+
+-- "A dossier is accepted if it draws none of 1 to 9 and 13."
+pub record IsAccepted (d : List ℕ) : Type 0 where
+  pub clean : answer d ≡ Accepted

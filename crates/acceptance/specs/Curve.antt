@@ -1,0 +1,43 @@
+-- 7, 8 and 9: what the parameters of an accepted dossier are like.
+use mathlib.Core.Bool.{Bool, true, false, cond, _&&_, _||_, not}
+use Prim.Native.Nat.{ℕ, _+_, _*_, _-_, _/_}
+use lib.Dec.{leb, ltb, eqb}
+use Rattle.lists.specs.Tests.{allTo, countTo}
+use Rattle.records.specs.Table.{thermal, storage, HP, FU, RQ, HR}
+use Rattle.station.specs.Parameters.{Parameters, technology, capacity, charge, window, output, heat, requested}
+
+-- how many points there are
+unfoldable pub points : Parameters → ℕ
+points s = countTo 21 (s .has HP)
+
+-- what a curve rises by from point i to the next
+unfoldable pub rise : (ℕ → ℕ) → ℕ → ℕ
+rise f i = f (i + 1) - f i
+
+-- n points, 2 or more, "numbered from 1 without gap", output rising, heat not falling, slope not falling (compared by multiplying across), "last output" the capacity
+unfoldable pub curveHolds : Parameters → ℕ → Bool
+curveHolds s n =
+    leb 2 n && allTo n (s .has HP)
+    && allTo (n - 1) (λ i. ltb (output s i) (output s (i + 1)) && leb (heat s i) (heat s (i + 1)))
+    && allTo (n - 2) (λ i. leb (rise (heat s) i * rise (output s) (i + 1)) (rise (heat s) (i + 1) * rise (output s) i))
+    && eqb (output s n) (capacity s)
+
+-- what 7 asks: "for thermal", the curve
+unfoldable pub curveFits : Parameters → Bool
+curveFits s = not (eqb (technology s) thermal) || curveHolds s (points s)
+
+-- what 8 asks: an FU "for profile 1" and for each "named in a current RQ"; 0 names none
+unfoldable pub fuelHolds : Parameters → Bool
+fuelHolds s = s .has FU 1 && allTo 16 (λ n. not (s .has RQ n) || eqb (requested s n) 0 || s .has FU (requested s n))
+
+-- X: "state of charge / capacity without fraction"
+unfoldable pub fullHours : Parameters → ℕ
+fullHours s = charge s / capacity s
+
+-- X is neither 0 nor above the window, and no window hour is missing
+unfoldable pub hoursHold : Parameters → Bool
+hoursHold s = ltb 0 (fullHours s) && leb (fullHours s) (window s) && allTo (window s) (s .has HR)
+
+-- what 9 asks: "for storage", the window
+unfoldable pub windowFits : Parameters → Bool
+windowFits s = not (eqb (technology s) storage) || hoursHold s

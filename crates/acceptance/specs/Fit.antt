@@ -1,0 +1,62 @@
+-- "6 current record unfit for the technology".
+use mathlib.Core.Bool.{Bool, true, false, cond, _&&_, _||_, not}
+use mathlib.Core.List.{List, [], _∷_}
+use Prim.Native.Nat.{ℕ, _+_}
+use lib.Dec.{ltb, eqb}
+use lib.ListN.{length}
+use Rattle.lists.specs.Tests.{allBelow, among}
+use Rattle.records.specs.declared.Answer.{Answer}
+use Rattle.records.specs.declared.Answer.the-variants.{Accepted, Refused}
+use Rattle.records.specs.Table.{Field, rowOf, fieldOf, thermal, nuclear, storage, AD, TH}
+use Rattle.records.specs.Record.{mark, issue, keyOf, value}
+use Rattle.records.specs.Answers.{refuseIf}
+use Rattle.records.specs.Dossier.{firstDrawn}
+use Rattle.station.specs.Current.{current}
+
+-- the levels by number
+abbrev pub energy : ℕ
+energy = 1
+
+abbrev pub start : ℕ
+start = 2
+
+abbrev pub noLoad : ℕ
+noLoad = 3
+
+abbrev pub reserve : ℕ
+reserve = 4
+
+-- "Thermal has all four levels, nuclear level 1 only, storage 1 and 4"
+unfoldable pub levelsOf : ℕ → List ℕ
+levelsOf t =
+    cond (eqb t thermal) (energy ∷ start ∷ noLoad ∷ reserve ∷ [])
+    (cond (eqb t nuclear) (energy ∷ [])
+    (cond (eqb t storage) (energy ∷ reserve ∷ [])
+    []))
+
+-- whether a technology holds a level
+unfoldable pub holds : ℕ → ℕ → Bool
+holds t v = among v (levelsOf t)
+
+-- "Other such RS fields are 0; used ones are above 0, except the heats"; "Emission is 0 unless thermal"; "S is 0 unless thermal"
+unfoldable pub fieldFits : ℕ → Field → ℕ → Bool
+fieldFits t f x = cond (among t (f .usedBy)) (not (f .positive) || ltb 0 x) (eqb x 0)
+
+-- the level is held, "for AD and TH alike"; "Cost 5 is nuclear and level 1"
+unfoldable pub ruleFits : ℕ → ℕ → List ℕ → Bool
+ruleFits t k r =
+    cond (eqb k AD) (holds t (value AD 2 r) && (not (eqb (value AD 1 r) 5) || (eqb t nuclear && eqb (value AD 2 r) energy)))
+    (cond (eqb k TH) (holds t (value TH 1 r)) true)
+
+-- a record of mark k fits technology t: "HP is thermal only; HR and CH storage only", its fields and its level
+unfoldable pub fits : ℕ → ℕ → List ℕ → Bool
+fits t k r =
+    among t (rowOf k .technologies) && (allBelow (length (rowOf k .fields)) (λ i. fieldFits t (fieldOf k i) (value k i r)) && ruleFits t k r)
+
+-- whether a record of a dossier is current: it has the issue of the current one of its mark and key
+unfoldable pub isCurrent : List (List ℕ) → List ℕ → Bool
+isCurrent all r = eqb (issue r) (issue (current (mark r) (keyOf r) all))
+
+-- 6 at the start of the "first in the dossier" that is current and does not fit
+unfoldable pub unfit : ℕ → List (List ℕ) → Answer
+unfit t l = firstDrawn (λ p r. refuseIf (isCurrent l r && not (fits t (mark r) r)) 6 p) 0 l

@@ -1,0 +1,69 @@
+-- Demand 3 holds.
+use mathlib.Core.Path.{_≡_, refl, ap, sym, subst, _∙_}
+use mathlib.Core.List.{List, [], _∷_}
+use Prim.Native.Nat.{ℕ}
+use lib.IntN.{ℤ}
+use lib.ListN.{length}
+use Rattle.lists.specs.Lists.{Pairwise, none, more, Each}
+use Rattle.fields.specs.Numbers.{biasedOf}
+use Rattle.records.specs.Dossier.{records}
+use Rattle.records.specs.Raise.{Raised, RaiseFor}
+use Rattle.records.proofs.Raise.{raised, raised-self}
+use Rattle.station.specs.Parameters.{Parameters, parameters, amounts, technology}
+use Rattle.station.proofs.Parameters.{same-parameters, higher}
+use Rattle.acceptance.specs.Answer.{answer, IsAccepted}
+use Rattle.acceptance.specs.Sound.{Sound}
+use Rattle.acceptance.proofs.Sound.{accepted-sound, sound-accepted, sound-raised, efficient}
+use Rattle.reference.specs.Levels.{NoLower, lines, levels}
+use Rattle.reference.proofs.Levels.{lines-upper, lines-close}
+use Rattle.conduct.specs.declared.Verdict.{Verdict}
+use Rattle.conduct.specs.declared.Verdict.the-variants.{Passes, Fails, Refused}
+use Rattle.conduct.specs.Verdict.{settle, offerVerdict, priceVerdict, onOffer, onPrice}
+use Rattle.conduct.proofs.Stays.{offer-stays, price-stays}
+use Rattle.promise.specs.Demand.{Raise, RaiseKeeps, Demand3}
+
+module _ {d e : List ℕ} (q : Raise d e) (h : IsAccepted d) where
+  pairs : Pairwise (Raised (technology (parameters (records d)))) (records d) (records e)
+  pairs = raised q
+
+  accepted-stays : IsAccepted e
+  accepted-stays =
+      let z = accepted-sound d h in
+      sound-accepted e (rw (← q .long) (z .0)) (sound-raised pairs (z .1))
+
+  levels-upper : (t : ℕ) → Pairwise NoLower (levels d t) (levels e t)
+  unfolding levels
+  levels-upper t = rw (← same-parameters pairs) (lines-upper (parameters (records d)) (higher pairs) t)
+
+  offers-stay : (t c : ℕ) (o : List ℕ) → onOffer d t c o ≡ Passes → onOffer e t c o ≡ Passes
+  unfolding onOffer settle
+  offers-stay t c o = rw (h .clean, accepted-stays .clean, ← same-parameters pairs) (offer-stays (parameters (records d)) c (levels-upper t) o)
+
+  prices-stay : (t v c : ℕ) (price : ℤ) → onPrice d t v c price ≡ Passes → onPrice e t v c price ≡ Passes
+  unfolding onPrice settle
+  prices-stay t v c price = rw (h .clean, accepted-stays .clean, ← same-parameters pairs) (price-stays (parameters (records d)) c (levels-upper t) v (biasedOf price))
+
+pub demand3 : Demand3
+unfolding levels
+demand3 =
+    record {
+      raise = λ d e h q.
+          record {
+            accepted = accepted-stays q h;
+            higher = levels-upper q h;
+            offers = offers-stay q h;
+            prices = prices-stay q h;
+          };
+      distance = λ d h. lines-close (parameters (records d)) (amounts (records d)) (efficient (accepted-sound d h .1));
+    }
+
+-- every dossier is a raise of itself
+pub raise-self : (d : List ℕ) → Raise d d
+raise-self d = record { long = refl; alike = λ i h. refl; rising = all (records d) }
+  where
+    t : ℕ
+    t = technology (parameters (records d))
+
+    all : (l : List (List ℕ)) → Pairwise (Rattle.records.specs.Raise.Rising t) l l
+    all [] = none
+    all (r ∷ l) = more (raised-self t r .rising) (all l)

@@ -1,0 +1,46 @@
+-- The claims are not empty: R1 is accepted, there is a real raise of it, and its records in another order are a reordering.
+use mathlib.Core.Path.{_≡_, refl}
+use mathlib.Core.List.{List, [], _∷_, _++_}
+use Prim.Native.Nat.{ℕ}
+use Rattle.lists.specs.Lists.{Permutation, empty, keep, swap, then, joined}
+use Rattle.records.specs.Dossier.{records}
+use Rattle.records.specs.Table.{thermal}
+use Rattle.records.proofs.RaiseTest.{riseTest, recordTest, recordsTest, raiseTest, raise-by}
+use Rattle.acceptance.specs.Answer.{IsAccepted}
+use Rattle.report.proofs.Computed.{computed}
+use Rattle.promise.specs.Demand.{Raise, RaiseKeeps}
+use Rattle.promise.specs.Order.{SameMeaning}
+use Rattle.promise.specs.Stations.{bytesOf, valuesIn, made, r1, r1Raised}
+use Rattle.promise.proofs.Demand.{demand3}
+use Rattle.promise.proofs.Order.{arrival-order}
+
+r1-accepted : IsAccepted (joined r1)
+unfolding bytesOf valuesIn made computed
+r1-accepted = record { clean = refl }
+
+r1-raise : Raise (joined r1) (joined r1Raised)
+unfolding bytesOf valuesIn made riseTest recordTest recordsTest raiseTest computed
+r1-raise = raise-by thermal (joined r1) (joined r1Raised) refl
+
+pub r1-keeps : RaiseKeeps (joined r1) (joined r1Raised)
+r1-keeps = demand3 .raise (joined r1) (joined r1Raised) r1-accepted r1-raise
+
+-- an element behind the others
+behind : {A : Type 0} (a : A) (l : List A) → Permutation (a ∷ l) (l ++ (a ∷ []))
+behind a [] = keep a empty
+behind a (b ∷ l) = then (swap a b l) (keep b (behind a l))
+
+-- the first record of some behind the others
+unfoldable pub turned : List (List ℕ) → List (List ℕ)
+turned [] = []
+turned (r ∷ l) = l ++ (r ∷ [])
+
+turned-permuted : (l : List (List ℕ)) → Permutation l (turned l)
+unfolding turned
+turned-permuted [] = empty
+turned-permuted (r ∷ l) = behind r l
+
+-- its RS behind all other records
+pub r1-turned : SameMeaning (joined r1) (joined (turned r1))
+unfolding bytesOf valuesIn made computed
+r1-turned = arrival-order (joined r1) (joined (turned r1)) r1-accepted (record { order = turned r1; same = turned-permuted r1; made = refl })

@@ -1,0 +1,5 @@
+pub mod Demand
+pub mod Order
+pub mod Declared
+pub mod Marked
+pub mod Examples

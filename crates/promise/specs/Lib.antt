@@ -1,0 +1,5 @@
+pub mod Demand
+pub mod Order
+pub mod Declared
+pub mod Stations
+pub mod Marked

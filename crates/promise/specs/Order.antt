@@ -1,0 +1,30 @@
+-- Arrival order: the records of an accepted dossier in any other order mean the same.
+use mathlib.Core.Path.{_≡_}
+use mathlib.Core.List.{List}
+use Prim.Native.Nat.{ℕ}
+use lib.IntN.{ℤ}
+use Rattle.lists.specs.Lists.{Permutation, joined}
+use Rattle.records.specs.Dossier.{records}
+use Rattle.acceptance.specs.Answer.{IsAccepted}
+use Rattle.reference.specs.Levels.{levels}
+use Rattle.conduct.specs.Verdict.{onOffer, onPrice}
+use Rattle.report.specs.Report.{report, reportAnswer, bufferAfter}
+
+-- e is made of the records of d, back to back in some order
+pub record Reordered (d e : List ℕ) : Type 0 where
+  pub order : List (List ℕ)
+  pub same : Permutation (records d) order
+  pub made : e ≡ joined order
+
+-- e is accepted, and has the levels, verdicts and report of d at every hour
+pub record SameMeaning (d e : List ℕ) : Type 0 where
+  pub accepted : IsAccepted e
+  pub levels : (h : ℕ) → levels d h ≡ levels e h
+  pub offers : (h c : ℕ) (o : List ℕ) → onOffer d h c o ≡ onOffer e h c o
+  pub prices : (h v c : ℕ) (price : ℤ) → onPrice d h v c price ≡ onPrice e h v c price
+  pub report : (h : ℕ) → report d h ≡ report e h
+  pub answer : (h n : ℕ) → reportAnswer d h n ≡ reportAnswer e h n
+  pub buffer : (h : ℕ) (buf : List ℕ) → bufferAfter d h buf ≡ bufferAfter e h buf
+
+abbrev pub ArrivalOrder : Type 0
+ArrivalOrder = (d e : List ℕ) → IsAccepted d → Reordered d e → SameMeaning d e

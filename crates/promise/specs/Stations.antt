@@ -1,0 +1,94 @@
+-- The stations and offers of the marked cases, in the paper's numbers and, through the table, as bytes.
+use mathlib.Core.List.{List, [], _∷_, _++_}
+use Prim.Native.Nat.{ℕ, zero, suc, _-_, _/_, _%_}
+use Rattle.records.specs.Table.{Field, rowOf, RS, HP, FU, AD, MM, HR, CH, TH}
+
+-- ---- bytes from numbers
+
+-- a number in w bytes, big-endian
+unfoldable pub bytesOf : ℕ → ℕ → List ℕ
+bytesOf zero n = []
+bytesOf (suc w) n = bytesOf w (n / 256) ++ ((n % 256) ∷ [])
+
+-- a negative number in four bytes
+abbrev pub minus : ℕ → ℕ
+minus n = 4294967296 - n
+
+-- values in the widths of some fields
+unfoldable pub valuesIn : List Field → List ℕ → List ℕ
+valuesIn [] vs = []
+valuesIn (f ∷ l) [] = []
+valuesIn (f ∷ l) (v ∷ vs) = bytesOf (f .width) v ++ valuesIn l vs
+
+-- the record of mark k, issue i and these values
+unfoldable pub made : ℕ → ℕ → List ℕ → List ℕ
+made k i vs = rowOf k .first ∷ rowOf k .second ∷ bytesOf 4 i ++ valuesIn (rowOf k .fields) vs
+
+-- one pair of an energy offer
+unfoldable pub pair : ℕ → ℕ → List ℕ
+pair quantity price = bytesOf 2 quantity ++ bytesOf 4 price
+
+-- ---- case R1: thermal, all issues 1; all but its fuel price and its first adder
+
+abbrev pub r1With : ℕ → ℕ → List (List ℕ)
+r1With fuel adder =
+    made RS 1 (1 ∷ 1000 ∷ 1000 ∷ 500000 ∷ 100000 ∷ 0 ∷ 0 ∷ 0 ∷ 0 ∷ [])  -- capacity 100.0, factor 1,000, start heat, no-load heat
+    ∷ made HP 1 (1 ∷ 500 ∷ 500000 ∷ [])  -- 50.0 MW 500,000
+    ∷ made HP 1 (2 ∷ 1000 ∷ 900000 ∷ [])  -- 100.0 MW 900,000
+    ∷ made FU 1 (1 ∷ fuel ∷ 1000000 ∷ [])  -- fuel, emission 1,000,000
+    ∷ made AD 1 (1 ∷ 3 ∷ 1 ∷ adder ∷ [])  -- consumables, energy
+    ∷ made AD 1 (1 ∷ 3 ∷ 4 ∷ 250000 ∷ [])  -- consumables, reserve
+    ∷ made MM 1 (1 ∷ 1 ∷ 200000000 ∷ 1000 ∷ 25000 ∷ 100 ∷ [])  -- C, W, T, S
+    ∷ []
+
+abbrev pub r1 : List (List ℕ)
+r1 = r1With 4000000 1500000
+
+-- R1 with a dearer fuel and an adder that is a cent higher
+abbrev pub r1Raised : List (List ℕ)
+r1Raised = r1With 4100000 1510000
+
+-- R1 with thresholds for condition 1 and energy: percent 50, margin 25.00, floor 0
+abbrev pub r1Tested : List (List ℕ)
+r1Tested = r1 ++ (made TH 1 (1 ∷ 1 ∷ 50 ∷ 2500 ∷ 0 ∷ []) ∷ [])
+
+-- "R1's five lines"
+abbrev pub r1Lines : List ℕ
+r1Lines =
+    112 ∷ 114 ∷ 111 ∷ 102 ∷ 105 ∷ 108 ∷ 101 ∷ 32 ∷ 49 ∷ 10  -- profile 1
+    ∷ 101 ∷ 110 ∷ 101 ∷ 114 ∷ 103 ∷ 121 ∷ 32 ∷ 49 ∷ 32 ∷ 48 ∷ 46 ∷ 48 ∷ 32 ∷ 49 ∷ 48 ∷ 48 ∷ 46 ∷ 48 ∷ 32 ∷ 52 ∷ 50 ∷ 46 ∷ 51 ∷ 48 ∷ 10  -- energy 1 0.0 100.0 42.30
+    ∷ 115 ∷ 116 ∷ 97 ∷ 114 ∷ 116 ∷ 32 ∷ 51 ∷ 51 ∷ 48 ∷ 48 ∷ 46 ∷ 48 ∷ 48 ∷ 10  -- start 3300.00
+    ∷ 110 ∷ 111 ∷ 45 ∷ 108 ∷ 111 ∷ 97 ∷ 100 ∷ 32 ∷ 53 ∷ 48 ∷ 48 ∷ 46 ∷ 48 ∷ 48 ∷ 10  -- no-load 500.00
+    ∷ 114 ∷ 101 ∷ 115 ∷ 101 ∷ 114 ∷ 118 ∷ 101 ∷ 32 ∷ 48 ∷ 46 ∷ 50 ∷ 53 ∷ 10  -- reserve 0.25
+    ∷ []
+
+-- ---- the battery of M5 to M9: charge 300.0, capacity 80.0, efficiency 800, window 3, fuel 750,000
+
+-- with its records of prices and charging
+abbrev pub batteryWith : List (List ℕ) → List (List ℕ)
+batteryWith l = made RS 1 (3 ∷ 800 ∷ 0 ∷ 0 ∷ 0 ∷ 0 ∷ 3000 ∷ 800 ∷ 3 ∷ []) ∷ made FU 1 (1 ∷ 750000 ∷ 0 ∷ []) ∷ l
+
+-- M6's hours 205.50, 106.40, 302.50; M8's charging of 1,000 kWh at 20.00 and 3,000 at -5.00
+abbrev pub m6 : List (List ℕ)
+m6 =
+    batteryWith
+    (made HR 1 (1 ∷ 20550 ∷ [])
+    ∷ made HR 1 (2 ∷ 10640 ∷ [])
+    ∷ made HR 1 (3 ∷ 30250 ∷ [])
+    ∷ made CH 1 (1 ∷ 2000 ∷ 1000 ∷ [])
+    ∷ made CH 1 (2 ∷ minus 500 ∷ 3000 ∷ [])
+    ∷ [])
+
+-- M7's hours 315.20, 205.50, 106.40
+abbrev pub m7 : List (List ℕ)
+m7 = batteryWith (made HR 1 (1 ∷ 31520 ∷ []) ∷ made HR 1 (2 ∷ 20550 ∷ []) ∷ made HR 1 (3 ∷ 10640 ∷ []) ∷ [])
+
+-- M9: hour 3 as issue 7, and behind it as issue 6
+abbrev pub m9 : List (List ℕ)
+m9 =
+    batteryWith
+    (made HR 1 (1 ∷ 20550 ∷ [])
+    ∷ made HR 1 (2 ∷ 10640 ∷ [])
+    ∷ made HR 7 (3 ∷ 30250 ∷ [])
+    ∷ made HR 6 (3 ∷ 99999 ∷ [])
+    ∷ [])

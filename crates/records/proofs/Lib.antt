@@ -1,0 +1,6 @@
+pub mod Answers
+pub mod Record
+pub mod Dossier
+pub mod Raise
+pub mod RaiseTest
+pub mod Walk

@@ -1,0 +1,6 @@
+pub mod Table
+pub mod Record
+pub mod Answers
+pub mod Dossier
+pub mod Raise
+pub mod Walk

@@ -1,0 +1,230 @@
+-- The table of marks: document 01's list, a row for each mark and a line for each field, in its order.
+-- Lengths, keys, ranges, money and the limits of a raise all follow from it; a later mark is one more row.
+use mathlib.Core.Bool.{Bool, true, false}
+use mathlib.Core.List.{List, [], _∷_}
+use Prim.Native.Nat.{ℕ, zero, suc, _+_, _-_}
+use lib.ListN.{getD, length}
+
+-- the part that a field plays: it belongs to the key, it is a money amount, or neither
+pub data Role : Type 0 where
+  key plain money : Role
+
+-- one field of a record
+pub record Field : Type 0 where
+  pub width : ℕ  -- in bytes
+  pub lowest : ℕ  -- of its range; a price's plus 2^31
+  pub highest : ℕ
+  pub orZero : Bool  -- its range is "0 or lowest to highest"
+  pub isSigned : Bool  -- "prices marked s are 4-byte two's complement"
+  pub role : Role
+  pub usedBy : List ℕ  -- the technologies that use it; of any other it is 0
+  pub positive : Bool  -- where it is used, it is above 0
+
+-- one mark: its two letters, its fields after mark and issue, and the technologies that may have such a record
+pub record Row : Type 0 where
+  pub first : ℕ
+  pub second : ℕ
+  pub fields : List Field
+  pub technologies : List ℕ
+
+-- the technologies
+abbrev pub thermal : ℕ
+thermal = 1
+
+abbrev pub nuclear : ℕ
+nuclear = 2
+
+abbrev pub storage : ℕ
+storage = 3
+
+abbrev pub allTechnologies : List ℕ
+allTechnologies = thermal ∷ nuclear ∷ storage ∷ []
+
+-- ---- kinds of field
+
+-- a field with all that is said of it, in the order of `Field`
+abbrev pub entry : ℕ → ℕ → ℕ → Bool → Bool → Role → List ℕ → Bool → Field
+entry w lo hi zero? signed? part techs above? =
+    record { width = w; lowest = lo; highest = hi; orZero = zero?; isSigned = signed?; role = part; usedBy = techs; positive = above? }
+
+-- of a width, from lowest to highest
+abbrev pub field : ℕ → ℕ → ℕ → Field
+field w lo hi = entry w lo hi false false plain allTechnologies false
+
+-- "to" a highest value: from 0
+abbrev pub upTo : ℕ → ℕ → Field
+upTo w hi = field w 0 hi
+
+-- any value of four bytes
+abbrev pub any4 : Field
+any4 = upTo 4 4294967295
+
+-- "0 or" lowest to highest
+abbrev pub zeroOr : ℕ → ℕ → ℕ → Field
+zeroOr w lo hi = entry w lo hi true false plain allTechnologies false
+
+-- a field of the key
+abbrev pub keyed : ℕ → ℕ → ℕ → Field
+keyed w lo hi = entry w lo hi false false key allTechnologies false
+
+-- a money amount, from 0
+abbrev pub amount : ℕ → ℕ → Field
+amount w hi = entry w 0 hi false false money allTechnologies false
+
+-- a price: "-200,000 to 200,000 cents per MWh"; it is a money amount
+abbrev pub price : Field
+price = entry 4 2147283648 2147683648 false true money allTechnologies false
+
+-- a field that these technologies use; of any other it is 0
+abbrev pub only : List ℕ → Field → Field
+only techs f = entry (f .width) (f .lowest) (f .highest) (f .orZero) (f .isSigned) (f .role) techs false
+
+-- the same, and where it is used it is above 0
+abbrev pub needed : List ℕ → Field → Field
+needed techs f = entry (f .width) (f .lowest) (f .highest) (f .orZero) (f .isSigned) (f .role) techs true
+
+-- stands for a field that is not there
+abbrev pub noField : Field
+noField = field 0 0 0
+
+-- ---- the rows: two letters, the technologies that may have such a record, the fields after mark and issue
+
+abbrev pub row : ℕ → ℕ → List ℕ → List Field → Row
+row a b techs l = record { first = a; second = b; fields = l; technologies = techs }
+
+-- stands for a mark that is not there
+abbrev pub noRow : Row
+noRow = row 0 0 allTechnologies []
+
+-- RS, 31 bytes; no key
+abbrev pub rs : Row
+rs =
+    row 82 83 allTechnologies
+    (field 1 1 3  -- 0 technology
+    ∷ field 2 1 20000  -- 1 capacity, 0.1 MW
+    ∷ needed (thermal ∷ nuclear ∷ []) (zeroOr 2 500 2000)  -- 2 performance factor, thousandths
+    ∷ only (thermal ∷ []) (upTo 4 20000000)  -- 3 start heat, MJ per start
+    ∷ only (thermal ∷ []) (upTo 4 20000000)  -- 4 no-load heat, MJ per hour
+    ∷ needed (nuclear ∷ []) (upTo 4 1000000)  -- 5 incremental fuel, mg of uranium per MWh
+    ∷ needed (storage ∷ []) (upTo 4 1000000)  -- 6 state of charge, 0.1 MWh
+    ∷ needed (storage ∷ []) (zeroOr 2 500 1000)  -- 7 charging efficiency, thousandths
+    ∷ needed (storage ∷ []) (upTo 2 168)  -- 8 window, hours
+    ∷ [])
+
+-- HP, 13
+abbrev pub hp : Row
+hp =
+    row 72 80 (thermal ∷ [])
+    (keyed 1 1 21  -- 0 point
+    ∷ upTo 2 20000  -- 1 output, 0.1 MW
+    ∷ upTo 4 20000000  -- 2 heat, MJ/h
+    ∷ [])
+
+-- FU, 15
+abbrev pub fu : Row
+fu =
+    row 70 85 allTechnologies
+    (keyed 1 1 4  -- 0 profile
+    ∷ amount 4 400000000  -- 1 fuel, micro-dollars
+    ∷ only (thermal ∷ []) (amount 4 400000000)  -- 2 emission, micro-dollars
+    ∷ [])
+
+-- AD, 17
+abbrev pub ad : Row
+ad =
+    row 65 68 allTechnologies
+    (keyed 1 1 4  -- 0 profile
+    ∷ keyed 1 1 5  -- 1 cost
+    ∷ keyed 1 1 4  -- 2 level
+    ∷ amount 8 1000000000000  -- 3 amount, micro-dollars
+    ∷ [])
+
+-- MM, 24
+abbrev pub mm : Row
+mm =
+    row 77 77 allTechnologies
+    (keyed 1 1 4  -- 0 profile
+    ∷ keyed 1 1 8  -- 1 item
+    ∷ amount 8 100000000000  -- 2 cost C, cents
+    ∷ field 2 1 20000  -- 3 output W, 0.1 MW
+    ∷ field 4 1 1000000  -- 4 interval T, hours
+    ∷ only (thermal ∷ []) (upTo 2 10000)  -- 5 hours per start S, 0.1 h
+    ∷ [])
+
+-- RQ, 16
+abbrev pub rq : Row
+rq =
+    row 82 81 allTechnologies
+    (keyed 1 1 16  -- 0 request
+    ∷ any4  -- 1 first hour
+    ∷ any4  -- 2 last hour
+    ∷ upTo 1 4  -- 3 profile, 0 meaning withdrawn
+    ∷ [])
+
+-- HR, 11
+abbrev pub hr : Row
+hr =
+    row 72 82 (storage ∷ [])
+    (keyed 1 1 168  -- 0 hour
+    ∷ price  -- 1 price
+    ∷ [])
+
+-- CH, 16
+abbrev pub ch : Row
+ch =
+    row 67 72 (storage ∷ [])
+    (keyed 2 1 2016  -- 0 interval
+    ∷ price  -- 1 price
+    ∷ upTo 4 1000000  -- 2 energy, kWh
+    ∷ [])
+
+-- TH, 18
+abbrev pub th : Row
+th =
+    row 84 72 allTechnologies
+    (keyed 1 1 3  -- 0 condition
+    ∷ keyed 1 1 4  -- 1 level
+    ∷ upTo 2 10000  -- 2 percent
+    ∷ any4  -- 3 margin, cents, 4,294,967,295 meaning none
+    ∷ any4  -- 4 floor, cents, any
+    ∷ [])
+
+-- all of them
+unfoldable pub table : List Row
+table = rs ∷ hp ∷ fu ∷ ad ∷ mm ∷ rq ∷ hr ∷ ch ∷ th ∷ []
+
+-- a mark is named by its place in the table, from 1; 0 is an unknown mark
+abbrev pub RS : ℕ
+RS = 1
+
+abbrev pub HP : ℕ
+HP = 2
+
+abbrev pub FU : ℕ
+FU = 3
+
+abbrev pub AD : ℕ
+AD = 4
+
+abbrev pub MM : ℕ
+MM = 5
+
+abbrev pub RQ : ℕ
+RQ = 6
+
+abbrev pub HR : ℕ
+HR = 7
+
+abbrev pub CH : ℕ
+CH = 8
+
+abbrev pub TH : ℕ
+TH = 9
+
+-- the row of mark k
+unfoldable pub rowOf : ℕ → Row
+rowOf k = getD (noRow ∷ table) k noRow
+
+-- field i of mark k
+unfoldable pub fieldOf : ℕ → ℕ → Field
+fieldOf k i = getD (rowOf k .fields) i noField

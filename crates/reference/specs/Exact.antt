@@ -1,0 +1,71 @@
+-- A formula is written once, as a `Sum`, and read twice: with each division's fraction dropped (the level), and exactly
+-- (the exact level). So "the exact level takes the same formulas" is true because there is one set of formulas.
+use mathlib.Core.Bool.{Bool, true, false, cond}
+use Prim.Native.Nat.{ℕ, zero, suc, _+_, _*_, _/_, _≤_, _<_, max}
+use lib.Dec.{leb, eqb}
+use Rattle.reference.specs.Sums.{sumTo}
+
+infixl 60 _⊕_
+-- a sum of micro-dollars, as the paper's formulas build it
+pub data Sum : Type 0 where
+  whole : ℕ → Sum  -- an amount as it stands
+  share : ℕ → ℕ → Sum  -- one whole number over another; 0 where the divisor is 0, as of a record that is not there
+  _⊕_ : Sum → Sum → Sum  -- plus
+  total : ℕ → (ℕ → Sum) → Sum  -- of items 1 to n
+  perThousand : Sum → ℕ → Sum  -- "× 1,000 / efficiency"
+  greater : Sum → Sum → Sum  -- "The greater is taken."
+
+-- ---- the level: "Each division drops its fraction, in micro-dollars."
+
+unfoldable pub quotient : ℕ → ℕ → ℕ
+quotient n d = n / d
+
+-- a sum in whole micro-dollars
+unfoldable pub dropped : Sum → ℕ
+dropped (whole n) = n
+dropped (share n d) = quotient n d
+dropped (a ⊕ b) = dropped a + dropped b
+dropped (total n f) = sumTo n (λ k. dropped (f k))
+dropped (perThousand a e) = quotient (dropped a * 1000) e
+dropped (greater a b) = max (dropped a) (dropped b)
+
+-- "Each finished sum rounds to cents, half up."
+unfoldable pub cents : ℕ → ℕ
+cents s = (s + 5000) / 10000
+
+-- ---- the exact level: "It is one whole number over another, and distances to it are compared by multiplying across."
+
+pub record Fraction : Type 0 where
+  pub num : ℕ
+  pub den : ℕ
+
+abbrev pub over : ℕ → ℕ → Fraction
+over n d = record { num = n; den = d }
+
+unfoldable pub plus : Fraction → Fraction → Fraction
+plus a b = over (a .num * b .den + b .num * a .den) (a .den * b .den)
+
+-- f 1 + … + f n
+unfoldable pub sumOver : ℕ → (ℕ → Fraction) → Fraction
+sumOver zero f = over 0 1
+sumOver (suc n) f = plus (sumOver n f) (f (suc n))
+
+unfoldable pub greaterOf : Fraction → Fraction → Fraction
+greaterOf a b = cond (leb (a .num * b .den) (b .num * a .den)) b a
+
+-- a sum "with no division dropped and no cent rounded"
+unfoldable pub exact : Sum → Fraction
+exact (whole n) = over n 1
+exact (share n d) = cond (eqb d 0) (over 0 1) (over n d)
+exact (a ⊕ b) = plus (exact a) (exact b)
+exact (total n f) = sumOver n (λ k. exact (f k))
+exact (perThousand a e) = over (exact a .num * 1000) (exact a .den * e)
+exact (greater a b) = greaterOf (exact a) (exact b)
+
+-- ---- "at most 0.005 dollar above its exact level and less than 0.005011 dollar below it"
+
+-- a level in cents beside an exact one in micro-dollars, multiplied across
+pub record Close (level : ℕ) (e : Fraction) : Type 0 where
+  pub real : 0 < e .den
+  pub above : level * 10000 * e .den ≤ e .num + 5000 * e .den
+  pub below : e .num < (level * 10000 + 5011) * e .den

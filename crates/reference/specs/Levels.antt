@@ -1,0 +1,157 @@
+-- "From records to levels": the profile at an hour, the formulas, the levels at an hour.
+use mathlib.Core.Path.{_≡_}
+use mathlib.Core.Bool.{Bool, true, false, cond, _&&_, not}
+use mathlib.Core.List.{List, [], _∷_}
+use Prim.Native.Nat.{ℕ, zero, suc, _+_, _*_, _-_, _/_, _≤_}
+use lib.Dec.{leb, eqb}
+use Rattle.records.specs.Table.{thermal, nuclear, storage, RQ}
+use Rattle.records.specs.Dossier.{records}
+use Rattle.station.specs.Parameters.{Parameters, Amounts, parameters, amounts, technology, capacity, factor, startHeat, noLoadHeat, incrementalFuel, efficiency, window, output, heat, fuel, emission, adder, costC, outputW, intervalT, hoursPerStartS, firstHour, lastHour, requested, hourPrice, chargePrice, chargeEnergy}
+use Rattle.acceptance.specs.Fit.{energy, start, noLoad, reserve}
+use Rattle.acceptance.specs.Curve.{points, rise, fullHours}
+use Rattle.reference.specs.Sums.{sumTo, listTo, sumHighest}
+use Rattle.reference.specs.Exact.{Sum, whole, share, _⊕_, total, perThousand, greater, Fraction, dropped, exact, cents, Close}
+
+-- ---- the profile at an hour
+
+-- a current request that isn't withdrawn and covers the hour, "ends included"
+unfoldable pub covers : Parameters → ℕ → ℕ → Bool
+covers s h n = s .has RQ n && not (eqb (requested s n) 0) && leb (firstHour s n) h && leb h (lastHour s n)
+
+-- of requests 1 to n that cover it "the highest request number; with none, profile 1"
+unfoldable pub profileOf : Parameters → ℕ → ℕ → ℕ
+profileOf s h zero = 1
+profileOf s h (suc n) = let r = profileOf s h n in cond (covers s h (suc n)) (requested s (suc n)) r
+
+-- of all 16
+unfoldable pub profile : Parameters → ℕ → ℕ
+profile s h = profileOf s h 16
+
+-- ---- the formulas, of a profile p
+
+-- "AD amounts join their level": the five costs of level v
+unfoldable pub adders : Amounts → ℕ → ℕ → Sum
+adders m p v = whole (sumTo 5 (λ c. adder m p c v))
+
+-- "Each MM adds C × 100,000 / (W × T) to energy"
+unfoldable pub maintenance : Parameters → Amounts → ℕ → Sum
+maintenance s m p = total 8 (λ j. share (costC m p j * 100000) (outputW s p j * intervalT s p j))
+
+-- "and C × S × 1,000 / T to start"
+unfoldable pub startMaintenance : Parameters → Amounts → ℕ → Sum
+startMaintenance s m p = total 8 (λ j. share (costC m p j * hoursPerStartS s p j * 1000) (intervalT s p j))
+
+-- "Thermal lamination i, points i to i+1, rises dH and dW: dH × fuel × factor / (100,000 × dW) plus dH × emission / (100 × dW)"
+unfoldable pub thermalEnergy : Parameters → Amounts → ℕ → ℕ → Sum
+thermalEnergy s m p i =
+    share (rise (heat s) i * fuel m p * factor s) (100000 * rise (output s) i)
+    ⊕ share (rise (heat s) i * emission m p) (100 * rise (output s) i)
+    ⊕ adders m p energy
+    ⊕ maintenance s m p
+
+-- "heat × fuel × factor / 1,000,000 plus heat × emission / 1,000"
+unfoldable pub heatCost : Parameters → Amounts → ℕ → ℕ → Sum
+heatCost s m p h = share (h * fuel m p * factor s) 1000000 ⊕ share (h * emission m p) 1000
+
+unfoldable pub startCost : Parameters → Amounts → ℕ → Sum
+startCost s m p = heatCost s m p (startHeat s) ⊕ adders m p start ⊕ startMaintenance s m p
+
+-- "no-load the same with its heat"
+unfoldable pub noLoadCost : Parameters → Amounts → ℕ → Sum
+noLoadCost s m p = heatCost s m p (noLoadHeat s) ⊕ adders m p noLoad
+
+-- "incremental fuel × fuel × factor / 10^9"
+unfoldable pub nuclearEnergy : Parameters → Amounts → ℕ → Sum
+nuclearEnergy s m p = share (incrementalFuel s * fuel m p * factor s) 1000000000 ⊕ adders m p energy ⊕ maintenance s m p
+
+-- over all intervals
+unfoldable pub totalEnergy : Parameters → ℕ
+totalEnergy s = sumTo 2016 (chargeEnergy s)
+
+-- "sum of price × energy over intervals, 0 if below 0": prices are held plus 2^31, which the difference takes off again, and it stops at 0
+unfoldable pub chargingSum : Parameters → Amounts → ℕ
+chargingSum s m = sumTo 2016 (λ n. chargePrice m n * chargeEnergy s n) - 2147483648 * totalEnergy s
+
+-- "× 10,000 / total energy; 0 if total energy is 0"
+unfoldable pub chargingCost : Parameters → Amounts → Sum
+chargingCost s m = share (chargingSum s m * 10000) (totalEnergy s)
+
+-- "(charging cost + fuel) × 1,000 / efficiency, plus AD and MM"
+unfoldable pub shortRunCost : Parameters → Amounts → ℕ → Sum
+shortRunCost s m p = perThousand (chargingCost s m ⊕ whole (fuel m p)) (efficiency s) ⊕ adders m p energy ⊕ maintenance s m p
+
+-- "the X highest of hours 1 to the window, repeated prices counted each", "their sum, 0 if below 0"
+unfoldable pub highestSum : Parameters → Amounts → ℕ
+highestSum s m = sumHighest (fullHours s) (listTo (window s) (hourPrice m)) - 2147483648 * fullHours s
+
+-- "× 10,000 / X"
+unfoldable pub opportunityCost : Parameters → Amounts → Sum
+opportunityCost s m = share (highestSum s m * 10000) (fullHours s)
+
+-- "The greater is taken."
+unfoldable pub storageEnergy : Parameters → Amounts → ℕ → Sum
+storageEnergy s m p = greater (shortRunCost s m p) (opportunityCost s m)
+
+-- ---- the levels
+
+-- one level at an hour: its number, its lamination, from where to where in 0.1 MW (all 0 where it has none), its formula
+pub record Line : Type 0 where
+  pub level : ℕ
+  pub lamination : ℕ
+  pub from : ℕ
+  pub to : ℕ
+  pub sum : Sum
+
+abbrev pub line : ℕ → ℕ → ℕ → ℕ → Sum → Line
+line v i a b x = record { level = v; lamination = i; from = a; to = b; sum = x }
+
+-- the level itself, in cents
+abbrev pub amount : Line → ℕ
+amount x = cents (dropped (x .sum))
+
+-- n laminations from lamination i on, then the other levels; "The first lamination reaches down to 0 MW"
+unfoldable pub laminations : Parameters → Amounts → ℕ → ℕ → ℕ → List Line → List Line
+laminations s m p i zero others = others
+laminations s m p i (suc n) others =
+    line energy i (cond (eqb i 1) 0 (output s i)) (output s (i + 1)) (thermalEnergy s m p i) ∷ laminations s m p (i + 1) n others
+
+-- "where a technology has one lamination, it runs from 0 to the capacity"
+unfoldable pub oneLamination : Parameters → Sum → Line
+oneLamination s x = line energy 1 0 (capacity s) x
+
+-- a level without laminations
+unfoldable pub single : ℕ → Sum → Line
+single v x = line v 0 0 0 x
+
+-- the levels of a profile, by technology
+unfoldable pub linesOf : Parameters → Amounts → ℕ → List Line
+linesOf s m p =
+    cond (eqb (technology s) thermal)
+    (laminations s m p 1 (points s - 1) (single start (startCost s m p) ∷ single noLoad (noLoadCost s m p) ∷ single reserve (adders m p reserve) ∷ []))
+    (cond (eqb (technology s) nuclear)
+    (oneLamination s (nuclearEnergy s m p) ∷ [])
+    (cond (eqb (technology s) storage)
+    (oneLamination s (storageEnergy s m p) ∷ single reserve (adders m p reserve) ∷ [])
+    []))
+
+-- at an hour: "FU, AD and MM are current ones of the hour's profile"
+unfoldable pub lines : Parameters → Amounts → ℕ → List Line
+lines s m h = linesOf s m (profile s h)
+
+-- the levels of a dossier at an hour
+unfoldable pub levels : List ℕ → ℕ → List Line
+levels d h = lines (parameters (records d)) (amounts (records d)) h
+
+-- ---- levels side by side
+
+-- "kind for kind and lamination for lamination", and no lower
+pub record NoLower (a b : Line) : Type 0 where
+  pub level : a .level ≡ b .level
+  pub lamination : a .lamination ≡ b .lamination
+  pub from : a .from ≡ b .from
+  pub to : a .to ≡ b .to
+  pub amount : amount a ≤ amount b
+
+-- a level beside its exact level
+abbrev pub CloseLine : Line → Type 0
+CloseLine x = Close (amount x) (exact (x .sum))

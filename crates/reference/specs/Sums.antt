@@ -1,0 +1,33 @@
+-- Sums over keys, and the highest of a list, "repeated prices counted each".
+use mathlib.Core.List.{List, [], _∷_}
+use Prim.Native.Nat.{ℕ, zero, suc, _+_, max, min}
+
+-- f 1 + … + f n
+unfoldable pub sumTo : ℕ → (ℕ → ℕ) → ℕ
+sumTo zero f = 0
+sumTo (suc n) f = sumTo n f + f (suc n)
+
+-- f n, …, f 1
+unfoldable pub listTo : ℕ → (ℕ → ℕ) → List ℕ
+listTo zero f = []
+listTo (suc n) f = f (suc n) ∷ listTo n f
+
+-- a number put into a list that falls: at each place the greater stays and the lesser moves on
+unfoldable pub insert : ℕ → List ℕ → List ℕ
+insert x [] = x ∷ []
+insert x (y ∷ l) = max x y ∷ insert (min x y) l
+
+-- a list from its highest to its lowest; the laws `falling-falls` and `falling-count` say that it is
+unfoldable pub falling : List ℕ → List ℕ
+falling [] = []
+falling (x ∷ l) = insert x (falling l)
+
+-- the sum of the first n
+unfoldable pub sumFirst : ℕ → List ℕ → ℕ
+sumFirst zero l = 0
+sumFirst (suc n) [] = 0
+sumFirst (suc n) (x ∷ l) = x + sumFirst n l
+
+-- the sum of the n highest
+unfoldable pub sumHighest : ℕ → List ℕ → ℕ
+sumHighest n l = sumFirst n (falling l)

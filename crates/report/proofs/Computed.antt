@@ -1,0 +1,28 @@
+-- Every definition of the layers, to compute with: `unfolding computed` under a signature opens all that this one's line names.
+use Prim.Native.Nat.{ℕ}
+use Rattle.lists.specs.Lists.{joined}
+use Rattle.lists.specs.Tests.{allBelow, allTo, countTo, every, everyOf, among, between}
+use Rattle.fields.specs.Numbers.{number, signed, biased, biasedOf}
+use Rattle.records.specs.Answers.{orElse, refuseIf, drawn, isAccepted, numberOf, placeOf}
+use Rattle.records.specs.Dossier.{firstOf, restOf, recordsIn, records, moneyAtIn, moneyAt, firstDrawn, scan}
+use Rattle.records.specs.Raise.{limitOf}
+use Rattle.records.specs.Record.{markIn, mark, issue, widths, size, offsetIn, offset, keyIn, keyWidth, keyOf, moneyIn, moneyByte, read, value, inRange, agrees, rangesHold, fault}
+use Rattle.records.specs.Table.{table, rowOf, fieldOf}
+use Rattle.station.specs.Current.{matches, better, currentFrom, current, present, twin, anyTwin, twins, readable, lookup, lookupBytes}
+use Rattle.station.specs.Parameters.{parameters, amounts}
+use Rattle.acceptance.specs.Answer.{unsupported, answer}
+use Rattle.acceptance.specs.Curve.{points, rise, curveHolds, curveFits, fuelHolds, fullHours, hoursHold, windowFits}
+use Rattle.acceptance.specs.Fit.{levelsOf, holds, fieldFits, ruleFits, fits, isCurrent, unfit}
+use Rattle.reference.specs.Exact.{quotient, dropped, cents, plus, sumOver, greaterOf, exact}
+use Rattle.reference.specs.Levels.{covers, profileOf, profile, adders, maintenance, startMaintenance, thermalEnergy, heatCost, startCost, noLoadCost, nuclearEnergy, totalEnergy, chargingSum, chargingCost, shortRunCost, highestSum, opportunityCost, storageEnergy, laminations, oneLamination, single, linesOf, lines, levels}
+use Rattle.reference.specs.Sums.{sumTo, listTo, insert, falling, sumFirst, sumHighest}
+use Rattle.conduct.specs.Refusals.{levelRefusal, conditionRefusal, priceBefore, pairHolds, malformed, aboveCapacity, lengthRefusal, offerRefusal, priceRefusal}
+use Rattle.conduct.specs.Test.{limit, fails, failsUnder, failing, quantity, priceAt, before, overlap, offerFrom, priceTest}
+use Rattle.conduct.specs.Verdict.{settle, numbers, offerVerdict, priceVerdict, onOffer, onPrice}
+use Rattle.report.specs.Report.{profileLine, energyLine, amountLine, levelLine, levelLines, report, reportAnswer, bufferAfter, refusalLine, printed, prints}
+use Rattle.report.specs.Text.{decimalIn, decimal, tenths, hundredths}
+
+-- how many definitions there are to open
+unfoldable pub computed : ℕ
+unfolding joined allBelow allTo countTo every everyOf among between number signed biased biasedOf orElse refuseIf drawn isAccepted numberOf placeOf firstOf restOf recordsIn records moneyAtIn moneyAt firstDrawn scan limitOf markIn mark issue widths size offsetIn offset keyIn keyWidth keyOf moneyIn moneyByte read value inRange agrees rangesHold fault table rowOf fieldOf matches better currentFrom current present twin anyTwin twins readable lookup lookupBytes parameters amounts unsupported answer points rise curveHolds curveFits fuelHolds fullHours hoursHold windowFits levelsOf holds fieldFits ruleFits fits isCurrent unfit quotient dropped cents plus sumOver greaterOf exact covers profileOf profile adders maintenance startMaintenance thermalEnergy heatCost startCost noLoadCost nuclearEnergy totalEnergy chargingSum chargingCost shortRunCost highestSum opportunityCost storageEnergy laminations oneLamination single linesOf lines levels sumTo listTo insert falling sumFirst sumHighest levelRefusal conditionRefusal priceBefore pairHolds malformed aboveCapacity lengthRefusal offerRefusal priceRefusal limit fails failsUnder failing quantity priceAt before overlap offerFrom priceTest settle numbers offerVerdict priceVerdict onOffer onPrice profileLine energyLine amountLine levelLine levelLines report reportAnswer bufferAfter refusalLine printed prints decimalIn decimal tenths hundredths
+computed = 155

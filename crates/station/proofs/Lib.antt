@@ -1,0 +1,4 @@
+pub mod Current
+pub mod Twins
+pub mod Parameters
+pub mod Fields

@@ -1,0 +1,67 @@
+-- The current record of a mark and key; 4; the lookup.
+use mathlib.Core.Bool.{Bool, true, false, cond, _&&_, _||_}
+use mathlib.Core.List.{List, [], _∷_}
+use Prim.Native.Nat.{ℕ, zero, suc, _+_}
+use lib.Dec.{leb, ltb, eqb}
+use lib.ListN.{length}
+use Rattle.fields.specs.Numbers.{number}
+use Rattle.records.specs.declared.Answer.{Answer}
+use Rattle.records.specs.declared.Answer.the-variants.{Accepted, Refused}
+use Rattle.records.specs.Answers.{orElse, refuseIf, isAccepted}
+use Rattle.records.specs.Record.{mark, keyWidth, issue, keyOf}
+use Rattle.records.specs.Dossier.{records, scan}
+
+-- ---- "Of one mark and key, the highest issue is current."
+
+-- whether a record has the mark and the key
+unfoldable pub matches : ℕ → ℕ → List ℕ → Bool
+matches k n r = eqb (mark r) k && eqb (keyOf r) n
+
+-- of the best record so far and the next one: the next, if it matches and its issue is not lower
+unfoldable pub better : ℕ → ℕ → List ℕ → List ℕ → List ℕ
+better k n b r = cond (matches k n r && leb (issue b) (issue r)) r b
+
+-- the best of some records after the best one before them
+unfoldable pub currentFrom : ℕ → ℕ → List ℕ → List (List ℕ) → List ℕ
+currentFrom k n b [] = b
+currentFrom k n b (r ∷ l) = currentFrom k n (better k n b r) l
+
+-- the current record of a mark and key among some records, empty where there is none
+unfoldable pub current : ℕ → ℕ → List (List ℕ) → List ℕ
+current k n l = currentFrom k n [] l
+
+-- whether there is one
+unfoldable pub present : List ℕ → Bool
+present r = ltb 0 (length r)
+
+-- ---- "4 mark, key and issue seen before"; its place is "the first record that has an earlier twin"
+
+unfoldable pub twin : List ℕ → List ℕ → Bool
+twin r s = eqb (mark r) (mark s) && eqb (keyOf r) (keyOf s) && eqb (issue r) (issue s)
+
+-- whether a record has a twin among some others
+unfoldable pub anyTwin : List ℕ → List (List ℕ) → Bool
+anyTwin r [] = false
+anyTwin r (s ∷ l) = twin r s || anyTwin r l
+
+-- of the records from place p on, after those that were seen before it
+unfoldable pub twins : ℕ → List (List ℕ) → List (List ℕ) → Answer
+twins p seen [] = Accepted
+twins p seen (r ∷ l) = orElse (refuseIf (anyTwin r seen) 4 p) (twins (p + length r) (r ∷ seen) l)
+
+-- ---- the lookup
+
+-- "13; records in turn with 1, 2, 3; then 4"
+unfoldable pub readable : List ℕ → Answer
+readable d =
+    orElse (refuseIf (ltb 60000 (length d)) 13 0)
+    (orElse (scan 0 (records d))
+    (twins 0 [] (records d)))
+
+-- "the part of the dossier that holds it is handed back, an empty part if the key is absent or the dossier draws 1 to 4 or 13"
+unfoldable pub lookup : List ℕ → ℕ → ℕ → List ℕ
+lookup d k n = cond (isAccepted (readable d)) (current k n (records d)) []
+
+-- the same by the bytes of a mark and a key; a key of another width than the mark's is absent
+unfoldable pub lookupBytes : List ℕ → List ℕ → List ℕ → List ℕ
+lookupBytes d m key = cond (eqb (length m) 2 && eqb (length key) (keyWidth (mark m))) (lookup d (mark m) (number 0 (length key) key)) []
