@@ -1,7 +1,7 @@
 -- Numbers in bytes: "Fields are big-endian and unsigned; prices marked s are 4-byte two's complement."
 use mathlib.Core.Bool.{cond}
 use mathlib.Core.List.{List, [], _∷_}
-use Prim.Native.Nat.{ℕ, zero, suc, _+_, _*_, _-_, _%_}
+use Prim.Native.Nat.{ℕ, zero, suc, _+_, _*_, _-_, _/_, _%_}
 use lib.Dec.{ltb}
 use lib.IntN.{ℤ, pos, negsuc}
 use lib.ListN.{getD}
@@ -10,6 +10,15 @@ use lib.ListN.{getD}
 unfoldable pub number : ℕ → ℕ → List ℕ → ℕ
 number o zero r = 0
 number o (suc w) r = number o w r * 256 + getD r (o + w) 0
+
+-- the other way: a number's w bytes, before those of a list
+unfoldable pub bytesOnto : ℕ → ℕ → List ℕ → List ℕ
+bytesOnto zero n l = l
+bytesOnto (suc w) n l = bytesOnto w (n / 256) ((n % 256) ∷ l)
+
+-- a number in w bytes
+unfoldable pub bytesOf : ℕ → ℕ → List ℕ
+bytesOf w n = bytesOnto w n []
 
 -- two's complement: the signed number that four bytes mean, given the number that they are without a sign
 unfoldable pub signed : ℕ → ℤ

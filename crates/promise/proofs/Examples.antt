@@ -10,16 +10,16 @@ use Rattle.acceptance.specs.Answer.{IsAccepted}
 use Rattle.report.proofs.Computed.{computed}
 use Rattle.promise.specs.Demand.{Raise, RaiseKeeps}
 use Rattle.promise.specs.Order.{SameMeaning}
-use Rattle.promise.specs.Stations.{bytesOf, valuesIn, made, r1, r1Raised}
+use Rattle.promise.specs.Stations.{valuesIn, made, r1, r1Raised}
 use Rattle.promise.proofs.Demand.{demand3}
 use Rattle.promise.proofs.Order.{arrival-order}
 
 r1-accepted : IsAccepted (joined r1)
-unfolding bytesOf valuesIn made computed
+unfolding valuesIn made computed
 r1-accepted = record { clean = refl }
 
 r1-raise : Raise (joined r1) (joined r1Raised)
-unfolding bytesOf valuesIn made riseTest recordTest recordsTest raiseTest computed
+unfolding valuesIn made riseTest recordTest recordsTest raiseTest computed
 r1-raise = raise-by thermal (joined r1) (joined r1Raised) refl
 
 pub r1-keeps : RaiseKeeps (joined r1) (joined r1Raised)
@@ -42,5 +42,5 @@ turned-permuted (r ∷ l) = behind r l
 
 -- its RS behind all other records
 pub r1-turned : SameMeaning (joined r1) (joined (turned r1))
-unfolding bytesOf valuesIn made computed
+unfolding valuesIn made computed
 r1-turned = arrival-order (joined r1) (joined (turned r1)) r1-accepted (record { order = turned r1; same = turned-permuted r1; made = refl })

@@ -3,9 +3,9 @@ use mathlib.Core.Path.{_≡_, refl}
 use mathlib.Core.List.{List, [], _∷_}
 use Rattle.lists.specs.Lists.{Each, done, also}
 use Rattle.report.proofs.Computed.{computed}
-use Rattle.promise.specs.Stations.{bytesOf, valuesIn, made, pair}
+use Rattle.promise.specs.Stations.{valuesIn, made, pair}
 use Rattle.promise.specs.Marked.{MarkedHold, marked}
 
 pub marked-hold : MarkedHold
-unfolding marked bytesOf valuesIn made pair computed
+unfolding marked valuesIn made pair computed
 marked-hold = also refl (also refl (also refl (also refl (also refl (also refl (also refl (also refl (also refl (also refl (also refl (also refl (also refl (also refl done)))))))))))))

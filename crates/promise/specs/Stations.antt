@@ -1,14 +1,10 @@
 -- The stations and offers of the marked cases, in the paper's numbers and, through the table, as bytes.
 use mathlib.Core.List.{List, [], _∷_, _++_}
-use Prim.Native.Nat.{ℕ, zero, suc, _-_, _/_, _%_}
+use Prim.Native.Nat.{ℕ, _-_}
+use Rattle.fields.specs.Numbers.{bytesOf}
 use Rattle.records.specs.Table.{Field, rowOf, RS, HP, FU, AD, MM, HR, CH, TH}
 
 -- ---- bytes from numbers
-
--- a number in w bytes, big-endian
-unfoldable pub bytesOf : ℕ → ℕ → List ℕ
-bytesOf zero n = []
-bytesOf (suc w) n = bytesOf w (n / 256) ++ ((n % 256) ∷ [])
 
 -- a negative number in four bytes
 abbrev pub minus : ℕ → ℕ

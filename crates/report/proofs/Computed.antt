@@ -2,7 +2,8 @@
 use Prim.Native.Nat.{ℕ}
 use Rattle.lists.specs.Lists.{joined}
 use Rattle.lists.specs.Tests.{allBelow, allTo, countTo, every, everyOf, among, between}
-use Rattle.fields.specs.Numbers.{number, signed, biased, biasedOf}
+use Rattle.fields.specs.Numbers.{number, bytesOnto, bytesOf, signed, biased, biasedOf}
+use Rattle.text.specs.Text.{decimalIn, decimal, tenths, hundredths, refusalLine}
 use Rattle.records.specs.Answers.{orElse, refuseIf, drawn, isAccepted, numberOf, placeOf}
 use Rattle.records.specs.Dossier.{firstOf, restOf, recordsIn, records, moneyAtIn, moneyAt, firstDrawn, scan}
 use Rattle.records.specs.Raise.{limitOf}
@@ -19,10 +20,9 @@ use Rattle.reference.specs.Sums.{sumTo, listTo, insert, falling, sumFirst, sumH
 use Rattle.conduct.specs.Refusals.{levelRefusal, conditionRefusal, priceBefore, pairHolds, malformed, aboveCapacity, lengthRefusal, offerRefusal, priceRefusal}
 use Rattle.conduct.specs.Test.{limit, fails, failsUnder, failing, quantity, priceAt, before, overlap, offerFrom, priceTest}
 use Rattle.conduct.specs.Verdict.{settle, numbers, offerVerdict, priceVerdict, onOffer, onPrice}
-use Rattle.report.specs.Report.{profileLine, energyLine, amountLine, levelLine, levelLines, report, reportAnswer, bufferAfter, refusalLine, printed, prints}
-use Rattle.report.specs.Text.{decimalIn, decimal, tenths, hundredths}
+use Rattle.report.specs.Report.{profileLine, energyLine, amountLine, levelLine, levelLines, report, reportAnswer, bufferAfter, printed, prints}
 
 -- how many definitions there are to open
 unfoldable pub computed : ℕ
-unfolding joined allBelow allTo countTo every everyOf among between number signed biased biasedOf orElse refuseIf drawn isAccepted numberOf placeOf firstOf restOf recordsIn records moneyAtIn moneyAt firstDrawn scan limitOf markIn mark issue widths size offsetIn offset keyIn keyWidth keyOf moneyIn moneyByte read value inRange agrees rangesHold fault table rowOf fieldOf matches better currentFrom current present twin anyTwin twins readable lookup lookupBytes parameters amounts unsupported answer points rise curveHolds curveFits fuelHolds fullHours hoursHold windowFits levelsOf holds fieldFits ruleFits fits isCurrent unfit quotient dropped cents plus sumOver greaterOf exact covers profileOf profile adders maintenance startMaintenance thermalEnergy heatCost startCost noLoadCost nuclearEnergy totalEnergy chargingSum chargingCost shortRunCost highestSum opportunityCost storageEnergy laminations oneLamination single linesOf lines levels sumTo listTo insert falling sumFirst sumHighest levelRefusal conditionRefusal priceBefore pairHolds malformed aboveCapacity lengthRefusal offerRefusal priceRefusal limit fails failsUnder failing quantity priceAt before overlap offerFrom priceTest settle numbers offerVerdict priceVerdict onOffer onPrice profileLine energyLine amountLine levelLine levelLines report reportAnswer bufferAfter refusalLine printed prints decimalIn decimal tenths hundredths
-computed = 155
+unfolding joined allBelow allTo countTo every everyOf among between number bytesOnto bytesOf signed biased biasedOf decimalIn decimal tenths hundredths refusalLine orElse refuseIf drawn isAccepted numberOf placeOf firstOf restOf recordsIn records moneyAtIn moneyAt firstDrawn scan limitOf markIn mark issue widths size offsetIn offset keyIn keyWidth keyOf moneyIn moneyByte read value inRange agrees rangesHold fault table rowOf fieldOf matches better currentFrom current present twin anyTwin twins readable lookup lookupBytes parameters amounts unsupported answer points rise curveHolds curveFits fuelHolds fullHours hoursHold windowFits levelsOf holds fieldFits ruleFits fits isCurrent unfit quotient dropped cents plus sumOver greaterOf exact covers profileOf profile adders maintenance startMaintenance thermalEnergy heatCost startCost noLoadCost nuclearEnergy totalEnergy chargingSum chargingCost shortRunCost highestSum opportunityCost storageEnergy laminations oneLamination single linesOf lines levels sumTo listTo insert falling sumFirst sumHighest levelRefusal conditionRefusal priceBefore pairHolds malformed aboveCapacity lengthRefusal offerRefusal priceRefusal limit fails failsUnder failing quantity priceAt before overlap offerFrom priceTest settle numbers offerVerdict priceVerdict onOffer onPrice profileLine energyLine amountLine levelLine levelLines report reportAnswer bufferAfter printed prints
+computed = 157

@@ -13,7 +13,7 @@ use Rattle.station.specs.Parameters.{parameters}
 use Rattle.acceptance.specs.Fit.{energy, start, noLoad}
 use Rattle.acceptance.specs.Answer.{answer}
 use Rattle.reference.specs.Levels.{Line, amount, profile, levels}
-use Rattle.report.specs.Text.{decimal, tenths, hundredths, profileWord, energyWord, startWord, noLoadWord, reserveWord, refusedWord, atWord, space, newline}
+use Rattle.text.specs.Text.{decimal, tenths, hundredths, refusalLine, profileWord, energyWord, startWord, noLoadWord, reserveWord, space, newline, over}
 
 -- ---- the lines, "each line ended by byte 10"
 
@@ -52,15 +52,11 @@ reportAnswer d h n = orElse (answer d) (refuseIf (ltb n (length (report d h))) 1
 
 -- "the first line starts at byte 0, and bytes past its length stay"; a refused call keeps every byte
 unfoldable pub bufferAfter : List ℕ → ℕ → List ℕ → List ℕ
-bufferAfter d h buf = cond (isAccepted (reportAnswer d h (length buf))) (report d h ++ drop (length (report d h)) buf) buf
+bufferAfter d h buf = cond (isAccepted (reportAnswer d h (length buf))) (over (report d h) buf) buf
 
 -- ---- the program
 
--- "A refusal prints `refused N at P`."
-unfoldable pub refusalLine : ℕ → ℕ → List ℕ
-refusalLine n p = refusedWord ++ decimal n ++ atWord ++ decimal p ++ newline
-
--- a refusal's line, or else the text
+-- "A refusal prints `refused N at P`"; or else the text
 unfoldable pub printed : Answer → List ℕ → List ℕ
 printed Accepted text = text
 printed (Refused n p) text = refusalLine n p

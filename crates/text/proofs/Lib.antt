@@ -1,0 +1,4 @@
+pub mod Decimal
+pub mod Lengths
+pub mod Over
+mod Store
