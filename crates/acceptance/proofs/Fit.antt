@@ -1,8 +1,8 @@
 -- A record that fits the technology fits still when it is raised.
-use mathlib.Core.Path.{_≡_, refl, ap, sym, subst, _∙_}
-use mathlib.Core.Bool.{Bool, true, false, cond, _&&_, _||_, not, false≢true, true≢false}
-use mathlib.Core.List.{List, [], _∷_}
-use Prim.Native.Nat.{ℕ, zero, suc, _+_, _≤_, _<_}
+use mathlib.Core.Path.{_≡_, refl, subst}
+use mathlib.Core.Bool.{Bool, true, false, cond, _&&_, _||_, not}
+use mathlib.Core.List.{List}
+use Prim.Native.Nat.{ℕ, _≤_}
 use native.Mathlib.Omega.{arith}
 use lib.Dec.{ltb, eqb}
 use lib.ListN.{length}
@@ -13,7 +13,7 @@ use Rattle.records.specs.Table.{Field, table, rowOf, fieldOf, AD, TH}
 use Rattle.records.specs.Record.{mark, isMoney, value}
 use Rattle.records.specs.Raise.{Rise, stays, rises, limitOf, Raised}
 use Rattle.records.proofs.Raise.{raised-same}
-use Rattle.acceptance.specs.Fit.{levelsOf, holds, fieldFits, ruleFits, fits}
+use Rattle.acceptance.specs.Fit.{holds, fieldFits, ruleFits, fits}
 
 rise-fits : (t : ℕ) (f : Field) {a b : ℕ} → Rise (limitOf t f) a b → fieldFits t f a ≡ true → fieldFits t f b ≡ true
 unfolding fieldFits limitOf

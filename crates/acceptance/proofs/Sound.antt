@@ -1,30 +1,28 @@
 -- What an accepted dossier is, declared; it is the same in another order, and stays so in a raise.
-use mathlib.Core.Path.{_≡_, refl, ap, sym, subst, _∙_}
-use mathlib.Core.Bool.{Bool, true, false, cond, _&&_, _||_, not, false≢true, true≢false}
-use mathlib.Core.List.{List, [], _∷_}
-use Prim.Native.Nat.{ℕ, zero, suc, _+_, _≤_, _<_}
-use native.Mathlib.Omega.{arith}
-use lib.Dec.{ltb, eqb, lit≤}
+use mathlib.Core.Path.{_≡_, refl, ap, sym, _∙_}
+use mathlib.Core.Bool.{Bool, true, false, _&&_, not, false≢true, true≢false}
+use mathlib.Core.List.{List, []}
+use Prim.Native.Nat.{ℕ, _≤_, _<_}
+use lib.Dec.{ltb, lit≤}
 use lib.ListN.{length}
-use borrow.Author.Tests.{eqb-true, eq-eqb, ltb-true, ltb-false, le-ltb, not-false}
-use Rattle.lists.specs.Lists.{Each, done, also, Pairwise, none, more, Permutation, Member}
+use borrow.Author.Tests.{eq-eqb, ltb-true, ltb-false, le-ltb, not-false}
+use Rattle.lists.specs.Lists.{Each, done, also, Pairwise, none, more, Permutation}
 use Rattle.lists.specs.Tests.{allBelow, among}
 use Rattle.lists.proofs.Lists.{each-map, each-permuted, member-each}
 use Rattle.lists.proofs.Tests.{and-left, and-right, below-at}
-use Rattle.records.specs.declared.Answer.{Answer}
-use Rattle.records.specs.declared.Answer.the-variants.{Accepted, Refused}
-use Rattle.records.specs.Table.{Field, table, rowOf, fieldOf, RS}
-use Rattle.records.specs.Record.{mark, issue, keyOf, isMoney, value, inRange, fault}
+use Rattle.records.specs.declared.Answer.the-variants.{Accepted}
+use Rattle.records.specs.Table.{table, rowOf, fieldOf, RS}
+use Rattle.records.specs.Record.{mark, issue, keyOf, value, inRange, fault}
 use Rattle.records.specs.Answers.{orElse, refuseIf}
 use Rattle.records.specs.Dossier.{records, scan}
 use Rattle.records.specs.Raise.{Raised}
 use Rattle.records.proofs.Record.{faultless, field-range, range-low}
-use Rattle.records.proofs.Answers.{orElse-parts, parts-orElse, drawn-none, none-drawn, not-refuseIf, refuseIf-not}
+use Rattle.records.proofs.Answers.{orElse-parts, parts-orElse, not-refuseIf, refuseIf-not}
 use Rattle.records.proofs.Dossier.{scan-each, each-scan, first-each, each-first}
 use Rattle.records.proofs.Raise.{raised-mark, raised-issue, raised-key, fault-stays}
 use Rattle.station.specs.Current.{current, present, twins, readable}
-use Rattle.station.specs.Parameters.{Parameters, parameters, amounts, technology, efficiency}
-use Rattle.station.specs.Declared.{IsCurrent, CurrentOf, absent, standing, Distinct}
+use Rattle.station.specs.Parameters.{Parameters, parameters, technology, efficiency}
+use Rattle.station.specs.Declared.{IsCurrent, CurrentOf, absent, standing}
 use Rattle.station.proofs.Current.{current-found, current-raised}
 use Rattle.station.proofs.Twins.{twins-distinct, distinct-twins, distinct-permuted, current-permuted, twins-same}
 use Rattle.station.proofs.Parameters.{parameters-permuted, same-parameters}

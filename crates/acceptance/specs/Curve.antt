@@ -1,5 +1,5 @@
 -- 7, 8 and 9: what the parameters of an accepted dossier are like.
-use mathlib.Core.Bool.{Bool, true, false, cond, _&&_, _||_, not}
+use mathlib.Core.Bool.{Bool, _&&_, _||_, not}
 use Prim.Native.Nat.{ℕ, _+_, _*_, _-_, _/_}
 use lib.Dec.{leb, ltb, eqb}
 use Rattle.lists.specs.Tests.{allTo, countTo}

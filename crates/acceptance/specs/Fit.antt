@@ -1,12 +1,11 @@
 -- "6 current record unfit for the technology".
-use mathlib.Core.Bool.{Bool, true, false, cond, _&&_, _||_, not}
+use mathlib.Core.Bool.{Bool, true, cond, _&&_, _||_, not}
 use mathlib.Core.List.{List, [], _∷_}
-use Prim.Native.Nat.{ℕ, _+_}
+use Prim.Native.Nat.{ℕ}
 use lib.Dec.{ltb, eqb}
 use lib.ListN.{length}
 use Rattle.lists.specs.Tests.{allBelow, among}
 use Rattle.records.specs.declared.Answer.{Answer}
-use Rattle.records.specs.declared.Answer.the-variants.{Accepted, Refused}
 use Rattle.records.specs.Table.{Field, rowOf, fieldOf, thermal, nuclear, storage, AD, TH}
 use Rattle.records.specs.Record.{mark, issue, keyOf, value}
 use Rattle.records.specs.Answers.{refuseIf}

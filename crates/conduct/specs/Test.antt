@@ -1,5 +1,5 @@
 -- "The test": the limit, a price against it, an offer against the laminations that it overlaps.
-use mathlib.Core.Bool.{Bool, true, false, cond, _&&_}
+use mathlib.Core.Bool.{Bool, true, cond, _&&_}
 use mathlib.Core.List.{List, [], _∷_}
 use Prim.Native.Nat.{ℕ, zero, suc, _+_, _*_, _/_, max, min}
 use lib.Dec.{leb, ltb, eqb}
@@ -8,7 +8,7 @@ use Rattle.station.specs.Parameters.{Parameters, percent, margin, floor}
 use Rattle.acceptance.specs.Fit.{energy}
 use Rattle.reference.specs.Levels.{Line, amount}
 use Rattle.conduct.specs.declared.Verdict.{Verdict}
-use Rattle.conduct.specs.declared.Verdict.the-variants.{Passes, Fails, Refused}
+use Rattle.conduct.specs.declared.Verdict.the-variants.{Passes, Fails}
 
 -- "margin (4), cents, 4,294,967,295 meaning none"
 abbrev pub noMargin : ℕ

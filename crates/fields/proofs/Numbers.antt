@@ -1,16 +1,16 @@
 -- Laws of numbers in bytes.
-use mathlib.Core.Path.{_≡_, refl, ap, sym, subst, _∙_}
+use mathlib.Core.Path.{_≡_, refl, ap, sym, _∙_}
 use mathlib.Core.Bool.{Bool, true, false, cond}
 use mathlib.Core.List.{List, [], _∷_}
-use Prim.Native.Nat.{ℕ, zero, suc, _+_, _*_, _-_, _^_, _%_, _≤_, _<_}
-use native.Mathlib.Nat.{pow-suc, add-zero, add-suc, add-assoc}
+use Prim.Native.Nat.{ℕ, zero, suc, _+_, _*_, _-_, _/_, _^_, _%_, _≤_, _<_}
+use native.Mathlib.Nat.{pow-suc, add-zero, zero-add, add-suc, suc-add, add-assoc}
 use native.Mathlib.Omega.{arith}
 use lib.Dec.{ltb}
-use lib.IntN.{ℤ, pos, negsuc, _+ℤ_, subℕ}
-use lib.ListN.{length, getD}
-use borrow.Author.Tests.{ltb-true, ltb-false, lt-ltb, le-ltb}
+use lib.IntN.{pos, negsuc, _+ℤ_}
+use lib.ListN.{getD}
+use borrow.Author.Tests.{ltb-true, ltb-false, le-ltb}
 use Rattle.lists.specs.Lists.{Each, done, also}
-use Rattle.fields.specs.Numbers.{number, bias, biased, biasedOf, signed}
+use Rattle.fields.specs.Numbers.{number, bytesOnto, bytesOf, bias, biased, biasedOf, signed}
 
 -- alike in its bytes, a number is the same
 pub number-same : (o w : ℕ) (r s : List ℕ) → ((i : ℕ) → o ≤ i → i < o + w → getD r i 0 ≡ getD s i 0) → number o w r ≡ number o w s
@@ -37,6 +37,28 @@ pub number-lt : (o w : ℕ) {r : List ℕ} → Each Byte r → number o w r < 25
 unfolding number
 number-lt o zero h = omega arith
 number-lt o (suc w) {r} h = rw (pow-suc) (omega (arith, number-lt o w h, byte-at h (o + w)))
+
+-- ---- a number in bytes, and read again
+
+onto-behind : (w n i : ℕ) (l : List ℕ) → getD (bytesOnto w n l) (w + i) 0 ≡ getD l i 0
+unfolding bytesOnto
+onto-behind zero n i l = rw (zero-add i) refl
+onto-behind (suc w) n i l = rw (suc-add w i, ← add-suc w i) (onto-behind w (n / 256) (suc i) ((n % 256) ∷ l))
+
+number-onto : (w n : ℕ) (l : List ℕ) → n < 256 ^ w → number 0 w (bytesOnto w n l) ≡ n
+unfolding number bytesOnto
+number-onto zero n l h = omega arith
+number-onto (suc w) n l h =
+    let z : n < 256 ^ w * 256 = rw (pow-suc) at h in
+    let b : getD (bytesOnto w (n / 256) ((n % 256) ∷ l)) w 0 ≡ n % 256 = rw (add-zero w) at (onto-behind w (n / 256) 0 ((n % 256) ∷ l)) in
+    rw (number-onto w (n / 256) ((n % 256) ∷ l) (omega arith), zero-add w, b) (omega arith)
+
+-- a number that fits w bytes is what its bytes give
+pub number-bytesOf : (w n : ℕ) → n < 256 ^ w → number 0 w (bytesOf w n) ≡ n
+unfolding bytesOf
+number-bytesOf w n h = number-onto w n [] h
+
+-- ---- signs
 
 -- the law of the sign: what is held is the signed number that two's complement gives, a whole number of lib.IntN, plus 2^31
 pub signed-biased : (n : ℕ) → n < 4294967296 → signed n +ℤ pos bias ≡ pos (biased n)

@@ -1,10 +1,10 @@
 -- Laws of lists in another order, and of lists back to back.
-use mathlib.Core.Path.{_≡_, refl, ap, sym, subst, _∙_}
+use mathlib.Core.Path.{_≡_, refl, _∙_}
 use mathlib.Core.List.{List, [], _∷_, _++_}
-use Prim.Native.Nat.{ℕ, zero, suc, _+_}
+use Prim.Native.Nat.{ℕ, _+_}
 use native.Mathlib.Omega.{arith}
 use lib.ListN.{length, length-append}
-use Rattle.lists.specs.Lists.{Each, done, also, Pairwise, none, more, Member, here, there, Permutation, empty, keep, swap, then, joined}
+use Rattle.lists.specs.Lists.{Each, done, also, Member, here, there, Permutation, empty, keep, swap, then, joined}
 
 pub each-map : {A : Type 0} {P Q : A → Type 0} → ((a : A) → P a → Q a) → {l : List A} → Each P l → Each Q l
 each-map f done = done

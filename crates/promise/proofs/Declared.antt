@@ -1,5 +1,4 @@
 -- The declared readings hold.
-use mathlib.Core.Path.{_≡_}
 use Rattle.station.proofs.Current.{current-found}
 use Rattle.acceptance.proofs.Sound.{accepted-sound, sound-accepted}
 use Rattle.promise.specs.Declared.{CurrentDeclared, AcceptanceDeclared}

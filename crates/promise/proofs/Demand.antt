@@ -1,26 +1,23 @@
 -- Demand 3 holds.
-use mathlib.Core.Path.{_≡_, refl, ap, sym, subst, _∙_}
+use mathlib.Core.Path.{_≡_, refl}
 use mathlib.Core.List.{List, [], _∷_}
 use Prim.Native.Nat.{ℕ}
 use lib.IntN.{ℤ}
-use lib.ListN.{length}
-use Rattle.lists.specs.Lists.{Pairwise, none, more, Each}
+use Rattle.lists.specs.Lists.{Pairwise, none, more}
 use Rattle.fields.specs.Numbers.{biasedOf}
 use Rattle.records.specs.Dossier.{records}
-use Rattle.records.specs.Raise.{Raised, RaiseFor}
+use Rattle.records.specs.Raise.{Raised}
 use Rattle.records.proofs.Raise.{raised, raised-self}
-use Rattle.station.specs.Parameters.{Parameters, parameters, amounts, technology}
+use Rattle.station.specs.Parameters.{parameters, amounts, technology}
 use Rattle.station.proofs.Parameters.{same-parameters, higher}
-use Rattle.acceptance.specs.Answer.{answer, IsAccepted}
-use Rattle.acceptance.specs.Sound.{Sound}
+use Rattle.acceptance.specs.Answer.{IsAccepted}
 use Rattle.acceptance.proofs.Sound.{accepted-sound, sound-accepted, sound-raised, efficient}
-use Rattle.reference.specs.Levels.{NoLower, lines, levels}
+use Rattle.reference.specs.Levels.{NoLower, levels}
 use Rattle.reference.proofs.Levels.{lines-upper, lines-close}
-use Rattle.conduct.specs.declared.Verdict.{Verdict}
-use Rattle.conduct.specs.declared.Verdict.the-variants.{Passes, Fails, Refused}
-use Rattle.conduct.specs.Verdict.{settle, offerVerdict, priceVerdict, onOffer, onPrice}
+use Rattle.conduct.specs.declared.Verdict.the-variants.{Passes}
+use Rattle.conduct.specs.Verdict.{settle, onOffer, onPrice}
 use Rattle.conduct.proofs.Stays.{offer-stays, price-stays}
-use Rattle.promise.specs.Demand.{Raise, RaiseKeeps, Demand3}
+use Rattle.promise.specs.Demand.{Raise, Demand3}
 
 module _ {d e : List ℕ} (q : Raise d e) (h : IsAccepted d) where
   pairs : Pairwise (Raised (technology (parameters (records d)))) (records d) (records e)

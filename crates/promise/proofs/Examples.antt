@@ -1,5 +1,5 @@
 -- The claims are not empty: R1 is accepted, there is a real raise of it, and its records in another order are a reordering.
-use mathlib.Core.Path.{_≡_, refl}
+use mathlib.Core.Path.{refl}
 use mathlib.Core.List.{List, [], _∷_, _++_}
 use Prim.Native.Nat.{ℕ}
 use Rattle.lists.specs.Lists.{Permutation, empty, keep, swap, then, joined}

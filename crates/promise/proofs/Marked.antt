@@ -1,7 +1,6 @@
 -- The marked cases hold: one proof, by computation.
-use mathlib.Core.Path.{_≡_, refl}
-use mathlib.Core.List.{List, [], _∷_}
-use Rattle.lists.specs.Lists.{Each, done, also}
+use mathlib.Core.Path.{refl}
+use Rattle.lists.specs.Lists.{done, also}
 use Rattle.report.proofs.Computed.{computed}
 use Rattle.promise.specs.Stations.{valuesIn, made, pair}
 use Rattle.promise.specs.Marked.{MarkedHold, marked}

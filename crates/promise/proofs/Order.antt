@@ -1,24 +1,19 @@
 -- Arrival order says nothing.
-use mathlib.Core.Path.{_≡_, refl, ap, sym, subst, _∙_}
-use mathlib.Core.List.{List, [], _∷_}
-use Prim.Native.Nat.{ℕ, _≤_}
-use native.Mathlib.Omega.{arith}
-use lib.IntN.{ℤ}
+use mathlib.Core.Path.{_≡_, refl, ap, sym, _∙_}
+use mathlib.Core.List.{List}
+use Prim.Native.Nat.{ℕ}
 use lib.ListN.{length}
-use Rattle.lists.specs.Lists.{Each, Permutation, joined}
+use Rattle.lists.specs.Lists.{Permutation}
 use Rattle.lists.proofs.Lists.{each-permuted, joined-length}
-use Rattle.fields.specs.Numbers.{biasedOf}
-use Rattle.records.specs.Record.{fault}
-use Rattle.records.specs.Answers.{orElse, refuseIf}
 use Rattle.records.specs.Dossier.{records}
 use Rattle.records.proofs.Dossier.{joined-records, records-joined, records-whole}
-use Rattle.station.specs.Parameters.{Parameters, Amounts, parameters, amounts}
+use Rattle.station.specs.Parameters.{parameters}
 use Rattle.station.proofs.Parameters.{parameters-permuted, amounts-permuted}
 use Rattle.acceptance.specs.Answer.{answer, IsAccepted}
 use Rattle.acceptance.specs.Sound.{Sound}
 use Rattle.acceptance.proofs.Sound.{accepted-sound, sound-accepted, sound-permuted}
 use Rattle.reference.specs.Levels.{levels}
-use Rattle.conduct.specs.Verdict.{settle, offerVerdict, priceVerdict, onOffer, onPrice}
+use Rattle.conduct.specs.Verdict.{onOffer, onPrice}
 use Rattle.report.specs.Report.{report, reportAnswer, bufferAfter}
 use Rattle.promise.specs.Order.{Reordered, SameMeaning, ArrivalOrder}
 

@@ -9,8 +9,7 @@ use Rattle.records.specs.Raise.{RaiseFor}
 use Rattle.station.specs.Parameters.{parameters, technology}
 use Rattle.acceptance.specs.Answer.{IsAccepted}
 use Rattle.reference.specs.Levels.{levels, NoLower, CloseLine}
-use Rattle.conduct.specs.declared.Verdict.{Verdict}
-use Rattle.conduct.specs.declared.Verdict.the-variants.{Passes, Fails, Refused}
+use Rattle.conduct.specs.declared.Verdict.the-variants.{Passes}
 use Rattle.conduct.specs.Verdict.{onOffer, onPrice}
 
 -- e is a raise of d: the limits are those of d's technology

@@ -8,7 +8,7 @@ use lib.ListN.{length, length-take, length-drop, length-append, take-append-drop
 use lib.Seq.{take-at, drop-at}
 use Rattle.lists.specs.Lists.{Each, done, also, joined}
 use Rattle.records.specs.declared.Answer.{Answer}
-use Rattle.records.specs.declared.Answer.the-variants.{Accepted, Refused}
+use Rattle.records.specs.declared.Answer.the-variants.{Accepted}
 use Rattle.records.specs.Record.{mark, size, fault}
 use Rattle.records.specs.Dossier.{firstOf, restOf, recordsIn, records, firstDrawn, scan}
 use Rattle.records.proofs.Answers.{orElse-parts, parts-orElse, drawn-none, none-drawn}

@@ -1,11 +1,11 @@
 -- The dossier: "records, back to back"; which of its bytes are money; 1, 2 and 3 in turn.
-use mathlib.Core.Bool.{Bool, true, false, cond}
+use mathlib.Core.Bool.{Bool, false, cond}
 use mathlib.Core.List.{List, [], _∷_}
 use Prim.Native.Nat.{ℕ, zero, suc, _+_, _-_}
 use lib.Dec.{ltb}
 use lib.ListN.{length, take, drop}
 use Rattle.records.specs.declared.Answer.{Answer}
-use Rattle.records.specs.declared.Answer.the-variants.{Accepted, Refused}
+use Rattle.records.specs.declared.Answer.the-variants.{Accepted}
 use Rattle.records.specs.Answers.{orElse, drawn}
 use Rattle.records.specs.Record.{mark, size, fault, moneyByte}
 

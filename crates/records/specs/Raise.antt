@@ -1,7 +1,7 @@
 -- A raise: "alike in every byte outside the money amounts, and each money amount, read with its sign, whether its record
 -- is current or not, stays or rises within its limit".
 use mathlib.Core.Path.{_≡_}
-use mathlib.Core.Bool.{Bool, true, false, cond}
+use mathlib.Core.Bool.{true, false, cond}
 use mathlib.Core.List.{List}
 use Prim.Native.Nat.{ℕ, _≤_}
 use lib.ListN.{length, getD}

@@ -2,8 +2,8 @@
 -- Lengths, keys, ranges, money and the limits of a raise all follow from it; a later mark is one more row.
 use mathlib.Core.Bool.{Bool, true, false}
 use mathlib.Core.List.{List, [], _∷_}
-use Prim.Native.Nat.{ℕ, zero, suc, _+_, _-_}
-use lib.ListN.{getD, length}
+use Prim.Native.Nat.{ℕ, _-_}
+use lib.ListN.{getD}
 
 -- the part that a field plays: it belongs to the key, it is a money amount, or neither
 pub data Role : Type 0 where

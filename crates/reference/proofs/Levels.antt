@@ -1,21 +1,21 @@
 -- The levels: none falls when no amount does, and each is close to the exact one.
-use mathlib.Core.Path.{_≡_, refl, ap, sym, subst, _∙_}
+use mathlib.Core.Path.{_≡_, refl}
 use mathlib.Core.Bool.{Bool, true, false, cond}
-use mathlib.Core.List.{List, [], _∷_}
-use Prim.Native.Nat.{ℕ, zero, suc, _+_, _*_, _-_, _/_, _≤_, _<_}
-use native.Mathlib.Nat.{le-refl, mul-le-mul-left, mul-le-mul-right}
+use mathlib.Core.List.{List, []}
+use Prim.Native.Nat.{ℕ, zero, suc, _+_, _*_, _-_, _≤_}
+use native.Mathlib.Nat.{mul-le-mul-left, mul-le-mul-right}
 use native.Mathlib.Omega.{arith}
 use lib.Dec.{eqb, lit≤}
 use borrow.Author.Tests.{eqb-true}
 use Rattle.lists.specs.Lists.{Pairwise, none, more, Each, done, also}
 use Rattle.records.specs.Table.{FU, AD, MM, HR, CH}
-use Rattle.station.specs.Parameters.{Parameters, Amounts, Higher, technology, capacity, efficiency, window, chargeEnergy, chargePrice, hourPrice, adderKey, itemKey}
-use Rattle.acceptance.specs.Curve.{points, fullHours}
-use Rattle.reference.specs.Sums.{sumTo, listTo, sumHighest}
-use Rattle.reference.specs.Exact.{Sum, whole, share, _⊕_, total, perThousand, greater, dropped, exact, cents, Close}
-use Rattle.reference.specs.Levels.{profile, adders, maintenance, startMaintenance, thermalEnergy, heatCost, startCost, noLoadCost, nuclearEnergy, totalEnergy, chargingSum, chargingCost, shortRunCost, highestSum, opportunityCost, storageEnergy, Line, line, amount, NoLower, CloseLine, laminations, oneLamination, single, linesOf, lines}
+use Rattle.station.specs.Parameters.{Parameters, Amounts, Higher, technology, efficiency, window, chargeEnergy, chargePrice, adderKey, itemKey}
+use Rattle.acceptance.specs.Curve.{fullHours}
+use Rattle.reference.specs.Sums.{sumTo}
+use Rattle.reference.specs.Exact.{Sum, exact}
+use Rattle.reference.specs.Levels.{profile, adders, maintenance, startMaintenance, thermalEnergy, heatCost, startCost, noLoadCost, nuclearEnergy, chargingSum, chargingCost, shortRunCost, highestSum, opportunityCost, storageEnergy, Line, line, amount, NoLower, CloseLine, laminations, oneLamination, single, linesOf, lines}
 use Rattle.reference.proofs.Sums.{sumTo-mono, listTo-mono, sumHighest-mono}
-use Rattle.reference.proofs.Exact.{Below, wholes, shares, both, totals, perThousands, greaters, dropped-mono, cents-mono, divisions, Efficient, close}
+use Rattle.reference.proofs.Exact.{Below, wholes, shares, both, totals, perThousands, greaters, dropped-mono, cents-mono, divisions, close}
 
 -- ---- each formula, part by part
 

@@ -1,6 +1,6 @@
 -- "From records to levels": the profile at an hour, the formulas, the levels at an hour.
 use mathlib.Core.Path.{_≡_}
-use mathlib.Core.Bool.{Bool, true, false, cond, _&&_, not}
+use mathlib.Core.Bool.{Bool, cond, _&&_, not}
 use mathlib.Core.List.{List, [], _∷_}
 use Prim.Native.Nat.{ℕ, zero, suc, _+_, _*_, _-_, _/_, _≤_}
 use lib.Dec.{leb, eqb}
@@ -10,7 +10,7 @@ use Rattle.station.specs.Parameters.{Parameters, Amounts, parameters, amounts, 
 use Rattle.acceptance.specs.Fit.{energy, start, noLoad, reserve}
 use Rattle.acceptance.specs.Curve.{points, rise, fullHours}
 use Rattle.reference.specs.Sums.{sumTo, listTo, sumHighest}
-use Rattle.reference.specs.Exact.{Sum, whole, share, _⊕_, total, perThousand, greater, Fraction, dropped, exact, cents, Close}
+use Rattle.reference.specs.Exact.{Sum, whole, share, _⊕_, total, perThousand, greater, dropped, exact, cents, Close}
 
 -- ---- the profile at an hour
 

@@ -1,14 +1,13 @@
 -- The current record, declared: one of the records, of the mark and key, and none of them has a higher issue.
-use mathlib.Core.Path.{_≡_, refl, ap, sym, subst, _∙_}
-use mathlib.Core.Bool.{Bool, true, false, cond, _&&_, false≢true, true≢false}
+use mathlib.Core.Path.{_≡_, refl, sym, _∙_}
+use mathlib.Core.Bool.{Bool, true, false, cond, _&&_, true≢false}
 use mathlib.Core.List.{List, [], _∷_}
-use Prim.Native.Nat.{ℕ, zero, suc, _+_, _≤_, _<_}
+use Prim.Native.Nat.{ℕ, _≤_, _<_}
 use native.Mathlib.Nat.{le-refl, le-trans}
 use native.Mathlib.Omega.{arith}
 use lib.Dec.{leb, eqb}
-use lib.ListN.{length}
-use borrow.Author.Tests.{leb-true, leb-false, eqb-true, le-leb, lt-leb, eq-eqb}
-use Rattle.lists.specs.Lists.{Each, done, also, Pairwise, none, more, Member, here, there}
+use borrow.Author.Tests.{leb-true, leb-false, eqb-true, eq-eqb}
+use Rattle.lists.specs.Lists.{Each, done, also, Pairwise, none, more, here, there}
 use Rattle.lists.proofs.Lists.{each-map, member-each}
 use Rattle.lists.proofs.Tests.{and-left, and-right}
 use Rattle.fields.specs.Numbers.{number}

@@ -1,7 +1,7 @@
 -- Where each field lies: what the code reads of a current record is what the frame and the amounts say.
 use mathlib.Core.Path.{_≡_, refl}
 use mathlib.Core.List.{List}
-use Prim.Native.Nat.{ℕ, _+_, _*_}
+use Prim.Native.Nat.{ℕ}
 use Rattle.fields.specs.Numbers.{number, biased}
 use Rattle.records.specs.Table.{table, rowOf, fieldOf, RS, HP, FU, AD, MM, RQ, HR, CH, TH}
 use Rattle.records.specs.Record.{offsetIn, offset, read, value}

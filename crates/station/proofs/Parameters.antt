@@ -1,28 +1,27 @@
 -- What the current records say: the same in any order, the same frame and no lower amounts in a raise, and within the table's bounds.
 use mathlib.Core.Path.{_≡_, refl, ap, sym, subst, _∙_}
-use mathlib.Core.Bool.{Bool, true, false, cond, _&&_, _||_, not, false≢true}
+use mathlib.Core.Bool.{Bool, true, false, cond, _||_, not}
 use mathlib.Core.List.{List, [], _∷_}
-use Prim.Native.Nat.{ℕ, zero, suc, _+_, _*_, _%_, _≤_, _<_}
+use Prim.Native.Nat.{ℕ, _+_, _%_, _≤_, _<_}
 use native.Mathlib.Decide.{decLt}
-use native.Mathlib.Nat.{le-refl, le-trans}
+use native.Mathlib.Nat.{le-refl}
 use native.Mathlib.Omega.{arith}
-use lib.Dec.{leb, ltb, eqb}
-use lib.ListN.{length, getD, List·getD-eq-default}
+use lib.Dec.{leb, ltb}
+use lib.ListN.{length, List·getD-eq-default}
 use borrow.Author.Tests.{leb-true}
-use Rattle.lists.specs.Lists.{Each, done, also, Pairwise, none, more, Permutation, Member}
+use Rattle.lists.specs.Lists.{Each, Pairwise, none, Permutation}
 use Rattle.lists.specs.Tests.{everyOf}
 use Rattle.lists.proofs.Lists.{member-each}
-use Rattle.lists.proofs.Tests.{split}
 use Rattle.fields.specs.Numbers.{number, biased}
 use Rattle.fields.proofs.Numbers.{number-nil}
-use Rattle.records.specs.Table.{Role, Field, table, rowOf, fieldOf, noField}
-use Rattle.records.specs.Record.{mark, isMoney, offset, read, value, inRange, fault}
+use Rattle.records.specs.Table.{Field, table, rowOf, fieldOf, noField}
+use Rattle.records.specs.Record.{mark, isMoney, offset, read, value, fault}
 use Rattle.records.specs.Raise.{Raised}
-use Rattle.records.proofs.Record.{by-table, faultless, field-range, range-high, mark-nil}
+use Rattle.records.proofs.Record.{by-table, faultless, field-range, range-high}
 use Rattle.records.proofs.Raise.{raised-same, raised-le}
 use Rattle.station.specs.Current.{current, present}
-use Rattle.station.specs.Parameters.{Parameters, Amounts, parameters, amounts, Higher}
-use Rattle.station.specs.Declared.{IsCurrent, CurrentOf, absent, standing, Distinct}
+use Rattle.station.specs.Parameters.{parameters, amounts, Higher}
+use Rattle.station.specs.Declared.{CurrentOf, absent, standing, Distinct}
 use Rattle.station.proofs.Current.{current-found, current-raised}
 use Rattle.station.proofs.Twins.{current-permuted}
 

@@ -1,19 +1,18 @@
 -- No twins: every record apart from every other; and then the order of the records says nothing.
-use mathlib.Core.Path.{_≡_, refl, ap, sym, subst, _∙_}
-use mathlib.Core.Bool.{Bool, true, false, cond, _&&_, _||_, false≢true, true≢false}
+use mathlib.Core.Path.{_≡_, refl, ap, sym, _∙_}
+use mathlib.Core.Bool.{Bool, true, false, cond, _&&_, false≢true}
 use mathlib.Core.List.{List, [], _∷_}
-use Prim.Native.Nat.{ℕ, zero, suc, _+_, _≤_, _<_}
+use Prim.Native.Nat.{ℕ, _+_}
 use native.Mathlib.Omega.{arith}
 use lib.Dec.{leb, eqb}
 use lib.ListN.{length}
-use borrow.Author.Tests.{leb-true, leb-false, eqb-true, eqb-false, le-leb, lt-leb, eq-eqb, ne-eqb}
+use borrow.Author.Tests.{leb-true, leb-false, eqb-true, eqb-false, eq-eqb, ne-eqb}
 use Rattle.lists.specs.Lists.{Each, done, also, Pairwise, none, more, Permutation, empty, keep, swap, then}
-use Rattle.lists.proofs.Lists.{each-map, each-permuted, each-of}
+use Rattle.lists.proofs.Lists.{each-permuted, each-of}
 use Rattle.lists.proofs.Tests.{or-false-left, or-false-right}
-use Rattle.records.specs.declared.Answer.{Answer}
-use Rattle.records.specs.declared.Answer.the-variants.{Accepted, Refused}
+use Rattle.records.specs.declared.Answer.the-variants.{Accepted}
 use Rattle.records.specs.Record.{mark, issue, keyOf}
-use Rattle.records.specs.Answers.{orElse, refuseIf}
+use Rattle.records.specs.Answers.{refuseIf}
 use Rattle.records.specs.Raise.{Raised}
 use Rattle.records.proofs.Answers.{orElse-parts, parts-orElse, not-refuseIf, refuseIf-not}
 use Rattle.records.proofs.Raise.{raised-mark, raised-issue, raised-key}

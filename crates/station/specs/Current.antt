@@ -1,12 +1,12 @@
 -- The current record of a mark and key; 4; the lookup.
-use mathlib.Core.Bool.{Bool, true, false, cond, _&&_, _||_}
+use mathlib.Core.Bool.{Bool, false, cond, _&&_, _||_}
 use mathlib.Core.List.{List, [], _∷_}
-use Prim.Native.Nat.{ℕ, zero, suc, _+_}
+use Prim.Native.Nat.{ℕ, _+_}
 use lib.Dec.{leb, ltb, eqb}
 use lib.ListN.{length}
 use Rattle.fields.specs.Numbers.{number}
 use Rattle.records.specs.declared.Answer.{Answer}
-use Rattle.records.specs.declared.Answer.the-variants.{Accepted, Refused}
+use Rattle.records.specs.declared.Answer.the-variants.{Accepted}
 use Rattle.records.specs.Answers.{orElse, refuseIf, isAccepted}
 use Rattle.records.specs.Record.{mark, keyWidth, issue, keyOf}
 use Rattle.records.specs.Dossier.{records, scan}

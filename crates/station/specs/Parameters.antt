@@ -1,5 +1,5 @@
 -- What the current records say: the parameters, which hold no money, and the money amounts. A raise changes the second alone.
-use mathlib.Core.Bool.{Bool, true, false, cond}
+use mathlib.Core.Bool.{Bool, cond}
 use mathlib.Core.List.{List}
 use Prim.Native.Nat.{ℕ, _+_, _*_, _≤_}
 use Rattle.records.specs.Table.{fieldOf, RS, HP, FU, AD, MM, RQ, HR, CH, TH}
