@@ -1,5 +1,7 @@
 -- Demand 3 holds.
-use mathlib.Core.Path.{_≡_, refl}
+use mathlib.Core.Path.{_≡_, refl, ap}
+use native.Mathlib.Omega.{arith}
+use lib.ListN.{getD}
 use mathlib.Core.List.{List, [], _∷_}
 use Prim.Native.Nat.{ℕ}
 use lib.IntN.{ℤ}
@@ -14,10 +16,22 @@ use Rattle.acceptance.specs.Answer.{IsAccepted}
 use Rattle.acceptance.proofs.Sound.{accepted-sound, sound-accepted, sound-raised, efficient}
 use Rattle.reference.specs.Levels.{NoLower, levels}
 use Rattle.reference.proofs.Levels.{lines-upper, lines-close}
-use Rattle.conduct.specs.declared.Verdict.the-variants.{Passes}
-use Rattle.conduct.specs.Verdict.{settle, onOffer, onPrice}
+use Rattle.conduct.specs.declared.Verdict.{Verdict}
+use Rattle.conduct.specs.declared.Verdict.the-variants.{Passes, Fails, Refused}
+use Rattle.conduct.specs.Verdict.{settle, numbers, onOffer, onPrice}
 use Rattle.conduct.proofs.Stays.{offer-stays, price-stays}
-use Rattle.promise.specs.Demand.{Raise, Demand3}
+use Rattle.promise.specs.Demand.{Raise, Passed, Demand3}
+
+-- passing, in the paper's numbers, is the verdict `Passes`
+passed : (v : Verdict) → Passed v → v ≡ Passes
+unfolding numbers
+passed Passes h = refl
+passed (Fails k i) h = absurd (let z : _≡_ {A = ℕ} 1 0 = ap (λ l. getD l 0 0) h in omega arith)
+passed (Refused n p) h = absurd (let z : _≡_ {A = ℕ} 2 0 = ap (λ l. getD l 0 0) h in omega arith)
+
+in-numbers : {v w : Verdict} → (v ≡ Passes → w ≡ Passes) → Passed v → Passed w
+unfolding numbers
+in-numbers {v} f h = ap numbers (f (passed v h))
 
 module _ {d e : List ℕ} (q : Raise d e) (h : IsAccepted d) where
   pairs : Pairwise (Raised (technology (parameters (records d)))) (records d) (records e)
@@ -48,8 +62,8 @@ demand3 =
           record {
             accepted = accepted-stays q h;
             higher = levels-upper q h;
-            offers = offers-stay q h;
-            prices = prices-stay q h;
+            offers = λ t c o. in-numbers (offers-stay q h t c o);
+            prices = λ t v c price. in-numbers (prices-stay q h t v c price);
           };
       distance = λ d h. lines-close (parameters (records d)) (amounts (records d)) (efficient (accepted-sound d h .1));
     }

@@ -1,6 +1,6 @@
 -- Demand 3: one claim about dossiers as bytes, for every technology and formula.
 use mathlib.Core.Path.{_≡_}
-use mathlib.Core.List.{List}
+use mathlib.Core.List.{List, [], _∷_}
 use Prim.Native.Nat.{ℕ}
 use lib.IntN.{ℤ}
 use Rattle.lists.specs.Lists.{Pairwise, Each}
@@ -9,19 +9,23 @@ use Rattle.records.specs.Raise.{RaiseFor}
 use Rattle.station.specs.Parameters.{parameters, technology}
 use Rattle.acceptance.specs.Answer.{IsAccepted}
 use Rattle.reference.specs.Levels.{levels, NoLower, CloseLine}
-use Rattle.conduct.specs.declared.Verdict.the-variants.{Passes}
-use Rattle.conduct.specs.Verdict.{onOffer, onPrice}
+use Rattle.conduct.specs.declared.Verdict.{Verdict}
+use Rattle.conduct.specs.Verdict.{numbers, onOffer, onPrice}
 
 -- e is a raise of d: the limits are those of d's technology
 abbrev pub Raise : List ℕ → List ℕ → Type 0
 Raise d e = RaiseFor (technology (parameters (records d))) d e
 
+-- a verdict passes, in the paper's numbers
+abbrev pub Passed : Verdict → Type 0
+Passed v = numbers v ≡ 0 ∷ []
+
 -- what a raise keeps: e is accepted; at every hour its levels stand beside those of d and none is lower; what passed passes
 pub record RaiseKeeps (d e : List ℕ) : Type 0 where
   pub accepted : IsAccepted e
   pub higher : (h : ℕ) → Pairwise NoLower (levels d h) (levels e h)
-  pub offers : (h c : ℕ) (o : List ℕ) → onOffer d h c o ≡ Passes → onOffer e h c o ≡ Passes
-  pub prices : (h v c : ℕ) (price : ℤ) → onPrice d h v c price ≡ Passes → onPrice e h v c price ≡ Passes
+  pub offers : (h c : ℕ) (o : List ℕ) → Passed (onOffer d h c o) → Passed (onOffer e h c o)
+  pub prices : (h v c : ℕ) (price : ℤ) → Passed (onPrice d h v c price) → Passed (onPrice e h v c price)
 
 -- every raise of an accepted dossier keeps that, and every level of an accepted dossier is close to its exact level
 pub record Demand3 : Type 0 where

@@ -17,10 +17,12 @@ use Rattle.conduct.specs.Verdict.{numbers, onOffer}
 use Rattle.report.specs.Report.{report, prints}
 use Rattle.promise.specs.Stations.{pair, r1, r1Tested, r1Lines, m6, m7, m9}
 
+-- what the definitions give, and what the paper marks
 pub record Case : Type 0 where
   pub found : List ℕ
   pub wanted : List ℕ
 
+-- the two side by side
 abbrev pub case : List ℕ → List ℕ → Case
 case a b = record { found = a; wanted = b }
 
@@ -32,6 +34,7 @@ yes b = cond b 1 0 ∷ []
 abbrev pub inCents : (Parameters → Amounts → Sum) → List (List ℕ) → List ℕ
 inCents f l = let r = records (joined l) in cents (dropped (f (parameters r) (amounts r))) ∷ []
 
+-- M1 to M9
 unfoldable pub marked : List Case
 marked =
     case (report (joined r1) 0) r1Lines  -- M1

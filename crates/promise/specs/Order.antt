@@ -26,5 +26,6 @@ pub record SameMeaning (d e : List ℕ) : Type 0 where
   pub answer : (h n : ℕ) → reportAnswer d h n ≡ reportAnswer e h n
   pub buffer : (h : ℕ) (buf : List ℕ) → bufferAfter d h buf ≡ bufferAfter e h buf
 
+-- every reordering of an accepted dossier means the same
 abbrev pub ArrivalOrder : Type 0
 ArrivalOrder = (d e : List ℕ) → IsAccepted d → Reordered d e → SameMeaning d e

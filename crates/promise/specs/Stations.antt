@@ -26,6 +26,7 @@ pair quantity price = bytesOf 2 quantity ++ bytesOf 4 price
 
 -- ---- case R1: thermal, all issues 1; all but its fuel price and its first adder
 
+-- its records
 abbrev pub r1With : ℕ → ℕ → List (List ℕ)
 r1With fuel adder =
     made RS 1 (1 ∷ 1000 ∷ 1000 ∷ 500000 ∷ 100000 ∷ 0 ∷ 0 ∷ 0 ∷ 0 ∷ [])  -- capacity 100.0, factor 1,000, start heat, no-load heat
@@ -37,6 +38,7 @@ r1With fuel adder =
     ∷ made MM 1 (1 ∷ 1 ∷ 200000000 ∷ 1000 ∷ 25000 ∷ 100 ∷ [])  -- C, W, T, S
     ∷ []
 
+-- fuel 4,000,000 and the adder 1,500,000
 abbrev pub r1 : List (List ℕ)
 r1 = r1With 4000000 1500000
 

@@ -1,5 +1,6 @@
 -- Answers: "An answer is number and place, nothing else."
 use mathlib.Core.Bool.{Bool, true, false, cond}
+use mathlib.Core.List.{List, [], _∷_}
 use Prim.Native.Nat.{ℕ}
 use lib.Dec.{eqb}
 use Rattle.records.specs.declared.Answer.{Answer}
@@ -18,9 +19,15 @@ refuseIf b n p = cond b (Refused n p) Accepted
 unfoldable pub drawn : ℕ → ℕ → Answer
 drawn n p = cond (eqb n 0) Accepted (Refused n p)
 
+-- whether an answer refuses nothing
 unfoldable pub isAccepted : Answer → Bool
 isAccepted Accepted = true
 isAccepted (Refused n p) = false
+
+-- an answer in numbers, as other languages get it: 0 accepted; 2 refused, with the paper's number and place
+unfoldable pub answerNumbers : Answer → List ℕ
+answerNumbers Accepted = 0 ∷ []
+answerNumbers (Refused n p) = 2 ∷ n ∷ p ∷ []
 
 -- the paper's number of an answer, 0 where it refuses nothing
 unfoldable pub numberOf : Answer → ℕ

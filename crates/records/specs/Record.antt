@@ -20,6 +20,7 @@ markIn k (x ∷ l) a b = cond (eqb a (x .first) && eqb b (x .second)) k (markIn 
 unfoldable pub mark : List ℕ → ℕ
 mark r = markIn 1 table (getD r 0 0) (getD r 1 0)
 
+-- the 4-byte issue number
 unfoldable pub issue : List ℕ → ℕ
 issue r = number 2 4 r
 
@@ -50,6 +51,7 @@ offset k i = offsetIn head (rowOf k .fields) i
 
 -- ---- the key: the key fields stand first
 
+-- whether a field belongs to the key
 abbrev pub isKey : Role → Bool
 isKey key = true
 isKey plain = false
@@ -70,6 +72,7 @@ keyOf r = number head (keyWidth (mark r)) r
 
 -- ---- the money
 
+-- whether a field is a money amount
 abbrev pub isMoney : Role → Bool
 isMoney key = false
 isMoney plain = false

@@ -1,5 +1,5 @@
 -- The table of marks: document 01's list, a row for each mark and a line for each field, in its order.
--- Lengths, keys, ranges, money and the limits of a raise all follow from it; a later mark is one more row.
+-- Lengths, keys, ranges, money and the limits of a raise all follow from it, so a later mark begins as one more row.
 use mathlib.Core.Bool.{Bool, true, false}
 use mathlib.Core.List.{List, [], _∷_}
 use Prim.Native.Nat.{ℕ, _-_}
@@ -14,7 +14,7 @@ pub record Field : Type 0 where
   pub width : ℕ  -- in bytes
   pub lowest : ℕ  -- of its range; a price's plus 2^31
   pub highest : ℕ
-  pub orZero : Bool  -- its range is "0 or lowest to highest"
+  pub orZero : Bool  -- its range is "0 or" lowest to highest
   pub isSigned : Bool  -- "prices marked s are 4-byte two's complement"
   pub role : Role
   pub usedBy : List ℕ  -- the technologies that use it; of any other it is 0
@@ -27,16 +27,19 @@ pub record Row : Type 0 where
   pub fields : List Field
   pub technologies : List ℕ
 
--- the technologies
+-- "technology (1): 1 thermal"
 abbrev pub thermal : ℕ
 thermal = 1
 
+-- "2 nuclear"
 abbrev pub nuclear : ℕ
 nuclear = 2
 
+-- "3 storage"
 abbrev pub storage : ℕ
 storage = 3
 
+-- all three
 abbrev pub allTechnologies : List ℕ
 allTechnologies = thermal ∷ nuclear ∷ storage ∷ []
 
@@ -89,6 +92,7 @@ noField = field 0 0 0
 
 -- ---- the rows: two letters, the technologies that may have such a record, the fields after mark and issue
 
+-- a row of these
 abbrev pub row : ℕ → ℕ → List ℕ → List Field → Row
 row a b techs l = record { first = a; second = b; fields = l; technologies = techs }
 
@@ -125,8 +129,8 @@ abbrev pub fu : Row
 fu =
     row 70 85 allTechnologies
     (keyed 1 1 4  -- 0 profile
-    ∷ amount 4 400000000  -- 1 fuel, micro-dollars
-    ∷ only (thermal ∷ []) (amount 4 400000000)  -- 2 emission, micro-dollars
+    ∷ amount 4 400000000  -- 1 fuel, micro-dollars per GJ, per kg of uranium or, for storage, per MWh charged
+    ∷ only (thermal ∷ []) (amount 4 400000000)  -- 2 emission, micro-dollars per GJ
     ∷ [])
 
 -- AD, 17
@@ -134,8 +138,8 @@ abbrev pub ad : Row
 ad =
     row 65 68 allTechnologies
     (keyed 1 1 4  -- 0 profile
-    ∷ keyed 1 1 5  -- 1 cost
-    ∷ keyed 1 1 4  -- 2 level
+    ∷ keyed 1 1 5  -- 1 cost: 1 scheduled, 2 unscheduled, 3 consumables and operating, 4 third-party, 5 prorated start-up
+    ∷ keyed 1 1 4  -- 2 level: 1 energy, 2 start, 3 no-load, 4 reserve
     ∷ amount 8 1000000000000  -- 3 amount, micro-dollars
     ∷ [])
 
@@ -182,7 +186,7 @@ ch =
 abbrev pub th : Row
 th =
     row 84 72 allTechnologies
-    (keyed 1 1 3  -- 0 condition
+    (keyed 1 1 3  -- 0 condition: 1 narrow, 2 broad, 3 global
     ∷ keyed 1 1 4  -- 1 level
     ∷ upTo 2 10000  -- 2 percent
     ∷ any4  -- 3 margin, cents, 4,294,967,295 meaning none

@@ -4,7 +4,7 @@ use Rattle.lists.specs.Lists.{joined}
 use Rattle.lists.specs.Tests.{allBelow, allTo, countTo, every, everyOf, among, between}
 use Rattle.fields.specs.Numbers.{number, bytesOnto, bytesOf, signed, biased, biasedOf}
 use Rattle.text.specs.Text.{decimalIn, decimal, tenths, hundredths, refusalLine}
-use Rattle.records.specs.Answers.{orElse, refuseIf, drawn, isAccepted, numberOf, placeOf}
+use Rattle.records.specs.Answers.{orElse, refuseIf, drawn, isAccepted, answerNumbers, numberOf, placeOf}
 use Rattle.records.specs.Dossier.{firstOf, restOf, recordsIn, records, moneyAtIn, moneyAt, firstDrawn, scan}
 use Rattle.records.specs.Raise.{limitOf}
 use Rattle.records.specs.Record.{markIn, mark, issue, widths, size, offsetIn, offset, keyIn, keyWidth, keyOf, moneyIn, moneyByte, read, value, inRange, agrees, rangesHold, fault}
@@ -24,5 +24,5 @@ use Rattle.report.specs.Report.{profileLine, energyLine, amountLine, lev
 
 -- how many definitions there are to open
 unfoldable pub computed : ℕ
-unfolding joined allBelow allTo countTo every everyOf among between number bytesOnto bytesOf signed biased biasedOf decimalIn decimal tenths hundredths refusalLine orElse refuseIf drawn isAccepted numberOf placeOf firstOf restOf recordsIn records moneyAtIn moneyAt firstDrawn scan limitOf markIn mark issue widths size offsetIn offset keyIn keyWidth keyOf moneyIn moneyByte read value inRange agrees rangesHold fault table rowOf fieldOf matches better currentFrom current present twin anyTwin twins readable lookup lookupBytes parameters amounts unsupported answer points rise curveHolds curveFits fuelHolds fullHours hoursHold windowFits levelsOf holds fieldFits ruleFits fits isCurrent unfit quotient dropped cents plus sumOver greaterOf exact covers profileOf profile adders maintenance startMaintenance thermalEnergy heatCost startCost noLoadCost nuclearEnergy totalEnergy chargingSum chargingCost shortRunCost highestSum opportunityCost storageEnergy laminations oneLamination single linesOf lines levels sumTo listTo insert falling sumFirst sumHighest levelRefusal conditionRefusal priceBefore pairHolds malformed aboveCapacity lengthRefusal offerRefusal priceRefusal limit fails failsUnder failing quantity priceAt before overlap offerFrom priceTest settle numbers offerVerdict priceVerdict onOffer onPrice profileLine energyLine amountLine levelLine levelLines report reportAnswer bufferAfter printed prints
-computed = 157
+unfolding joined allBelow allTo countTo every everyOf among between number bytesOnto bytesOf signed biased biasedOf decimalIn decimal tenths hundredths refusalLine orElse refuseIf drawn isAccepted answerNumbers numberOf placeOf firstOf restOf recordsIn records moneyAtIn moneyAt firstDrawn scan limitOf markIn mark issue widths size offsetIn offset keyIn keyWidth keyOf moneyIn moneyByte read value inRange agrees rangesHold fault table rowOf fieldOf matches better currentFrom current present twin anyTwin twins readable lookup lookupBytes parameters amounts unsupported answer points rise curveHolds curveFits fuelHolds fullHours hoursHold windowFits levelsOf holds fieldFits ruleFits fits isCurrent unfit quotient dropped cents plus sumOver greaterOf exact covers profileOf profile adders maintenance startMaintenance thermalEnergy heatCost startCost noLoadCost nuclearEnergy totalEnergy chargingSum chargingCost shortRunCost highestSum opportunityCost storageEnergy laminations oneLamination single linesOf lines levels sumTo listTo insert falling sumFirst sumHighest levelRefusal conditionRefusal priceBefore pairHolds malformed aboveCapacity lengthRefusal offerRefusal priceRefusal limit fails failsUnder failing quantity priceAt before overlap offerFrom priceTest settle numbers offerVerdict priceVerdict onOffer onPrice profileLine energyLine amountLine levelLine levelLines report reportAnswer bufferAfter printed prints
+computed = 158

@@ -17,6 +17,7 @@ use Rattle.text.specs.Text.{decimal, tenths, hundredths, refusalLine, profileWo
 
 -- ---- the lines, "each line ended by byte 10"
 
+-- the first line: the profile
 unfoldable pub profileLine : ℕ → List ℕ
 profileLine p = profileWord ++ decimal p ++ newline
 
@@ -28,6 +29,7 @@ energyLine x = energyWord ++ decimal (x .lamination) ++ space ++ tenths (x .from
 unfoldable pub amountLine : List ℕ → Line → List ℕ
 amountLine word x = word ++ hundredths (amount x) ++ newline
 
+-- the line of a level
 unfoldable pub levelLine : Line → List ℕ
 levelLine x =
     cond (eqb (x .level) energy) (energyLine x)

@@ -1,4 +1,4 @@
--- Where each field lies: what the code reads of a current record is what the frame and the amounts say.
+-- Where each field lies: what the code reads of a current record is what the parameters and the amounts say.
 use mathlib.Core.Path.{_≡_, refl}
 use mathlib.Core.List.{List}
 use Prim.Native.Nat.{ℕ}

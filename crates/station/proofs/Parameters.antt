@@ -1,4 +1,4 @@
--- What the current records say: the same in any order, the same frame and no lower amounts in a raise, and within the table's bounds.
+-- What the current records say: the same in any order, the same parameters and no lower amounts in a raise, and within the table's bounds.
 use mathlib.Core.Path.{_≡_, refl, ap, sym, subst, _∙_}
 use mathlib.Core.Bool.{Bool, true, false, cond, _||_, not}
 use mathlib.Core.List.{List, [], _∷_}

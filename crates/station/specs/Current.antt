@@ -36,6 +36,7 @@ present r = ltb 0 (length r)
 
 -- ---- "4 mark, key and issue seen before"; its place is "the first record that has an earlier twin"
 
+-- whether two records have mark, key and issue in common
 unfoldable pub twin : List ℕ → List ℕ → Bool
 twin r s = eqb (mark r) (mark s) && eqb (keyOf r) (keyOf s) && eqb (issue r) (issue s)
 
@@ -51,10 +52,14 @@ twins p seen (r ∷ l) = orElse (refuseIf (anyTwin r seen) 4 p) (twins (p + leng
 
 -- ---- the lookup
 
+-- "At most 60,000 bytes of records"
+abbrev pub longest : ℕ
+longest = 60_000
+
 -- "13; records in turn with 1, 2, 3; then 4"
 unfoldable pub readable : List ℕ → Answer
 readable d =
-    orElse (refuseIf (ltb 60000 (length d)) 13 0)
+    orElse (refuseIf (ltb longest (length d)) 13 0)
     (orElse (scan 0 (records d))
     (twins 0 [] (records d)))
 

@@ -31,103 +31,142 @@ amounts l = record { of = λ k n i. cond (isMoney (fieldOf k i .role)) (value k 
 abbrev pub Higher : Amounts → Amounts → Type 0
 Higher a b = (k n i : ℕ) → a .of k n i ≤ b .of k n i
 
--- ---- the fields by the paper's names, in the table's order; the numbers are a field's place in its row
+-- The fields by the paper's names, in the table's order; the last number is a field's place in its row.
 
--- RS
+-- ---- RS
+
+-- 1 thermal, 2 nuclear, 3 storage
 abbrev pub technology : Parameters → ℕ
 technology s = s .says RS 0 0
 
+-- in 0.1 MW
 abbrev pub capacity : Parameters → ℕ
 capacity s = s .says RS 0 1
 
+-- performance factor, thousandths
 abbrev pub factor : Parameters → ℕ
 factor s = s .says RS 0 2
 
+-- MJ per start
 abbrev pub startHeat : Parameters → ℕ
 startHeat s = s .says RS 0 3
 
+-- MJ per hour
 abbrev pub noLoadHeat : Parameters → ℕ
 noLoadHeat s = s .says RS 0 4
 
+-- mg of uranium per MWh
 abbrev pub incrementalFuel : Parameters → ℕ
 incrementalFuel s = s .says RS 0 5
 
+-- state of charge, 0.1 MWh
 abbrev pub charge : Parameters → ℕ
 charge s = s .says RS 0 6
 
+-- charging efficiency, thousandths
 abbrev pub efficiency : Parameters → ℕ
 efficiency s = s .says RS 0 7
 
+-- hours
 abbrev pub window : Parameters → ℕ
 window s = s .says RS 0 8
 
--- HP, by point
+-- ---- HP, by point
+
+-- in 0.1 MW
 abbrev pub output : Parameters → ℕ → ℕ
 output s i = s .says HP i 1
 
+-- MJ/h
 abbrev pub heat : Parameters → ℕ → ℕ
 heat s i = s .says HP i 2
 
--- FU, by profile
+-- ---- FU, by profile
+
+-- micro-dollars
 abbrev pub fuel : Amounts → ℕ → ℕ
 fuel m p = m .of FU p 1
 
+-- micro-dollars per GJ
 abbrev pub emission : Amounts → ℕ → ℕ
 emission m p = m .of FU p 2
 
--- AD, by profile, cost and level
+-- ---- AD, by profile, cost and level
+
+-- the key of a profile, cost and level
 abbrev pub adderKey : ℕ → ℕ → ℕ → ℕ
 adderKey p c v = p * 65536 + c * 256 + v
 
+-- micro-dollars
 abbrev pub adder : Amounts → ℕ → ℕ → ℕ → ℕ
 adder m p c v = m .of AD (adderKey p c v) 3
 
--- MM, by profile and item
+-- ---- MM, by profile and item
+
+-- the key of a profile and item
 abbrev pub itemKey : ℕ → ℕ → ℕ
 itemKey p j = p * 256 + j
 
+-- cents
 abbrev pub costC : Amounts → ℕ → ℕ → ℕ
 costC m p j = m .of MM (itemKey p j) 2
 
+-- 0.1 MW
 abbrev pub outputW : Parameters → ℕ → ℕ → ℕ
 outputW s p j = s .says MM (itemKey p j) 3
 
+-- hours
 abbrev pub intervalT : Parameters → ℕ → ℕ → ℕ
 intervalT s p j = s .says MM (itemKey p j) 4
 
+-- 0.1 h
 abbrev pub hoursPerStartS : Parameters → ℕ → ℕ → ℕ
 hoursPerStartS s p j = s .says MM (itemKey p j) 5
 
--- RQ, by request; the profile that it asks for
+-- ---- RQ, by request
+
+-- of a request
 abbrev pub firstHour : Parameters → ℕ → ℕ
 firstHour s n = s .says RQ n 1
 
+-- of a request
 abbrev pub lastHour : Parameters → ℕ → ℕ
 lastHour s n = s .says RQ n 2
 
+-- the profile that a request asks for, 0 meaning withdrawn
 abbrev pub requested : Parameters → ℕ → ℕ
 requested s n = s .says RQ n 3
 
--- HR, by hour of the window
+-- ---- HR, by hour of the window
+
+-- cents per MWh, plus 2^31
 abbrev pub hourPrice : Amounts → ℕ → ℕ
 hourPrice m n = m .of HR n 1
 
--- CH, by interval
+-- ---- CH, by interval
+
+-- cents per MWh, plus 2^31
 abbrev pub chargePrice : Amounts → ℕ → ℕ
 chargePrice m n = m .of CH n 1
 
+-- kWh
 abbrev pub chargeEnergy : Parameters → ℕ → ℕ
 chargeEnergy s n = s .says CH n 2
 
--- TH, by condition and level
+-- ---- TH, by condition and level
+
+-- the key of a condition and level
 abbrev pub thresholdKey : ℕ → ℕ → ℕ
 thresholdKey c v = c * 256 + v
 
+-- of the level
 abbrev pub percent : Parameters → ℕ → ℕ → ℕ
 percent s c v = s .says TH (thresholdKey c v) 2
 
+-- cents, 4,294,967,295 meaning none
 abbrev pub margin : Parameters → ℕ → ℕ → ℕ
 margin s c v = s .says TH (thresholdKey c v) 3
 
+-- cents
 abbrev pub floor : Parameters → ℕ → ℕ → ℕ
 floor s c v = s .says TH (thresholdKey c v) 4

@@ -7,21 +7,25 @@ line2 : cases.Line2
 unfolding computed
 line2 = refl
 
-line6 : cases.Line6
+line9 : cases.Line9
 unfolding computed
-line6 = refl
+line9 = refl
+
+line16 : cases.Line16
+unfolding computed
+line16 = refl
 
 line18 : cases.Line18
 unfolding computed
 line18 = refl
 
+line20 : cases.Line20
+unfolding computed
+line20 = refl
+
 line30 : cases.Line30
 unfolding computed
 line30 = refl
-
-line31 : cases.Line31
-unfolding computed
-line31 = refl
 
 line37 : cases.Line37
 unfolding computed
@@ -79,14 +83,6 @@ line66 : cases.Line66
 unfolding computed
 line66 = refl
 
-line75 : cases.Line75
-unfolding computed
-line75 = refl
-
-line78 : cases.Line78
-unfolding computed
-line78 = refl
-
 line79 : cases.Line79
 unfolding computed
 line79 = refl
@@ -107,10 +103,6 @@ line89 : cases.Line89
 unfolding computed
 line89 = refl
 
-line91 : cases.Line91
-unfolding computed
-line91 = refl
-
 line94 : cases.Line94
 unfolding computed
 line94 = refl
@@ -118,6 +110,10 @@ line94 = refl
 line101 : cases.Line101
 unfolding computed
 line101 = refl
+
+line102 : cases.Line102
+unfolding computed
+line102 = refl
 
 line104 : cases.Line104
 unfolding computed
@@ -139,25 +135,29 @@ line108 : cases.Line108
 unfolding computed
 line108 = refl
 
-line110 : cases.Line110
-unfolding computed
-line110 = refl
-
 line115 : cases.Line115
 unfolding computed
 line115 = refl
+
+line116 : cases.Line116
+unfolding computed
+line116 = refl
 
 line118 : cases.Line118
 unfolding computed
 line118 = refl
 
-line126 : cases.Line126
-unfolding computed
-line126 = refl
-
 line130 : cases.Line130
 unfolding computed
 line130 = refl
+
+line138 : cases.Line138
+unfolding computed
+line138 = refl
+
+line141 : cases.Line141
+unfolding computed
+line141 = refl
 
 line142 : cases.Line142
 unfolding computed
@@ -187,25 +187,17 @@ line154 : cases.Line154
 unfolding computed
 line154 = refl
 
-line157 : cases.Line157
-unfolding computed
-line157 = refl
-
 line170 : cases.Line170
 unfolding computed
 line170 = refl
 
-line171 : cases.Line171
-unfolding computed
-line171 = refl
-
-line172 : cases.Line172
-unfolding computed
-line172 = refl
-
 line174 : cases.Line174
 unfolding computed
 line174 = refl
+
+line183 : cases.Line183
+unfolding computed
+line183 = refl
 
 line189 : cases.Line189
 unfolding computed
@@ -215,21 +207,13 @@ line197 : cases.Line197
 unfolding computed
 line197 = refl
 
-line207 : cases.Line207
-unfolding computed
-line207 = refl
-
-line211 : cases.Line211
-unfolding computed
-line211 = refl
-
 line215 : cases.Line215
 unfolding computed
 line215 = refl
 
-line219 : cases.Line219
+line220 : cases.Line220
 unfolding computed
-line219 = refl
+line220 = refl
 
 line233 : cases.Line233
 unfolding computed
@@ -283,17 +267,21 @@ line280 : cases.Line280
 unfolding computed
 line280 = refl
 
+line282 : cases.Line282
+unfolding computed
+line282 = refl
+
+line290 : cases.Line290
+unfolding computed
+line290 = refl
+
 line291 : cases.Line291
 unfolding computed
 line291 = refl
 
-line298 : cases.Line298
+line294 : cases.Line294
 unfolding computed
-line298 = refl
-
-line301 : cases.Line301
-unfolding computed
-line301 = refl
+line294 = refl
 
 line311 : cases.Line311
 unfolding computed
@@ -319,6 +307,14 @@ line320 : cases.Line320
 unfolding computed
 line320 = refl
 
+line323 : cases.Line323
+unfolding computed
+line323 = refl
+
+line333 : cases.Line333
+unfolding computed
+line333 = refl
+
 line341 : cases.Line341
 unfolding computed
 line341 = refl
@@ -343,10 +339,6 @@ line349 : cases.Line349
 unfolding computed
 line349 = refl
 
-line350 : cases.Line350
-unfolding computed
-line350 = refl
-
 line352 : cases.Line352
 unfolding computed
 line352 = refl
@@ -367,37 +359,25 @@ line366 : cases.Line366
 unfolding computed
 line366 = refl
 
-line369 : cases.Line369
-unfolding computed
-line369 = refl
-
 line372 : cases.Line372
 unfolding computed
 line372 = refl
+
+line381 : cases.Line381
+unfolding computed
+line381 = refl
 
 line382 : cases.Line382
 unfolding computed
 line382 = refl
 
-line392 : cases.Line392
-unfolding computed
-line392 = refl
-
 line395 : cases.Line395
 unfolding computed
 line395 = refl
 
-line398 : cases.Line398
+line396 : cases.Line396
 unfolding computed
-line398 = refl
-
-line399 : cases.Line399
-unfolding computed
-line399 = refl
-
-line400 : cases.Line400
-unfolding computed
-line400 = refl
+line396 = refl
 
 line401 : cases.Line401
 unfolding computed
@@ -418,6 +398,10 @@ line406 = refl
 line407 : cases.Line407
 unfolding computed
 line407 = refl
+
+line408 : cases.Line408
+unfolding computed
+line408 = refl
 
 line409 : cases.Line409
 unfolding computed
@@ -451,21 +435,29 @@ line429 : cases.Line429
 unfolding computed
 line429 = refl
 
+line430 : cases.Line430
+unfolding computed
+line430 = refl
+
 line431 : cases.Line431
 unfolding computed
 line431 = refl
-
-line456 : cases.Line456
-unfolding computed
-line456 = refl
 
 line462 : cases.Line462
 unfolding computed
 line462 = refl
 
+line463 : cases.Line463
+unfolding computed
+line463 = refl
+
 line464 : cases.Line464
 unfolding computed
 line464 = refl
+
+line466 : cases.Line466
+unfolding computed
+line466 = refl
 
 line471 : cases.Line471
 unfolding computed
@@ -479,13 +471,13 @@ line473 : cases.Line473
 unfolding computed
 line473 = refl
 
-line478 : cases.Line478
+line481 : cases.Line481
 unfolding computed
-line478 = refl
+line481 = refl
 
-line484 : cases.Line484
+line489 : cases.Line489
 unfolding computed
-line484 = refl
+line489 = refl
 
 line494 : cases.Line494
 unfolding computed
@@ -494,14 +486,6 @@ line494 = refl
 line495 : cases.Line495
 unfolding computed
 line495 = refl
-
-line496 : cases.Line496
-unfolding computed
-line496 = refl
-
-line497 : cases.Line497
-unfolding computed
-line497 = refl
 
 line498 : cases.Line498
 unfolding computed
@@ -515,6 +499,14 @@ line500 : cases.Line500
 unfolding computed
 line500 = refl
 
+line501 : cases.Line501
+unfolding computed
+line501 = refl
+
+line506 : cases.Line506
+unfolding computed
+line506 = refl
+
 line508 : cases.Line508
 unfolding computed
 line508 = refl
@@ -527,29 +519,17 @@ line511 : cases.Line511
 unfolding computed
 line511 = refl
 
-line515 : cases.Line515
+line512 : cases.Line512
 unfolding computed
-line515 = refl
+line512 = refl
 
 line516 : cases.Line516
 unfolding computed
 line516 = refl
 
-line517 : cases.Line517
+line534 : cases.Line534
 unfolding computed
-line517 = refl
-
-line518 : cases.Line518
-unfolding computed
-line518 = refl
-
-line519 : cases.Line519
-unfolding computed
-line519 = refl
-
-line520 : cases.Line520
-unfolding computed
-line520 = refl
+line534 = refl
 
 line537 : cases.Line537
 unfolding computed
@@ -583,10 +563,6 @@ line554 : cases.Line554
 unfolding computed
 line554 = refl
 
-line555 : cases.Line555
-unfolding computed
-line555 = refl
-
 line560 : cases.Line560
 unfolding computed
 line560 = refl
@@ -610,10 +586,6 @@ line580 = refl
 line597 : cases.Line597
 unfolding computed
 line597 = refl
-
-line598 : cases.Line598
-unfolding computed
-line598 = refl
 
 line599 : cases.Line599
 unfolding computed
@@ -643,10 +615,6 @@ line611 : cases.Line611
 unfolding computed
 line611 = refl
 
-line612 : cases.Line612
-unfolding computed
-line612 = refl
-
 line613 : cases.Line613
 unfolding computed
 line613 = refl
@@ -658,10 +626,6 @@ line614 = refl
 line622 : cases.Line622
 unfolding computed
 line622 = refl
-
-line625 : cases.Line625
-unfolding computed
-line625 = refl
 
 line626 : cases.Line626
 unfolding computed
@@ -683,14 +647,6 @@ line630 : cases.Line630
 unfolding computed
 line630 = refl
 
-line631 : cases.Line631
-unfolding computed
-line631 = refl
-
-line632 : cases.Line632
-unfolding computed
-line632 = refl
-
 line636 : cases.Line636
 unfolding computed
 line636 = refl
@@ -699,9 +655,17 @@ line637 : cases.Line637
 unfolding computed
 line637 = refl
 
+line638 : cases.Line638
+unfolding computed
+line638 = refl
+
 line640 : cases.Line640
 unfolding computed
 line640 = refl
+
+line641 : cases.Line641
+unfolding computed
+line641 = refl
 
 line642 : cases.Line642
 unfolding computed
@@ -710,10 +674,6 @@ line642 = refl
 line646 : cases.Line646
 unfolding computed
 line646 = refl
-
-line647 : cases.Line647
-unfolding computed
-line647 = refl
 
 line650 : cases.Line650
 unfolding computed
@@ -727,21 +687,9 @@ line654 : cases.Line654
 unfolding computed
 line654 = refl
 
-line655 : cases.Line655
-unfolding computed
-line655 = refl
-
-line656 : cases.Line656
-unfolding computed
-line656 = refl
-
 line660 : cases.Line660
 unfolding computed
 line660 = refl
-
-line661 : cases.Line661
-unfolding computed
-line661 = refl
 
 line662 : cases.Line662
 unfolding computed
@@ -751,13 +699,13 @@ line663 : cases.Line663
 unfolding computed
 line663 = refl
 
-line665 : cases.Line665
-unfolding computed
-line665 = refl
-
 line669 : cases.Line669
 unfolding computed
 line669 = refl
+
+line689 : cases.Line689
+unfolding computed
+line689 = refl
 
 line695 : cases.Line695
 unfolding computed
@@ -771,21 +719,17 @@ line714 : cases.Line714
 unfolding computed
 line714 = refl
 
-line717 : cases.Line717
-unfolding computed
-line717 = refl
-
 line721 : cases.Line721
 unfolding computed
 line721 = refl
 
-line722 : cases.Line722
+line725 : cases.Line725
 unfolding computed
-line722 = refl
+line725 = refl
 
-line723 : cases.Line723
+line727 : cases.Line727
 unfolding computed
-line723 = refl
+line727 = refl
 
 line733 : cases.Line733
 unfolding computed
@@ -807,30 +751,6 @@ line738 : cases.Line738
 unfolding computed
 line738 = refl
 
-line740 : cases.Line740
-unfolding computed
-line740 = refl
-
-line741 : cases.Line741
-unfolding computed
-line741 = refl
-
-line742 : cases.Line742
-unfolding computed
-line742 = refl
-
-line746 : cases.Line746
-unfolding computed
-line746 = refl
-
-line748 : cases.Line748
-unfolding computed
-line748 = refl
-
-line749 : cases.Line749
-unfolding computed
-line749 = refl
-
 line751 : cases.Line751
 unfolding computed
 line751 = refl
@@ -838,18 +758,6 @@ line751 = refl
 line762 : cases.Line762
 unfolding computed
 line762 = refl
-
-line765 : cases.Line765
-unfolding computed
-line765 = refl
-
-line773 : cases.Line773
-unfolding computed
-line773 = refl
-
-line782 : cases.Line782
-unfolding computed
-line782 = refl
 
 line784 : cases.Line784
 unfolding computed
@@ -863,21 +771,9 @@ line793 : cases.Line793
 unfolding computed
 line793 = refl
 
-line794 : cases.Line794
-unfolding computed
-line794 = refl
-
 line795 : cases.Line795
 unfolding computed
 line795 = refl
-
-line796 : cases.Line796
-unfolding computed
-line796 = refl
-
-line797 : cases.Line797
-unfolding computed
-line797 = refl
 
 line799 : cases.Line799
 unfolding computed
@@ -899,21 +795,9 @@ line818 : cases.Line818
 unfolding computed
 line818 = refl
 
-line821 : cases.Line821
-unfolding computed
-line821 = refl
-
 line823 : cases.Line823
 unfolding computed
 line823 = refl
-
-line824 : cases.Line824
-unfolding computed
-line824 = refl
-
-line825 : cases.Line825
-unfolding computed
-line825 = refl
 
 line827 : cases.Line827
 unfolding computed
@@ -931,17 +815,9 @@ line832 : cases.Line832
 unfolding computed
 line832 = refl
 
-line839 : cases.Line839
+line834 : cases.Line834
 unfolding computed
-line839 = refl
-
-line840 : cases.Line840
-unfolding computed
-line840 = refl
-
-line841 : cases.Line841
-unfolding computed
-line841 = refl
+line834 = refl
 
 line842 : cases.Line842
 unfolding computed
@@ -954,10 +830,6 @@ line843 = refl
 line846 : cases.Line846
 unfolding computed
 line846 = refl
-
-line847 : cases.Line847
-unfolding computed
-line847 = refl
 
 line848 : cases.Line848
 unfolding computed
@@ -987,17 +859,25 @@ line888 : cases.Line888
 unfolding computed
 line888 = refl
 
+line890 : cases.Line890
+unfolding computed
+line890 = refl
+
 line893 : cases.Line893
 unfolding computed
 line893 = refl
 
-line896 : cases.Line896
-unfolding computed
-line896 = refl
-
 line900 : cases.Line900
 unfolding computed
 line900 = refl
+
+line912 : cases.Line912
+unfolding computed
+line912 = refl
+
+line918 : cases.Line918
+unfolding computed
+line918 = refl
 
 line924 : cases.Line924
 unfolding computed
@@ -1095,10 +975,6 @@ line995 : cases.Line995
 unfolding computed
 line995 = refl
 
-line998 : cases.Line998
-unfolding computed
-line998 = refl
-
 line999 : cases.Line999
 unfolding computed
 line999 = refl
@@ -1106,10 +982,6 @@ line999 = refl
 line1000 : cases.Line1000
 unfolding computed
 line1000 = refl
-
-line1001 : cases.Line1001
-unfolding computed
-line1001 = refl
 
 line1002 : cases.Line1002
 unfolding computed
@@ -1151,10 +1023,6 @@ line1021 : cases.Line1021
 unfolding computed
 line1021 = refl
 
-line1022 : cases.Line1022
-unfolding computed
-line1022 = refl
-
 line1023 : cases.Line1023
 unfolding computed
 line1023 = refl
@@ -1183,9 +1051,9 @@ line1036 : cases.Line1036
 unfolding computed
 line1036 = refl
 
-line1040 : cases.Line1040
+line1039 : cases.Line1039
 unfolding computed
-line1040 = refl
+line1039 = refl
 
 line1043 : cases.Line1043
 unfolding computed
@@ -1207,13 +1075,13 @@ line1050 : cases.Line1050
 unfolding computed
 line1050 = refl
 
+line1053 : cases.Line1053
+unfolding computed
+line1053 = refl
+
 line1056 : cases.Line1056
 unfolding computed
 line1056 = refl
-
-line1063 : cases.Line1063
-unfolding computed
-line1063 = refl
 
 line1075 : cases.Line1075
 unfolding computed
@@ -1227,29 +1095,33 @@ line1077 : cases.Line1077
 unfolding computed
 line1077 = refl
 
-line1081 : cases.Line1081
+line1087 : cases.Line1087
 unfolding computed
-line1081 = refl
+line1087 = refl
 
 line1088 : cases.Line1088
 unfolding computed
 line1088 = refl
 
-line1095 : cases.Line1095
-unfolding computed
-line1095 = refl
-
 line1102 : cases.Line1102
 unfolding computed
 line1102 = refl
 
-line1113 : cases.Line1113
+line1121 : cases.Line1121
 unfolding computed
-line1113 = refl
+line1121 = refl
 
-line1117 : cases.Line1117
+line1126 : cases.Line1126
 unfolding computed
-line1117 = refl
+line1126 = refl
+
+line1131 : cases.Line1131
+unfolding computed
+line1131 = refl
+
+line1133 : cases.Line1133
+unfolding computed
+line1133 = refl
 
 line1143 : cases.Line1143
 unfolding computed
@@ -1259,25 +1131,17 @@ line1149 : cases.Line1149
 unfolding computed
 line1149 = refl
 
+line1150 : cases.Line1150
+unfolding computed
+line1150 = refl
+
 line1153 : cases.Line1153
 unfolding computed
 line1153 = refl
 
-line1157 : cases.Line1157
-unfolding computed
-line1157 = refl
-
-line1164 : cases.Line1164
-unfolding computed
-line1164 = refl
-
 line1168 : cases.Line1168
 unfolding computed
 line1168 = refl
-
-line1178 : cases.Line1178
-unfolding computed
-line1178 = refl
 
 line1184 : cases.Line1184
 unfolding computed
@@ -1299,13 +1163,13 @@ line1190 : cases.Line1190
 unfolding computed
 line1190 = refl
 
-line1192 : cases.Line1192
-unfolding computed
-line1192 = refl
-
 line1199 : cases.Line1199
 unfolding computed
 line1199 = refl
+
+line1202 : cases.Line1202
+unfolding computed
+line1202 = refl
 
 line1206 : cases.Line1206
 unfolding computed
@@ -1318,10 +1182,6 @@ line1207 = refl
 line1208 : cases.Line1208
 unfolding computed
 line1208 = refl
-
-line1217 : cases.Line1217
-unfolding computed
-line1217 = refl
 
 line1219 : cases.Line1219
 unfolding computed
@@ -1339,6 +1199,10 @@ line1223 : cases.Line1223
 unfolding computed
 line1223 = refl
 
+line1234 : cases.Line1234
+unfolding computed
+line1234 = refl
+
 line1235 : cases.Line1235
 unfolding computed
 line1235 = refl
@@ -1354,18 +1218,6 @@ line1239 = refl
 line1246 : cases.Line1246
 unfolding computed
 line1246 = refl
-
-line1247 : cases.Line1247
-unfolding computed
-line1247 = refl
-
-line1248 : cases.Line1248
-unfolding computed
-line1248 = refl
-
-line1250 : cases.Line1250
-unfolding computed
-line1250 = refl
 
 line1254 : cases.Line1254
 unfolding computed
@@ -1391,13 +1243,13 @@ line1265 : cases.Line1265
 unfolding computed
 line1265 = refl
 
-line1288 : cases.Line1288
-unfolding computed
-line1288 = refl
-
 line1292 : cases.Line1292
 unfolding computed
 line1292 = refl
+
+line1294 : cases.Line1294
+unfolding computed
+line1294 = refl
 
 line1302 : cases.Line1302
 unfolding computed
@@ -1411,9 +1263,9 @@ line1317 : cases.Line1317
 unfolding computed
 line1317 = refl
 
-line1320 : cases.Line1320
+line1321 : cases.Line1321
 unfolding computed
-line1320 = refl
+line1321 = refl
 
 line1326 : cases.Line1326
 unfolding computed
@@ -1427,9 +1279,13 @@ line1328 : cases.Line1328
 unfolding computed
 line1328 = refl
 
-line1330 : cases.Line1330
+line1337 : cases.Line1337
 unfolding computed
-line1330 = refl
+line1337 = refl
+
+line1351 : cases.Line1351
+unfolding computed
+line1351 = refl
 
 line1358 : cases.Line1358
 unfolding computed
@@ -1451,6 +1307,10 @@ line1363 : cases.Line1363
 unfolding computed
 line1363 = refl
 
+line1371 : cases.Line1371
+unfolding computed
+line1371 = refl
+
 line1372 : cases.Line1372
 unfolding computed
 line1372 = refl
@@ -1467,13 +1327,13 @@ line1377 : cases.Line1377
 unfolding computed
 line1377 = refl
 
-line1378 : cases.Line1378
+line1381 : cases.Line1381
 unfolding computed
-line1378 = refl
+line1381 = refl
 
-line1380 : cases.Line1380
+line1384 : cases.Line1384
 unfolding computed
-line1380 = refl
+line1384 = refl
 
 line1388 : cases.Line1388
 unfolding computed
@@ -1491,41 +1351,9 @@ line1398 : cases.Line1398
 unfolding computed
 line1398 = refl
 
-line1399 : cases.Line1399
-unfolding computed
-line1399 = refl
-
-line1400 : cases.Line1400
-unfolding computed
-line1400 = refl
-
-line1401 : cases.Line1401
-unfolding computed
-line1401 = refl
-
-line1403 : cases.Line1403
-unfolding computed
-line1403 = refl
-
-line1404 : cases.Line1404
-unfolding computed
-line1404 = refl
-
-line1405 : cases.Line1405
-unfolding computed
-line1405 = refl
-
 line1406 : cases.Line1406
 unfolding computed
 line1406 = refl
-
-line1407 : cases.Line1407
-unfolding computed
-line1407 = refl
-
-line1408 : cases.Line1408
-unfolding computed
-line1408 = refl
 
 line1410 : cases.Line1410
 unfolding computed
