@@ -1,0 +1,49 @@
+//! The library's functions as they stand: a part of memory is lent as address and length, and the
+//! answer is one word, class × 2^56 + a × 2^32 + b.
+
+extern "C" {
+    #[cfg(feature = "accept")]
+    pub fn bench_accept(dossier: *const u8, length: usize) -> u64;
+
+    /// The mark's first letter is the high byte; the key bytes form one number, 0 for RS.
+    #[cfg(feature = "accept")]
+    pub fn bench_current(dossier: *const u8, length: usize, mark: u16, key: u32) -> u64;
+
+    #[cfg(feature = "levels")]
+    pub fn bench_levels(
+        dossier: *const u8,
+        length: usize,
+        hour: u32,
+        words: *mut u64,
+        count: usize,
+    ) -> u64;
+
+    #[cfg(feature = "conduct")]
+    pub fn bench_energy_test(
+        dossier: *const u8,
+        length: usize,
+        hour: u32,
+        condition: u8,
+        offer: *const u8,
+        offer_length: usize,
+    ) -> u64;
+
+    #[cfg(feature = "conduct")]
+    pub fn bench_price_test(
+        dossier: *const u8,
+        length: usize,
+        hour: u32,
+        level: u8,
+        condition: u8,
+        price: i32,
+    ) -> u64;
+
+    #[cfg(feature = "report")]
+    pub fn bench_report(
+        dossier: *const u8,
+        length: usize,
+        hour: u32,
+        buffer: *mut u8,
+        buffer_length: usize,
+    ) -> u64;
+}

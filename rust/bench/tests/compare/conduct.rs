@@ -1,0 +1,133 @@
+//! The conduct test of energy offers and single prices, also under a raise.
+
+use crate::cases::{run, same, Check};
+use crate::refusal;
+use model::make::offers::{bytes, condition, level, offer, price, Target};
+use model::make::written::{r1, record};
+use model::make::{self, sound};
+use model::raise::raised;
+use model::random::Random;
+use model::vectors::{read, Vector};
+use model::Verdict;
+
+fn model_verdict(verdict: bench::Verdict) -> Verdict {
+    match verdict {
+        bench::Verdict::Passes => Verdict::Passes,
+        bench::Verdict::Fails { pair, lamination } => Verdict::Fails { pair, lamination },
+        bench::Verdict::Refused(refused) => Verdict::Refused(refusal(refused)),
+    }
+}
+
+fn energy(dossier: &[u8], hour: u32, condition: u8, offer: &[u8]) -> Verdict {
+    model_verdict(bench::energy_test(dossier, hour, condition, offer))
+}
+
+fn single(dossier: &[u8], hour: u32, level: u8, condition: u8, price: i32) -> Verdict {
+    model_verdict(bench::price_test(dossier, hour, level, condition, price))
+}
+
+/// Mostly dossiers that the test gets beyond acceptance with.
+fn mostly_sound(random: &mut Random) -> Vec<u8> {
+    if random.one_in(8) {
+        make::dossier(random)
+    } else {
+        sound::sound(random).bytes()
+    }
+}
+
+/// Four offers and four prices; what passes must pass under a raise too.
+fn check(random: &mut Random, dossier: &[u8]) -> Check {
+    let hour = make::hour(random, dossier);
+    let target = Target::of(dossier, hour);
+    let raise = model::accept(dossier)
+        .map(|()| raised(random, dossier))
+        .ok();
+    for _ in 0..4 {
+        let condition = condition(random);
+        let offer = offer(random, &target, condition);
+        let verdict = energy(dossier, hour, condition, &offer);
+        let model = model::energy_test(dossier, hour, condition, &offer);
+        same(
+            &format!("at {hour}, {condition}, {offer:?}"),
+            verdict,
+            model,
+        )?;
+        let level = level(random, &target);
+        let price = price(random, &target, level, condition);
+        let single_verdict = single(dossier, hour, level, condition, price);
+        let model = model::price_test(dossier, hour, level, condition, price);
+        let what = format!("at {hour}, {condition}, level {level}, {price}");
+        same(&what, single_verdict, model)?;
+        let Some(raise) = &raise else { continue };
+        if verdict == Verdict::Passes {
+            let after = energy(raise, hour, condition, &offer);
+            same("under a raise", after, verdict)?;
+        }
+        if single_verdict == Verdict::Passes {
+            let after = single(raise, hour, level, condition, price);
+            same("under a raise", after, single_verdict)?;
+        }
+    }
+    Ok(())
+}
+
+/// 200,000 offers and as many prices.
+#[test]
+fn offers_and_prices() {
+    run("conduct", 50_000, mostly_sound, check);
+}
+
+#[test]
+fn twenty_pairs_and_other_lengths() {
+    let dossier = [r1(), record(b"TH", 1, &[1, 1, 50, 2_500, 0])].concat();
+    for top in [6_345, 6_346] {
+        let pairs: Vec<_> = (1..=22).map(|n| (n, top)).collect();
+        let offer = bytes(&pairs);
+        for length in 0..offer.len() {
+            let offer = &offer[..length];
+            let model = model::energy_test(&dossier, 0, 1, offer);
+            same("verdict", energy(&dossier, 0, 1, offer), model).unwrap();
+        }
+    }
+}
+
+/// Every byte for level and condition.
+#[test]
+fn levels_and_conditions() {
+    let dossier = [r1(), record(b"TH", 1, &[3, 4, 0, 0, 0])].concat();
+    for (level, condition) in (0..=255).flat_map(|l| (0..=255).map(move |c| (l, c))) {
+        let model = model::price_test(&dossier, 0, level, condition, 26);
+        let verdict = single(&dossier, 0, level, condition, 26);
+        same("verdict", verdict, model).unwrap();
+    }
+}
+
+#[test]
+fn every_vector() {
+    for vector in read() {
+        match &vector {
+            Vector::Energy {
+                dossier,
+                hour,
+                condition,
+                offer,
+                verdict,
+            } => {
+                let found = energy(dossier, *hour, *condition, offer);
+                assert_eq!(found, *verdict, "{vector:?}");
+            }
+            Vector::Price {
+                dossier,
+                hour,
+                level,
+                condition,
+                price,
+                verdict,
+            } => {
+                let found = single(dossier, *hour, *level, *condition, *price);
+                assert_eq!(found, *verdict, "{vector:?}");
+            }
+            _ => {}
+        }
+    }
+}

@@ -1,0 +1,156 @@
+//! Levels, with the promised distance to the exact levels and under a raise.
+
+use crate::cases::{run, same, Check};
+use crate::refusal;
+use model::exact::{all_near, exact_levels};
+use model::levels::{Lamination, Levels};
+use model::make::written::evenly_rising;
+use model::make::{self, sound};
+use model::raise::{none_lower, raised};
+use model::random::Random;
+use model::report::text;
+use model::vectors::{read, Vector};
+use model::Refusal;
+
+const STEPS: usize = 20;
+
+/// The words that stand for levels.
+fn words(levels: &Levels<u64>) -> Vec<u64> {
+    let mut words = vec![levels.profile.into(), levels.energy.len() as u64];
+    let none = Lamination {
+        from: 0,
+        to: 0,
+        level: 0,
+    };
+    for i in 0..STEPS {
+        let step = levels.energy.get(i).unwrap_or(&none);
+        words.extend([step.from.into(), step.to.into(), step.level]);
+    }
+    let held = levels.single().map(|(number, _)| 1 << (number - 1));
+    words.push(1 + held.sum::<u64>());
+    let single = [levels.start, levels.no_load, levels.reserve];
+    words.extend(single.map(|level| level.unwrap_or(0)));
+    words
+}
+
+/// What the model leaves in a list of words, and the answer beside it.
+fn expected(
+    levels: &Result<Levels<u64>, Refusal>,
+    mut list: Vec<u64>,
+) -> (Result<usize, Refusal>, Vec<u64>) {
+    let written = levels.as_ref().map_err(|r| *r).and_then(|levels| {
+        let words = words(levels);
+        let short = Refusal {
+            number: 15,
+            place: 0,
+        };
+        let head = list.get_mut(..words.len()).ok_or(short)?;
+        head.copy_from_slice(&words);
+        Ok(words.len())
+    });
+    (written, list)
+}
+
+/// Bench's answer in the model's terms.
+fn model_levels(dossier: &[u8], hour: u32) -> Result<Levels<u64>, Refusal> {
+    let levels = bench::levels(dossier, hour).map_err(refusal)?;
+    let steps = levels.energy.iter().map(|step| Lamination {
+        from: step.from,
+        to: step.to,
+        level: step.level,
+    });
+    Ok(Levels {
+        profile: levels.profile,
+        energy: steps.collect(),
+        start: levels.start,
+        no_load: levels.no_load,
+        reserve: levels.reserve,
+    })
+}
+
+fn check_hour(random: &mut Random, dossier: &[u8], hour: u32) -> Check {
+    let model = model::levels(dossier, hour);
+    let found = model_levels(dossier, hour);
+    same(&format!("levels at {hour}"), &found, &model)?;
+    let count = random.pick(&[0, 65, 66, 70]);
+    let before: Vec<u64> = (0..count).map(|_| random.next()).collect();
+    let mut list = before.clone();
+    let written = bench::levels_into(dossier, hour, &mut list).map_err(refusal);
+    let what = format!("{count} words at {hour}");
+    same(&what, (written, list), expected(&model, before))?;
+    match found {
+        Ok(found) => {
+            let exact = exact_levels(dossier, hour).expect("an accepted dossier");
+            same("the promised distance", all_near(&found, &exact), true)
+        }
+        Err(_) => Ok(()),
+    }
+}
+
+fn check(random: &mut Random, dossier: &[u8]) -> Check {
+    for _ in 0..3 {
+        let hour = make::hour(random, dossier);
+        check_hour(random, dossier, hour)?;
+    }
+    Ok(())
+}
+
+/// 210,000 dossiers with an hour.
+#[test]
+fn dossiers_of_every_sort() {
+    run("levels", 70_000, make::dossier, check);
+}
+
+#[test]
+fn sums_at_the_half_cent() {
+    let check = |random: &mut Random, dossier: &[u8]| check_hour(random, dossier, 0);
+    run(
+        "levels at the half cent",
+        10_000,
+        sound::at_half_cent,
+        check,
+    );
+}
+
+#[test]
+fn a_raise_lowers_no_level() {
+    let make = |random: &mut Random| sound::sound(random).bytes();
+    run("levels of a raise", 20_000, make, |random, dossier| {
+        let raised = raised(random, dossier);
+        let hour = make::hour(random, dossier);
+        let before = model_levels(dossier, hour);
+        let after = model_levels(&raised, hour);
+        let (Ok(before), Ok(after)) = (before, after) else {
+            return Err("a raise or its base is refused".to_string());
+        };
+        same("no level is lower", none_lower(&before, &after), true)
+    });
+}
+
+#[test]
+fn edges() {
+    for points in 2..=22 {
+        check(&mut Random::new(0), &evenly_rising(points, 1_000)).unwrap();
+    }
+    let mut random = Random::new(60_000);
+    for _ in 0..10 {
+        let mut dossier = sound::filled(&mut random, 60_000).bytes();
+        check_hour(&mut random, &dossier, 0).unwrap();
+        dossier.push(0);
+        check_hour(&mut random, &dossier, 0).unwrap();
+    }
+}
+
+#[test]
+fn every_vector() {
+    for vector in read() {
+        let Vector::Program { input, output } = &vector else {
+            continue;
+        };
+        if output.starts_with(b"profile") {
+            let (hour, dossier) = input.split_first_chunk().expect("an hour");
+            let levels = model_levels(dossier, u32::from_be_bytes(*hour));
+            assert_eq!(text(&levels.unwrap()), *output, "{vector:?}");
+        }
+    }
+}

@@ -1,0 +1,79 @@
+//! The report, with the lent buffer compared to its last byte.
+
+use crate::cases::{run, same, Check};
+use crate::refusal;
+use model::make::written::{r1, R1_LINES};
+use model::make::{self, sound};
+use model::random::Random;
+use model::report::{refusal_line, text};
+use model::vectors::{read, Vector};
+
+/// One buffer of this length, filled before the call.
+fn check_buffer(random: &mut Random, dossier: &[u8], hour: u32, length: usize) -> Check {
+    let before: Vec<u8> = (0..length).map(|_| random.next() as u8).collect();
+    let (mut mine, mut yours) = (before.clone(), before);
+    let written = bench::report(dossier, hour, &mut mine).map_err(refusal);
+    let model = model::report(dossier, hour, &mut yours);
+    let what = format!("a buffer of {length} bytes at {hour}");
+    same(&what, (written, mine), (model, yours))
+}
+
+/// Buffers just too short, just long enough, and far from either.
+fn check(random: &mut Random, dossier: &[u8]) -> Check {
+    let hour = make::hour(random, dossier);
+    let length = model::levels(dossier, hour).map_or(3, |levels| text(&levels).len());
+    let far = random.spread(0, 2_000) as usize;
+    for length in [length - 1, length, length + 1, far] {
+        check_buffer(random, dossier, hour, length)?;
+    }
+    Ok(())
+}
+
+#[test]
+fn dossiers_of_every_sort() {
+    run("report", 50_000, make::dossier, check);
+}
+
+#[test]
+fn every_length_of_a_buffer() {
+    let mut random = Random::new(1);
+    for _ in 0..20 {
+        let dossier = sound::sound(&mut random).bytes();
+        let length = text(&model::levels(&dossier, 0).unwrap()).len();
+        for length in 0..length + 20 {
+            check_buffer(&mut random, &dossier, 0, length).unwrap();
+        }
+    }
+}
+
+#[test]
+fn r1_byte_for_byte() {
+    let mut buffer = [b'x'; 100];
+    assert_eq!(bench::report(&r1(), 0, &mut buffer), Ok(R1_LINES.len()));
+    assert!(buffer.starts_with(R1_LINES));
+    assert!(buffer[R1_LINES.len()..].iter().all(|byte| *byte == b'x'));
+}
+
+#[test]
+fn the_longest_dossiers() {
+    let make = |random: &mut Random| sound::filled(random, 60_000).bytes();
+    run("report of 60,000 bytes", 10, make, check);
+}
+
+#[test]
+fn every_vector() {
+    for vector in read() {
+        let Vector::Program { input, output } = &vector else {
+            continue;
+        };
+        if let Some((hour, dossier)) = input.split_first_chunk() {
+            let mut buffer = vec![b'x'; output.len()];
+            let written = bench::report(dossier, u32::from_be_bytes(*hour), &mut buffer);
+            let text = match written.map_err(refusal) {
+                Ok(length) => buffer[..length].to_vec(),
+                Err(refusal) => refusal_line(refusal),
+            };
+            assert_eq!(text, *output, "{vector:?}");
+        }
+    }
+}

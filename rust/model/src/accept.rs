@@ -1,0 +1,121 @@
+//! Acceptance: 5 to 9, each tried over the whole dossier before the next.
+
+use crate::dossier::Record;
+use crate::station::{Current, Station};
+use crate::table::{ad, fu, hp, mm, rq, rs, th, Field, Technology};
+use crate::{refuse, Refusal};
+
+/// Accepted, or refused with number and place.
+pub type Answer = Result<(), Refusal>;
+
+pub fn accept(dossier: &[u8]) -> Answer {
+    accepted(dossier).map(|_| ())
+}
+
+/// The station of an accepted dossier.
+pub fn accepted(dossier: &[u8]) -> Result<Station<'_>, Refusal> {
+    let station = Station::of(Current::of(dossier)?)?;
+    all_fit(&station)?;
+    let sound = [
+        (7, curve_is_sound(&station)),
+        (8, fuel_is_there(&station)),
+        (9, window_is_full(&station)),
+    ];
+    match sound.into_iter().find(|(_, holds)| !holds) {
+        Some((number, _)) => refuse(number, dossier.len()),
+        None => Ok(station),
+    }
+}
+
+/// 6, at the unfit current record that lies first in the dossier.
+fn all_fit(station: &Station) -> Answer {
+    let unfit = station.current.all().filter(|r| !fits(station, r));
+    match unfit.map(|record| record.start).min() {
+        Some(start) => refuse(6, start),
+        None => Ok(()),
+    }
+}
+
+fn fits(station: &Station, record: &Record) -> bool {
+    let technology = station.technology;
+    let thermal = technology == Technology::Thermal;
+    let held = |level: Field| technology.holds(record.get(level) as u8);
+    match &record.kind.mark {
+        b"RS" => rs_fits(technology, record),
+        b"HP" => thermal,
+        b"HR" | b"CH" => technology == Technology::Storage,
+        b"FU" => thermal || record.get(fu::EMISSION) == 0,
+        // Nuclear holds level 1 alone, so a held level is the 1 that cost 5 wants.
+        b"AD" => {
+            let prorated = record.get(ad::COST) == ad::PRORATED;
+            held(ad::LEVEL) && (!prorated || technology == Technology::Nuclear)
+        }
+        b"TH" => held(th::LEVEL),
+        b"MM" => thermal || record.get(mm::S) == 0,
+        _ => true,
+    }
+}
+
+/// Used fields are above 0, except the heats; the others are 0.
+fn rs_fits(technology: Technology, record: &Record) -> bool {
+    let fields = record.kind.fields.iter();
+    let mut special = fields.filter(|f| ![rs::TECHNOLOGY, rs::CAPACITY].contains(f));
+    special.all(|field| {
+        let heat = [rs::START_HEAT, rs::NO_LOAD_HEAT].contains(field);
+        let zero = record.get(*field) == 0;
+        if technology.uses().contains(field) {
+            heat || !zero
+        } else {
+            zero
+        }
+    })
+}
+
+/// 7: the points of a thermal station form a rising curve that bends upwards only.
+fn curve_is_sound(station: &Station) -> bool {
+    if station.technology != Technology::Thermal {
+        return true;
+    }
+    let points: Vec<_> = station.current.of_mark(b"HP").collect();
+    let numbered = (1..).zip(&points).all(|(n, p)| p.get(hp::POINT) == n);
+    let rises: Vec<(i128, i128)> = points.windows(2).map(|p| rise(p[0], p[1])).collect();
+    let rising = rises.iter().all(|(output, heat)| *output > 0 && *heat >= 0);
+    // heat / output of the one lamination against that of the next, multiplied across
+    let bending = rises.windows(2).all(|r| r[0].1 * r[1].0 <= r[1].1 * r[0].0);
+    let last = points.last().map(|p| p.amount(hp::OUTPUT));
+    let complete = points.len() >= 2 && last == Some(station.amount(rs::CAPACITY));
+    numbered && rising && bending && complete
+}
+
+/// From one point to the next: the rise of output and of heat.
+pub fn rise(lower: &Record, upper: &Record) -> (i128, i128) {
+    (
+        upper.get(hp::OUTPUT) - lower.get(hp::OUTPUT),
+        upper.get(hp::HEAT) - lower.get(hp::HEAT),
+    )
+}
+
+/// 8: profile 1 and every profile that a current request names have fuel.
+fn fuel_is_there(station: &Station) -> bool {
+    let requests = station.current.of_mark(b"RQ");
+    let named = requests
+        .map(|r| r.get(rq::PROFILE))
+        .filter(|profile| *profile != rq::WITHDRAWN);
+    let mut wanted = named.chain([1]);
+    wanted.all(|profile| station.current.get(b"FU", &[profile as u8]).is_some())
+}
+
+/// 9: a storage station has 1 to `window` hours of charge and a price for each hour of the window.
+fn window_is_full(station: &Station) -> bool {
+    if station.technology != Technology::Storage {
+        return true;
+    }
+    let window = station.amount(rs::WINDOW);
+    let charged = (1..=window).contains(&hours_of_charge(station));
+    charged && (1..=window).all(|hour| station.current.get(b"HR", &[hour as u8]).is_some())
+}
+
+/// X: the whole hours that the charge lasts at capacity.
+pub fn hours_of_charge(station: &Station) -> u128 {
+    station.amount(rs::CHARGE) / station.amount(rs::CAPACITY)
+}

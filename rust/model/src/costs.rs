@@ -1,0 +1,148 @@
+//! The formulas of "From records to levels", each as the paper prints it, in micro-dollars.
+
+use crate::accept::{hours_of_charge, rise};
+use crate::dossier::Record;
+use crate::levels::{profile_at, Lamination, Money};
+use crate::station::Station;
+use crate::table::{ad, ch, fu, hp, hr, mm, rs, ENERGY, NO_LOAD, START};
+
+/// A station's costs in the profile of an hour.
+pub struct Costs<'s, 'a> {
+    station: &'s Station<'a>,
+    pub profile: u8,
+    fuel: u128,
+    emission: u128,
+}
+
+impl<'s, 'a> Costs<'s, 'a> {
+    pub fn at(station: &'s Station<'a>, hour: u32) -> Self {
+        let profile = profile_at(station, hour);
+        let fuel = station.current.get(b"FU", &[profile]);
+        let fuel = fuel.expect("8 gives each named profile its fuel");
+        Costs {
+            station,
+            profile,
+            fuel: fuel.amount(fu::FUEL),
+            emission: fuel.amount(fu::EMISSION),
+        }
+    }
+
+    /// The AD amounts of one level.
+    pub fn additions<M: Money>(&self, level: u8) -> M {
+        let (profile, level) = (i128::from(self.profile), i128::from(level));
+        let records = self.station.current.of_mark(b"AD");
+        let mine = records.filter(|r| r.get(ad::PROFILE) == profile && r.get(ad::LEVEL) == level);
+        total(mine.map(|r| M::quotient(r.amount(ad::AMOUNT), 1)))
+    }
+
+    /// The profile's MM records, each with its own division.
+    fn maintenance<M: Money>(&self, term: impl Fn(&Record) -> M) -> M {
+        let profile = i128::from(self.profile);
+        let records = self.station.current.of_mark(b"MM");
+        let mine = records.filter(|r| r.get(mm::PROFILE) == profile);
+        total(mine.map(term))
+    }
+
+    /// What AD and MM add to energy.
+    fn energy_additions<M: Money>(&self) -> M {
+        let maintenance = self.maintenance(|r| {
+            let running = r.amount(mm::W) * r.amount(mm::T);
+            M::quotient(r.amount(mm::C) * 100_000, running)
+        });
+        maintenance.plus(&self.additions(ENERGY))
+    }
+
+    /// One lamination between each point and the next; the first reaches down to 0.
+    pub fn thermal_energy<M: Money>(&self) -> Vec<Lamination<M>> {
+        let factor = self.station.amount(rs::FACTOR);
+        let additions: M = self.energy_additions();
+        let points: Vec<_> = self.station.current.of_mark(b"HP").collect();
+        let between = points.windows(2).enumerate().map(|(i, p)| {
+            let (output, heat) = rise(p[0], p[1]);
+            let (output, heat) = (output.unsigned_abs(), heat.unsigned_abs());
+            let fuel = M::quotient(heat * self.fuel * factor, 100_000 * output);
+            let emission = M::quotient(heat * self.emission, 100 * output);
+            Lamination {
+                from: if i == 0 {
+                    0
+                } else {
+                    p[0].get(hp::OUTPUT) as u16
+                },
+                to: p[1].get(hp::OUTPUT) as u16,
+                level: fuel.plus(&emission).plus(&additions),
+            }
+        });
+        between.collect()
+    }
+
+    pub fn one_lamination<M>(&self, level: M) -> Vec<Lamination<M>> {
+        let to = self.station.capacity();
+        vec![Lamination { from: 0, to, level }]
+    }
+
+    pub fn nuclear_energy<M: Money>(&self) -> M {
+        let used = self.station.amount(rs::INCREMENTAL_FUEL);
+        let factor = self.station.amount(rs::FACTOR);
+        let fuel = M::quotient(used * self.fuel * factor, 1_000_000_000);
+        fuel.plus(&self.energy_additions())
+    }
+
+    /// The cost of a given heat, per start or per hour.
+    fn burnt<M: Money>(&self, heat: u128) -> M {
+        let factor = self.station.amount(rs::FACTOR);
+        let fuel = M::quotient(heat * self.fuel * factor, 1_000_000);
+        fuel.plus(&M::quotient(heat * self.emission, 1_000))
+    }
+
+    pub fn start<M: Money>(&self) -> M {
+        let maintenance = self.maintenance(|r| {
+            let per_start = r.amount(mm::C) * r.amount(mm::S) * 1_000;
+            M::quotient(per_start, r.amount(mm::T))
+        });
+        let heat = self.burnt::<M>(self.station.amount(rs::START_HEAT));
+        heat.plus(&maintenance).plus(&self.additions(START))
+    }
+
+    pub fn no_load<M: Money>(&self) -> M {
+        let heat = self.burnt::<M>(self.station.amount(rs::NO_LOAD_HEAT));
+        heat.plus(&self.additions(NO_LOAD))
+    }
+
+    /// The greater of the short-run cost, which AD and MM join, and the opportunity cost.
+    pub fn storage_energy<M: Money>(&self) -> M {
+        let efficiency = self.station.amount(rs::EFFICIENCY);
+        let bought = charging_cost::<M>(self.station).plus(&M::quotient(self.fuel, 1));
+        let stored = bought.times(1_000, efficiency);
+        let short_run = stored.plus(&self.energy_additions());
+        short_run.max(opportunity_cost(self.station))
+    }
+}
+
+fn total<M: Money>(terms: impl Iterator<Item = M>) -> M {
+    terms.fold(M::quotient(0, 1), |sum, term| sum.plus(&term))
+}
+
+/// The mean price of the energy that was charged, over the current intervals.
+pub fn charging_cost<M: Money>(station: &Station) -> M {
+    let intervals = || station.current.of_mark(b"CH");
+    let paid: i128 = intervals()
+        .map(|r| r.get(ch::PRICE) * r.get(ch::ENERGY))
+        .sum();
+    let energy: u128 = intervals().map(|r| r.amount(ch::ENERGY)).sum();
+    if energy == 0 {
+        return M::quotient(0, 1);
+    }
+    M::quotient(paid.max(0).unsigned_abs() * 10_000, energy)
+}
+
+/// The mean of the X highest prices in the window; equal prices count each.
+pub fn opportunity_cost<M: Money>(station: &Station) -> M {
+    let window = station.amount(rs::WINDOW);
+    let hours = station.current.of_mark(b"HR");
+    let inside = hours.filter(|r| r.amount(hr::HOUR) <= window);
+    let mut prices: Vec<i128> = inside.map(|r| r.get(hr::PRICE)).collect();
+    prices.sort_unstable_by(|a, b| b.cmp(a));
+    let x = hours_of_charge(station);
+    let best: i128 = prices[..x as usize].iter().sum();
+    M::quotient(best.max(0).unsigned_abs() * 10_000, x)
+}

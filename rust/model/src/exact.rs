@@ -1,0 +1,46 @@
+//! The exact level: the formulas of `levels.rs` with no division dropped and no cent rounded, and
+//! the distance that demand 3 promises between it and the level.
+
+use crate::accept::accepted;
+use crate::levels::{reckon, Levels, Micro, Money};
+use crate::station::Station;
+use crate::whole::{Ratio, Whole};
+use crate::Refusal;
+
+/// Micro-dollars as one whole number over another.
+impl Money for Ratio {
+    fn quotient(over: u128, under: u128) -> Ratio {
+        Ratio::new(over, under)
+    }
+
+    fn plus(self, other: &Ratio) -> Ratio {
+        Ratio::plus(&self, other)
+    }
+
+    fn times(self, over: u128, under: u128) -> Ratio {
+        Ratio::times(&self, &Ratio::new(over, under))
+    }
+}
+
+pub fn exact_levels(dossier: &[u8], hour: u32) -> Result<Levels<Ratio>, Refusal> {
+    Ok(exact_levels_of(&accepted(dossier)?, hour))
+}
+
+pub fn exact_levels_of(station: &Station, hour: u32) -> Levels<Ratio> {
+    reckon(station, hour)
+}
+
+/// At most 0.005 dollar above the exact level, and less than 0.005011 dollar below it.
+pub fn is_near(cents: u64, exact: &Ratio) -> bool {
+    let level = u128::from(cents) * Micro::PER_CENT;
+    let units = |micro: u128| Whole::from(micro).times(&exact.under);
+    let not_above = units(level) <= exact.over.plus(&units(5_000));
+    let not_below = exact.over < units(level + 5_011);
+    not_above && not_below
+}
+
+/// Whether both are of the same kinds, and every level is near its exact level.
+pub fn all_near(levels: &Levels<u64>, exact: &Levels<Ratio>) -> bool {
+    let mut pairs = levels.all().zip(exact.all());
+    levels.kinds() == exact.kinds() && pairs.all(|(cents, exact)| is_near(*cents, exact))
+}

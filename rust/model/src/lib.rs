@@ -1,0 +1,40 @@
+//! Document 01 in plain Rust: a dossier's acceptance, its levels, the conduct test and the report.
+//!
+//! Bench is run against this crate. It is written to be read beside the paper and not to be fast,
+//! and it shares no code with Bench. The functions named at the end of this page take bytes and
+//! give whole answers; the modules follow the paper's order.
+
+pub mod accept;
+pub mod conduct;
+pub mod costs;
+pub mod dossier;
+pub mod exact;
+pub mod field;
+pub mod levels;
+pub mod make;
+pub mod raise;
+pub mod random;
+pub mod report;
+pub mod station;
+pub mod table;
+pub mod vectors;
+pub mod whole;
+
+pub use accept::{accept, Answer};
+pub use conduct::{energy_test, price_test, Verdict};
+pub use exact::exact_levels;
+pub use levels::levels;
+pub use report::{program, report};
+pub use station::{current, current_start};
+
+/// Why a call is turned back: the number of the rule, and the place where it broke.
+#[derive(Clone, Copy, Debug, PartialEq, Eq)]
+pub struct Refusal {
+    pub number: u8,
+    pub place: usize,
+}
+
+/// The refusal as the error of a result, which is how every function here hands it on.
+pub(crate) fn refuse<T>(number: u8, place: usize) -> Result<T, Refusal> {
+    Err(Refusal { number, place })
+}

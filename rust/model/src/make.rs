@@ -1,0 +1,180 @@
+//! A seeded maker of test dossiers, hours, offers and prices.
+//!
+//! Sound dossiers (`sound`) are accepted; damaged ones (`damage`) draw the number they aim at. The
+//! offers and prices (`offers`) crowd around the floors and limits of the dossier they are put to.
+
+pub mod damage;
+mod incomplete;
+pub mod offers;
+pub mod sound;
+mod stations;
+mod unfit;
+pub mod written;
+
+use crate::random::Random;
+use crate::table::{kind_of, rq, Field, Kind, Mark, Technology, HEAD, TABLE};
+
+/// A dossier in the making: its records in the order they lie.
+#[derive(Clone, Debug)]
+pub struct Draft {
+    pub technology: Technology,
+    pub records: Vec<Vec<u8>>,
+}
+
+impl Draft {
+    pub fn bytes(&self) -> Vec<u8> {
+        self.records.concat()
+    }
+
+    pub fn length(&self) -> usize {
+        self.records.iter().map(Vec::len).sum()
+    }
+
+    /// Where the current records of a mark lie in the list, by rising key.
+    fn current(&self, mark: &Mark) -> Vec<usize> {
+        let mut places: Vec<usize> = (0..self.records.len())
+            .filter(|i| is_whole(&self.records[*i]) && self.records[*i].starts_with(mark))
+            .collect();
+        places.sort_by_key(|i| {
+            let record = &self.records[*i];
+            (key(record).to_vec(), std::cmp::Reverse(issue(record)))
+        });
+        places.dedup_by_key(|i| key(&self.records[*i]).to_vec());
+        places
+    }
+
+    /// Removes every record of a mark and key, current or not.
+    fn remove(&mut self, mark: &Mark, of_key: &[u8]) {
+        let named = |r: &Vec<u8>| is_whole(r) && r.starts_with(mark) && key(r) == of_key;
+        self.records.retain(|r| !named(r));
+    }
+
+    /// Adds a record anywhere, in place of all that share its mark and key.
+    fn put(&mut self, random: &mut Random, record: Vec<u8>) {
+        let kind = kind(&record);
+        let of_key = key(&record).to_vec();
+        self.remove(&kind.mark, &of_key);
+        self.insert(random, record);
+    }
+
+    fn insert(&mut self, random: &mut Random, record: Vec<u8>) {
+        let at = random.below(self.records.len() as u64 + 1) as usize;
+        self.records.insert(at, record);
+    }
+}
+
+fn is_whole(record: &[u8]) -> bool {
+    let kind = record.get(..2).and_then(kind_of);
+    kind.is_some_and(|kind| record.len() == kind.length)
+}
+
+fn kind(record: &[u8]) -> &'static Kind {
+    kind_of(&record[..2]).expect("a whole record")
+}
+
+fn key(record: &[u8]) -> &[u8] {
+    &record[HEAD..HEAD + kind(record).key_width]
+}
+
+fn issue(record: &[u8]) -> u32 {
+    u32::from_be_bytes(record[2..HEAD].try_into().unwrap())
+}
+
+fn set_issue(record: &mut [u8], issue: u32) {
+    record[2..HEAD].copy_from_slice(&issue.to_be_bytes());
+}
+
+/// A value in the field's range, its ends more often than by chance.
+fn value(random: &mut Random, field: Field) -> i128 {
+    let (low, high) = (field.lowest, field.highest);
+    match random.below(8) {
+        0 => low,
+        1 => high,
+        2 if field.allows(0) => 0,
+        3 => low + random.between(0, 3.min(high - low)),
+        4 => high - random.between(0, 3.min(high - low)),
+        5 => random.spread(low.max(0), high),
+        6 if field.signed => -random.spread(0, -low),
+        _ => random.between(low, high),
+    }
+}
+
+/// A record of a mark with every field in range, whatever the technology.
+fn any_record(random: &mut Random, kind: &Kind) -> Vec<u8> {
+    let mut record = vec![0; kind.length];
+    record[..2].copy_from_slice(&kind.mark);
+    for field in kind.fields {
+        let value = value(random, *field);
+        field.write(&mut record, value);
+    }
+    let issue = random.spread(0, u32::MAX.into());
+    set_issue(&mut record, issue as u32);
+    turn_hours(&mut record);
+    record
+}
+
+/// Puts a request's hours in order; leaves other records.
+fn turn_hours(record: &mut [u8]) {
+    if !record.starts_with(b"RQ") {
+        return;
+    }
+    let (first, last) = (rq::FIRST.read(record), rq::LAST.read(record));
+    rq::FIRST.write(record, first.min(last));
+    rq::LAST.write(record, first.max(last));
+}
+
+/// A dossier of any sort: sound, damaged once or twice, or noise.
+pub fn dossier(random: &mut Random) -> Vec<u8> {
+    match random.below(20) {
+        0 => noise(random),
+        1..=2 => damage::damaged_twice(random),
+        3..=9 => damage::damaged(random).1,
+        _ => sound::sound(random).bytes(),
+    }
+}
+
+/// Bytes that nobody ordered: plain noise, noise behind known marks, or a sound dossier with some
+/// bytes changed, lost or added.
+pub fn noise(random: &mut Random) -> Vec<u8> {
+    let mut bytes = Vec::new();
+    match random.below(3) {
+        0 => bytes.resize_with(random.spread(0, 300) as usize, || random.next() as u8),
+        1 => {
+            for _ in 0..random.below(8) {
+                let kind = random.pick(&[&TABLE[0], &TABLE[2], &TABLE[5], &TABLE[8]]);
+                let mut record = any_record(random, kind);
+                let at = random.between(2, record.len() as i128 - 1) as usize;
+                record[at] = random.next() as u8;
+                bytes.extend(record);
+            }
+        }
+        _ => {
+            bytes = sound::sound(random).bytes();
+            for _ in 0..=random.below(3) {
+                let at = random.below(bytes.len() as u64) as usize;
+                match random.below(4) {
+                    0 => drop(bytes.remove(at)),
+                    1 => bytes.insert(at, random.next() as u8),
+                    _ => bytes[at] = random.next() as u8,
+                }
+            }
+        }
+    }
+    bytes
+}
+
+/// An hour for a dossier: often the first or last hour of one of its requests, or a neighbour.
+pub fn hour(random: &mut Random, dossier: &[u8]) -> u32 {
+    let records = crate::dossier::records(dossier).unwrap_or_default();
+    let requests: Vec<_> = records.iter().filter(|r| r.kind.mark == *b"RQ").collect();
+    let ends = [0, i128::from(u32::MAX)];
+    let mut hour = random.pick(&ends);
+    if !requests.is_empty() && !random.one_in(4) {
+        let request = random.pick(&requests);
+        let end = request.get(random.pick(&[rq::FIRST, rq::LAST]));
+        hour = (end + random.between(-1, 1)).clamp(ends[0], ends[1]);
+    } else if random.one_in(2) {
+        hour = random.spread(ends[0], ends[1]);
+    }
+    hour as u32
+}

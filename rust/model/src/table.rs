@@ -1,0 +1,234 @@
+//! "A constant table holds each mark's whole length and key bounds": the nine marks, their fields
+//! with their ranges, and what each technology holds and uses.
+
+pub use crate::field::{Field, Role, HEAD};
+
+pub type Mark = [u8; 2];
+
+/// Every value of a 4-byte field.
+const ANY: i128 = 4_294_967_295;
+
+/// Prices, in cents per MWh.
+pub const PRICE: i128 = 200_000;
+
+pub mod rs {
+    use super::Field;
+    pub const TECHNOLOGY: Field = Field::first(1, 1, 3);
+    pub const CAPACITY: Field = TECHNOLOGY.next(2, 1, 20_000);
+    pub const FACTOR: Field = CAPACITY.next(2, 500, 2_000).or_zero();
+    pub const START_HEAT: Field = FACTOR.next(4, 0, 20_000_000);
+    pub const NO_LOAD_HEAT: Field = START_HEAT.next(4, 0, 20_000_000);
+    pub const INCREMENTAL_FUEL: Field = NO_LOAD_HEAT.next(4, 0, 1_000_000);
+    pub const CHARGE: Field = INCREMENTAL_FUEL.next(4, 0, 1_000_000);
+    pub const EFFICIENCY: Field = CHARGE.next(2, 500, 1_000).or_zero();
+    pub const WINDOW: Field = EFFICIENCY.next(2, 0, 168);
+}
+
+pub mod hp {
+    use super::Field;
+    pub const POINT: Field = Field::first(1, 1, 21).key();
+    pub const OUTPUT: Field = POINT.next(2, 0, 20_000);
+    pub const HEAT: Field = OUTPUT.next(4, 0, 20_000_000);
+}
+
+pub mod fu {
+    use super::Field;
+    pub const PROFILE: Field = Field::first(1, 1, 4).key();
+    pub const FUEL: Field = PROFILE.next(4, 0, 400_000_000).money();
+    pub const EMISSION: Field = FUEL.next(4, 0, 400_000_000).money();
+}
+
+pub mod ad {
+    use super::Field;
+    pub const PROFILE: Field = Field::first(1, 1, 4).key();
+    pub const COST: Field = PROFILE.next(1, 1, 5).key();
+    pub const LEVEL: Field = COST.next(1, 1, 4).key();
+    pub const AMOUNT: Field = LEVEL.next(8, 0, 1_000_000_000_000).money();
+    /// The prorated start-up cost.
+    pub const PRORATED: i128 = 5;
+}
+
+pub mod mm {
+    use super::Field;
+    pub const PROFILE: Field = Field::first(1, 1, 4).key();
+    pub const ITEM: Field = PROFILE.next(1, 1, 8).key();
+    pub const C: Field = ITEM.next(8, 0, 100_000_000_000).money();
+    pub const W: Field = C.next(2, 1, 20_000);
+    pub const T: Field = W.next(4, 1, 1_000_000);
+    pub const S: Field = T.next(2, 0, 10_000);
+}
+
+pub mod rq {
+    use super::{Field, ANY};
+    pub const REQUEST: Field = Field::first(1, 1, 16).key();
+    pub const FIRST: Field = REQUEST.next(4, 0, ANY);
+    pub const LAST: Field = FIRST.next(4, 0, ANY);
+    pub const PROFILE: Field = LAST.next(1, 0, 4);
+    /// The profile of a withdrawn request.
+    pub const WITHDRAWN: i128 = 0;
+}
+
+pub mod hr {
+    use super::{Field, PRICE as P};
+    pub const HOUR: Field = Field::first(1, 1, 168).key();
+    pub const PRICE: Field = HOUR.next(4, -P, P).money();
+}
+
+pub mod ch {
+    use super::{Field, PRICE as P};
+    pub const INTERVAL: Field = Field::first(2, 1, 2_016).key();
+    pub const PRICE: Field = INTERVAL.next(4, -P, P).money();
+    pub const ENERGY: Field = PRICE.next(4, 0, 1_000_000);
+}
+
+pub mod th {
+    use super::{Field, ANY};
+    pub const CONDITION: Field = Field::first(1, 1, 3).key();
+    pub const LEVEL: Field = CONDITION.next(1, 1, 4).key();
+    pub const PERCENT: Field = LEVEL.next(2, 0, 10_000);
+    pub const MARGIN: Field = PERCENT.next(4, 0, ANY);
+    pub const FLOOR: Field = MARGIN.next(4, 0, ANY);
+    /// The margin that means there is none.
+    pub const NONE: i128 = ANY;
+}
+
+/// One kind of record.
+#[derive(Debug)]
+pub struct Kind {
+    pub mark: Mark,
+    pub length: usize,
+    /// How many bytes the key takes; they follow the head.
+    pub key_width: usize,
+    pub fields: &'static [Field],
+}
+
+const fn kind(mark: &Mark, length: usize, key_width: usize, fields: &'static [Field]) -> Kind {
+    Kind {
+        mark: *mark,
+        length,
+        key_width,
+        fields,
+    }
+}
+
+pub static TABLE: [Kind; 9] = [
+    kind(
+        b"RS",
+        31,
+        0,
+        &[
+            rs::TECHNOLOGY,
+            rs::CAPACITY,
+            rs::FACTOR,
+            rs::START_HEAT,
+            rs::NO_LOAD_HEAT,
+            rs::INCREMENTAL_FUEL,
+            rs::CHARGE,
+            rs::EFFICIENCY,
+            rs::WINDOW,
+        ],
+    ),
+    kind(b"HP", 13, 1, &[hp::POINT, hp::OUTPUT, hp::HEAT]),
+    kind(b"FU", 15, 1, &[fu::PROFILE, fu::FUEL, fu::EMISSION]),
+    kind(
+        b"AD",
+        17,
+        3,
+        &[ad::PROFILE, ad::COST, ad::LEVEL, ad::AMOUNT],
+    ),
+    kind(
+        b"MM",
+        24,
+        2,
+        &[mm::PROFILE, mm::ITEM, mm::C, mm::W, mm::T, mm::S],
+    ),
+    kind(
+        b"RQ",
+        16,
+        1,
+        &[rq::REQUEST, rq::FIRST, rq::LAST, rq::PROFILE],
+    ),
+    kind(b"HR", 11, 1, &[hr::HOUR, hr::PRICE]),
+    kind(b"CH", 16, 2, &[ch::INTERVAL, ch::PRICE, ch::ENERGY]),
+    kind(
+        b"TH",
+        18,
+        2,
+        &[th::CONDITION, th::LEVEL, th::PERCENT, th::MARGIN, th::FLOOR],
+    ),
+];
+
+/// The kind that a mark names, if it names one.
+pub fn kind_of(mark: &[u8]) -> Option<&'static Kind> {
+    TABLE.iter().find(|kind| kind.mark == mark)
+}
+
+#[derive(Clone, Copy, Debug, PartialEq, Eq)]
+pub enum Technology {
+    Thermal,
+    Nuclear,
+    Storage,
+}
+
+pub const TECHNOLOGIES: [Technology; 3] = [
+    Technology::Thermal,
+    Technology::Nuclear,
+    Technology::Storage,
+];
+
+pub const ENERGY: u8 = 1;
+pub const START: u8 = 2;
+pub const NO_LOAD: u8 = 3;
+pub const RESERVE: u8 = 4;
+
+impl Technology {
+    /// The byte that stands for it in an RS.
+    pub fn byte(self) -> i128 {
+        match self {
+            Technology::Thermal => 1,
+            Technology::Nuclear => 2,
+            Technology::Storage => 3,
+        }
+    }
+
+    /// The levels it has.
+    pub fn levels(self) -> &'static [u8] {
+        match self {
+            Technology::Thermal => &[ENERGY, START, NO_LOAD, RESERVE],
+            Technology::Nuclear => &[ENERGY],
+            Technology::Storage => &[ENERGY, RESERVE],
+        }
+    }
+
+    pub fn holds(self, level: u8) -> bool {
+        self.levels().contains(&level)
+    }
+
+    /// The RS fields that it uses, of those that not every technology uses.
+    pub fn uses(self) -> &'static [Field] {
+        match self {
+            Technology::Thermal => &[rs::FACTOR, rs::START_HEAT, rs::NO_LOAD_HEAT],
+            Technology::Nuclear => &[rs::FACTOR, rs::INCREMENTAL_FUEL],
+            Technology::Storage => &[rs::CHARGE, rs::EFFICIENCY, rs::WINDOW],
+        }
+    }
+}
+
+#[cfg(test)]
+mod tests {
+    use super::*;
+
+    /// Keys come first, fields lie back to back, and they fill the printed length.
+    #[test]
+    fn fields_fill_their_records() {
+        for kind in &TABLE {
+            let mut at = HEAD;
+            for field in kind.fields {
+                assert_eq!(field.at, at);
+                assert_eq!(field.role == Role::Key, at < HEAD + kind.key_width);
+                at += field.width;
+            }
+            assert_eq!(at, kind.length, "{:?}", kind.mark);
+        }
+    }
+}

@@ -1,0 +1,107 @@
+//! The cases with their expected answers: one a line, words parted by a space, bytes in
+//! hexadecimal, `-` for none.
+
+use crate::{Refusal, Verdict};
+
+#[derive(Debug)]
+pub enum Vector {
+    Program {
+        input: Vec<u8>,
+        output: Vec<u8>,
+    },
+    /// The part is its start and bytes.
+    Lookup {
+        dossier: Vec<u8>,
+        mark: [u8; 2],
+        key: Vec<u8>,
+        part: Option<(usize, Vec<u8>)>,
+    },
+    Energy {
+        dossier: Vec<u8>,
+        hour: u32,
+        condition: u8,
+        offer: Vec<u8>,
+        verdict: Verdict,
+    },
+    Price {
+        dossier: Vec<u8>,
+        hour: u32,
+        level: u8,
+        condition: u8,
+        price: i32,
+        verdict: Verdict,
+    },
+}
+
+/// The vectors in the repository's data folder.
+pub fn read() -> Vec<Vector> {
+    let path = concat!(env!("CARGO_MANIFEST_DIR"), "/../../data/document-01.txt");
+    let text = std::fs::read_to_string(path).expect(path);
+    text.lines().map(vector).collect()
+}
+
+fn vector(line: &str) -> Vector {
+    let words: Vec<&str> = line.split(' ').collect();
+    match words[..] {
+        ["program", input, output] => Vector::Program {
+            input: bytes(input),
+            output: bytes(output),
+        },
+        ["lookup", dossier, mark, key, start, record] => Vector::Lookup {
+            dossier: bytes(dossier),
+            mark: mark.as_bytes().try_into().unwrap(),
+            key: bytes(key),
+            part: (start != "-").then(|| (number(start), bytes(record))),
+        },
+        ["energy", dossier, hour, condition, offer, answer] => Vector::Energy {
+            dossier: bytes(dossier),
+            hour: number(hour),
+            condition: number(condition),
+            offer: bytes(offer),
+            verdict: verdict(answer),
+        },
+        ["price", dossier, hour, level, condition, price, answer] => Vector::Price {
+            dossier: bytes(dossier),
+            hour: number(hour),
+            level: number(level),
+            condition: number(condition),
+            price: number(price),
+            verdict: verdict(answer),
+        },
+        _ => panic!("no vector: {line}"),
+    }
+}
+
+fn number<N: std::str::FromStr<Err: std::fmt::Debug>>(word: &str) -> N {
+    word.parse().unwrap()
+}
+
+fn bytes(word: &str) -> Vec<u8> {
+    let digits = word.strip_prefix('-').unwrap_or(word).as_bytes();
+    let byte = |pair: &[u8]| u8::from_str_radix(std::str::from_utf8(pair).unwrap(), 16).unwrap();
+    digits.chunks(2).map(byte).collect()
+}
+
+/// Bytes as the vectors write them.
+pub fn hex(bytes: &[u8]) -> String {
+    if bytes.is_empty() {
+        return "-".to_string();
+    }
+    bytes.iter().map(|b| format!("{b:02x}")).collect()
+}
+
+fn verdict(word: &str) -> Verdict {
+    let parts: Vec<&str> = word.split(':').collect();
+    match parts[..] {
+        ["passes"] => Verdict::Passes,
+        ["fails", pair, lamination] => Verdict::Fails {
+            pair: number(pair),
+            lamination: number(lamination),
+        },
+        ["refused", n, place] => Verdict::Refused(Refusal {
+            number: number(n),
+            place: number(place),
+        }),
+        _ => panic!("no verdict: {word}"),
+    }
+}

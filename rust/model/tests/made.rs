@@ -1,0 +1,138 @@
+//! What the maker makes is what it says: sound dossiers are accepted, each damage draws its number,
+//! every number occurs, and demand 3 holds over raises.
+
+use model::accept::accepted;
+use model::dossier::records;
+use model::exact::{all_near, exact_levels_of};
+use model::levels::{levels_of, reckon, Levels, Micro};
+use model::make::damage::{damaged_by, DAMAGES};
+use model::make::offers::{condition, level, offer, price, Target};
+use model::make::{dossier, hour, sound};
+use model::raise::{is_raise, none_lower, raised};
+use model::random::Random;
+use model::table::{Field, Role};
+use model::{accept, energy_test, price_test, program, report, Verdict};
+use std::collections::BTreeSet;
+
+#[test]
+fn sound_dossiers_are_accepted() {
+    let mut random = Random::new(1);
+    let mut lengths = BTreeSet::new();
+    for _ in 0..20_000 {
+        let dossier = sound::sound(&mut random).bytes();
+        assert_eq!(accept(&dossier), Ok(()));
+        lengths.insert(dossier.len());
+    }
+    assert!(lengths.len() > 1_000);
+}
+
+#[test]
+fn sums_meet_the_half_cent() {
+    let mut random = Random::new(6);
+    let met = (0..1_000).filter(|_| {
+        let dossier = sound::at_half_cent(&mut random);
+        let sums: Levels<Micro> = reckon(&accepted(&dossier).unwrap(), 0);
+        let near = |sum: &Micro| [4_999, 5_000].contains(&(sum.0 % 10_000));
+        let met = sums.all().any(near);
+        met
+    });
+    assert!(met.count() > 800);
+}
+
+#[test]
+fn each_damage_draws_its_number() {
+    let mut random = Random::new(2);
+    for damage in DAMAGES {
+        let times = if damage.number == 13 { 20 } else { 500 };
+        for _ in 0..times {
+            let answer = accept(&damaged_by(&mut random, damage));
+            let number = answer.err().map(|refusal| refusal.number);
+            assert_eq!(number, Some(damage.number), "{}", damage.name);
+        }
+    }
+}
+
+#[test]
+fn every_number_occurs() {
+    let mut random = Random::new(3);
+    let mut numbers = BTreeSet::new();
+    let mut note = |verdict| match verdict {
+        Verdict::Refused(refusal) => drop(numbers.insert(refusal.number)),
+        Verdict::Passes => drop(numbers.insert(100)),
+        Verdict::Fails { .. } => drop(numbers.insert(200)),
+    };
+    for _ in 0..20_000 {
+        let dossier = dossier(&mut random);
+        let hour = hour(&mut random, &dossier);
+        let target = Target::of(&dossier, hour);
+        let condition = condition(&mut random);
+        let level = level(&mut random, &target);
+        let offer = offer(&mut random, &target, condition);
+        note(energy_test(&dossier, hour, condition, &offer));
+        let price = price(&mut random, &target, level, condition);
+        note(price_test(&dossier, hour, level, condition, price));
+        if let Err(refusal) = report(&dossier, hour, &mut [0; 20]) {
+            note(Verdict::Refused(refusal));
+        }
+    }
+    assert_eq!(program(&[0; 3]), b"refused 16 at 0\n");
+    let expected: BTreeSet<u8> = (1..=15).chain([100, 200]).collect();
+    assert_eq!(numbers, expected);
+}
+
+#[test]
+fn demand_3_holds() {
+    let mut random = Random::new(4);
+    let mut risen = 0;
+    for _ in 0..8_000 {
+        let before = sound::sound(&mut random).bytes();
+        let after = raised(&mut random, &before);
+        assert!(is_raise(&before, &after) && is_raise(&before, &before));
+        let hour = hour(&mut random, &before);
+        let low = accepted(&before).unwrap();
+        let high = accepted(&after).unwrap();
+        let (lows, highs) = (levels_of(&low, hour), levels_of(&high, hour));
+        assert!(none_lower(&lows, &highs));
+        assert!(all_near(&lows, &exact_levels_of(&low, hour)));
+        assert!(all_near(&highs, &exact_levels_of(&high, hour)));
+        risen += usize::from(lows != highs);
+        let target = Target::of(&before, hour);
+        let condition = condition(&mut random);
+        let level = level(&mut random, &target);
+        let offer = offer(&mut random, &target, condition);
+        let price = price(&mut random, &target, level, condition);
+        let energy = |d: &[u8]| energy_test(d, hour, condition, &offer);
+        let single = |d: &[u8]| price_test(d, hour, level, condition, price);
+        assert!(energy(&before) != Verdict::Passes || energy(&after) == Verdict::Passes);
+        assert!(single(&before) != Verdict::Passes || single(&after) == Verdict::Passes);
+    }
+    assert!(risen > 1_000);
+}
+
+/// Neither a lower amount, nor one beyond its limit, nor any other byte makes a raise.
+#[test]
+fn other_changes_are_no_raise() {
+    let mut random = Random::new(5);
+    let mut refused = |before: &[u8], at: usize, field: Option<Field>| {
+        let mut after = before.to_vec();
+        let Some(field) = field else {
+            after[at] ^= random.between(1, 255) as u8;
+            return !is_raise(before, &after);
+        };
+        let lower = field.read(&before[at..]) - 1;
+        let beyond = random.pick(&[field.highest + 1, lower]);
+        field.write(&mut after[at..], beyond);
+        beyond < 0 && !field.signed || !is_raise(before, &after)
+    };
+    for seed in 0..20 {
+        let before = sound::sound(&mut Random::new(seed)).bytes();
+        assert!(!is_raise(&before, &before[1..]));
+        for record in records(&before).unwrap() {
+            for field in record.kind.fields {
+                let money = (field.role == Role::Money).then_some(*field);
+                let at = record.start + if money.is_some() { 0 } else { field.at };
+                assert!(refused(&before, at, money));
+            }
+        }
+    }
+}
