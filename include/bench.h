@@ -7,7 +7,7 @@
  *   class 1  fails: a is the pair and b the lamination, both from 1; 0 and 0 for a single price
  *   class 2  refused: a is the number and b the place (README.md lists the numbers)
  *
- * A pointer may be null where its length is 0. No call keeps a pointer, and a refused call writes nothing.
+ * No pointer may be null; where a length is 0 any other will do. No call keeps a pointer, and a refused call writes nothing.
  */
 #ifndef BENCH_H
 #define BENCH_H
