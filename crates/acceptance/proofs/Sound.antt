@@ -44,7 +44,7 @@ unfit-each l h =
     go true false e f = absurd (true≢false e)
     go false c e f = absurd (false≢true f)
 
-each-unfit : {l : List (List ℕ)} → Each (FitsIn l) l → unfit (technology (parameters l)) l ≡ Accepted
+pub each-unfit : {l : List (List ℕ)} → Each (FitsIn l) l → unfit (technology (parameters l)) l ≡ Accepted
 unfolding unfit
 each-unfit {l} e =
     each-first
@@ -170,25 +170,29 @@ sound-raised {l} {m} a h =
 
 -- ---- a current record that is there: its fields are in their ranges and fit the technology
 
-module _ {l : List (List ℕ)} (h : Sound l) (k n : ℕ) (there : parameters l .has k n ≡ true) where
-  pub the-current : IsCurrent k n l (current k n l)
+module _ {l : List (List ℕ)} (e : Each (λ r. fault r ≡ 0) l) (k n : ℕ) (there : parameters l .has k n ≡ true) where
+  current-there : IsCurrent k n l (current k n l)
   unfolding parameters present
-  the-current = go (current k n l) (current-found k n l) there
+  current-there = go (current k n l) (current-found k n l) there
     where
       go : (r : List ℕ) → CurrentOf k n l r → ltb 0 (length r) ≡ true → IsCurrent k n l r
       go r (standing q) e = q
       go r (absent p w) e = absurd (false≢true (rw p at e))
 
-  pub its-range : (i : ℕ) → i < length (rowOf k .fields) → inRange (fieldOf k i) (value k i (current k n l)) ≡ true
-  its-range = go (current k n l) the-current
+  pub clean-range : (i : ℕ) → i < length (rowOf k .fields) → inRange (fieldOf k i) (value k i (current k n l)) ≡ true
+  clean-range = go (current k n l) current-there
     where
       go : (r : List ℕ) → IsCurrent k n l r → (i : ℕ) → i < length (rowOf k .fields) → inRange (fieldOf k i) (value k i r) ≡ true
-      go r q = rw (← q .marked) (field-range r (faultless r (member-each (q .member) (h .clean))))
+      go r q = rw (← q .marked) (field-range r (faultless r (member-each (q .member) e)))
+
+module _ {l : List (List ℕ)} (h : Sound l) (k n : ℕ) (there : parameters l .has k n ≡ true) where
+  pub its-range : (i : ℕ) → i < length (rowOf k .fields) → inRange (fieldOf k i) (value k i (current k n l)) ≡ true
+  its-range = clean-range (h .clean) k n there
 
   its-fit : fits (technology (parameters l)) k (current k n l) ≡ true
   unfolding isCurrent
   its-fit =
-      let q = the-current in
+      let q = current-there (h .clean) k n there in
       let r : List ℕ = current k n l in
       let c : isCurrent l r ≡ true = rw (q .marked, q .keyed) (eq-eqb (issue r) (issue r) refl) in
       rw (q .marked) at (member-each (q .member) (h .fit) c)

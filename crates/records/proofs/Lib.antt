@@ -4,3 +4,5 @@ pub mod Dossier
 pub mod Raise
 pub mod RaiseTest
 pub mod Walk
+pub mod Shapes
+pub mod Read

@@ -1,4 +1,13 @@
 // The records of a dossier. The table of marks, what one record may draw, and a raise are in specs/, their laws in proofs/.
+ghost use mathlib.Core.Path.{_≡_};
+ghost use mathlib.Core.Bool.{_||_};
+ghost use Prim.Native.Nat.{_+_, _<_};
+ghost use lib.Dec.{eqb};
+ghost use lib.ListN.{getD};
+ghost use Rattle.lists.specs.Tests.{between};
+ghost use Rattle.fields.specs.Numbers.{number, biased};
+ghost use Rattle.records.specs.Record.{mark, rangesHold};
+ghost use Rattle.records.specs.Shapes.{begins, shapeOf, keyField, keyFits, keyTest};
 
 // What the reader finds at the front of the rest of a dossier: a whole record, or the fault that it draws.
 pub enum Found {
@@ -10,4 +19,301 @@ pub enum Found {
 pub enum Answer {
     Accepted,
     Refused { number: u8, place: usize },
+}
+
+// A mark's whole length, the bytes of its key, and the lowest and highest of its key fields.
+pub struct MarkShape {
+    pub length: usize,
+    pub width: usize,
+    pub lowest: [u16; 3],
+    pub highest: [u16; 3],
+}
+
+// A constant table holds each mark's whole length and key bounds, by kind: the mark's place in the table of specs/.
+// Hot code reads it at a literal index, which costs nothing; a read at a variable one writes the whole table first.
+pub const MARKS: [MarkShape; 10] = [
+    // an unknown mark
+    MarkShape {
+        length: 6,
+        width: 0,
+        lowest: [0, 0, 0],
+        highest: [0, 0, 0],
+    },
+    // RS
+    MarkShape {
+        length: 31,
+        width: 0,
+        lowest: [0, 0, 0],
+        highest: [0, 0, 0],
+    },
+    // HP
+    MarkShape {
+        length: 13,
+        width: 1,
+        lowest: [1, 0, 0],
+        highest: [21, 0, 0],
+    },
+    // FU
+    MarkShape {
+        length: 15,
+        width: 1,
+        lowest: [1, 0, 0],
+        highest: [4, 0, 0],
+    },
+    // AD
+    MarkShape {
+        length: 17,
+        width: 3,
+        lowest: [1, 1, 1],
+        highest: [4, 5, 4],
+    },
+    // MM
+    MarkShape {
+        length: 24,
+        width: 2,
+        lowest: [1, 1, 0],
+        highest: [4, 8, 0],
+    },
+    // RQ
+    MarkShape {
+        length: 16,
+        width: 1,
+        lowest: [1, 0, 0],
+        highest: [16, 0, 0],
+    },
+    // HR
+    MarkShape {
+        length: 11,
+        width: 1,
+        lowest: [1, 0, 0],
+        highest: [168, 0, 0],
+    },
+    // CH
+    MarkShape {
+        length: 16,
+        width: 2,
+        lowest: [1, 0, 0],
+        highest: [2016, 0, 0],
+    },
+    // TH
+    MarkShape {
+        length: 18,
+        width: 2,
+        lowest: [1, 1, 0],
+        highest: [3, 4, 0],
+    },
+];
+
+pub fn mark_shape(kind: usize) -> MarkShape
+    requires { ⌜ kind < 10 ⌝ }
+    ensures { λ r. ⌜ r ≡ shapeOf kind ⌝ }
+{
+    MARKS[kind]
+}
+
+// Whether a number is within the bounds of a key field.
+pub fn in_field(m: MarkShape, i: usize, x: usize) -> bool
+    requires { ⌜ i < 3 ⌝ }
+    ensures { λ r. ⌜ r ≡ keyField m i x ⌝ }
+{
+    ((m.lowest[i] as usize) <= x) & (x <= (m.highest[i] as usize))
+}
+
+// Whether a number, cut into key fields, is a key of a mark of this shape.
+pub fn in_fields(m: MarkShape, n: usize) -> bool
+    ensures { λ r. ⌜ r ≡ keyFits m n ⌝ }
+{
+    if m.highest[1] == 0 {
+        return in_field(m, 0, n);
+    }
+    if m.highest[2] == 0 {
+        return in_field(m, 0, n / 256) & in_field(m, 1, n % 256);
+    }
+    in_field(m, 0, n / 65536) & in_field(m, 1, n / 256 % 256) & in_field(m, 2, n % 256)
+}
+
+// Whether a number is a key of a mark.
+pub fn in_key(kind: usize, n: usize) -> bool
+    requires { ⌜ kind < 10 ⌝ }
+    ensures { λ r. ⌜ r ≡ keyTest kind n ⌝ }
+{
+    (0 < kind) & in_fields(mark_shape(kind), n)
+}
+
+// The mark is compared as two fixed bytes.
+pub fn is_mark(s: &[u8], m: &[u8; 2]) -> bool
+    ensures { λ r. ⌜ r ≡ begins (now (s .entry)) (getD (now (m .entry)) 0 0) (getD (now (m .entry)) 1 0) ⌝ }
+{
+    (fields::byte_at(s, 0) == m[0]) & (fields::byte_at(s, 1) == m[1])
+}
+
+// The kind of a record, 0 if its mark is unknown. The commonest marks come first.
+pub fn kind_at(s: &[u8]) -> usize
+    ensures { λ r. ⌜ r ≡ mark (now (s .entry)) ⌝ }
+{
+    if is_mark(s, b"CH") {
+        return 8;
+    }
+    if is_mark(s, b"HR") {
+        return 7;
+    }
+    if is_mark(s, b"HP") {
+        return 2;
+    }
+    if is_mark(s, b"FU") {
+        return 3;
+    }
+    if is_mark(s, b"AD") {
+        return 4;
+    }
+    if is_mark(s, b"MM") {
+        return 5;
+    }
+    if is_mark(s, b"RQ") {
+        return 6;
+    }
+    if is_mark(s, b"TH") {
+        return 9;
+    }
+    if is_mark(s, b"RS") {
+        return 1;
+    }
+    0
+}
+
+// Whether the number in one, two, four and eight bytes is between two others.
+pub fn in1(s: &[u8], at: usize, low: u16, high: u16) -> bool
+    ensures { λ r. ⌜ r ≡ between low high (number at 1 (now (s .entry))) ⌝ }
+{
+    let x = fields::u8_at(s, at) as u16;
+    (low <= x) & (x <= high)
+}
+
+pub fn in2(s: &[u8], at: usize, low: u16, high: u16) -> bool
+    requires { ⌜ at < 65536 ⌝ }
+    ensures { λ r. ⌜ r ≡ between low high (number at 2 (now (s .entry))) ⌝ }
+{
+    let x = fields::u16_at(s, at);
+    (low <= x) & (x <= high)
+}
+
+pub fn in4(s: &[u8], at: usize, low: u32, high: u32) -> bool
+    requires { ⌜ at + 2 < 65536 ⌝ }
+    ensures { λ r. ⌜ r ≡ between low high (number at 4 (now (s .entry))) ⌝ }
+{
+    let x = fields::u32_at(s, at);
+    (low <= x) & (x <= high)
+}
+
+pub fn in8(s: &[u8], at: usize, low: u64, high: u64) -> bool
+    requires { ⌜ at + 6 < 65536 ⌝ }
+    ensures { λ r. ⌜ r ≡ between low high (number at 8 (now (s .entry))) ⌝ }
+{
+    let x = fields::u64_at(s, at);
+    (low <= x) & (x <= high)
+}
+
+// The same of two bytes, or 0.
+pub fn zero_or(s: &[u8], at: usize, low: u16, high: u16) -> bool
+    requires { ⌜ at < 65536 ⌝ }
+    ensures { λ r. ⌜ r ≡ (eqb (number at 2 (now (s .entry))) 0 || between low high (number at 2 (now (s .entry)))) ⌝ }
+{
+    let x = fields::u16_at(s, at);
+    (x == 0) | ((low <= x) & (x <= high))
+}
+
+// A price, held plus 2^31.
+pub fn price(s: &[u8], at: usize) -> bool
+    requires { ⌜ at + 2 < 65536 ⌝ }
+    ensures { λ r. ⌜ r ≡ between 2147283648 2147683648 (biased (number at 4 (now (s .entry)))) ⌝ }
+{
+    let x = ((fields::u32_at(s, at) as u64) + 2147483648) % 4294967296;
+    (2147283648 <= x) & (x <= 2147683648)
+}
+
+// The ranges of each mark.
+pub fn ch_ok(s: &[u8]) -> bool
+    ensures { λ r. ⌜ r ≡ rangesHold 8 (now (s .entry)) ⌝ }
+{
+    let m = MARKS[8];
+    in2(s, 6, m.lowest[0], m.highest[0]) & price(s, 8) & in4(s, 12, 0, 1000000)
+}
+
+pub fn hr_ok(s: &[u8]) -> bool
+    ensures { λ r. ⌜ r ≡ rangesHold 7 (now (s .entry)) ⌝ }
+{
+    let m = MARKS[7];
+    in1(s, 6, m.lowest[0], m.highest[0]) & price(s, 7)
+}
+
+pub fn hp_ok(s: &[u8]) -> bool
+    ensures { λ r. ⌜ r ≡ rangesHold 2 (now (s .entry)) ⌝ }
+{
+    let m = MARKS[2];
+    in1(s, 6, m.lowest[0], m.highest[0]) & in2(s, 7, 0, 20000) & in4(s, 9, 0, 20000000)
+}
+
+pub fn fu_ok(s: &[u8]) -> bool
+    ensures { λ r. ⌜ r ≡ rangesHold 3 (now (s .entry)) ⌝ }
+{
+    let m = MARKS[3];
+    in1(s, 6, m.lowest[0], m.highest[0]) & in4(s, 7, 0, 400000000) & in4(s, 11, 0, 400000000)
+}
+
+pub fn ad_ok(s: &[u8]) -> bool
+    ensures { λ r. ⌜ r ≡ rangesHold 4 (now (s .entry)) ⌝ }
+{
+    let m = MARKS[4];
+    in1(s, 6, m.lowest[0], m.highest[0])
+        & in1(s, 7, m.lowest[1], m.highest[1])
+        & in1(s, 8, m.lowest[2], m.highest[2])
+        & in8(s, 9, 0, 1000000000000)
+}
+
+pub fn mm_ok(s: &[u8]) -> bool
+    ensures { λ r. ⌜ r ≡ rangesHold 5 (now (s .entry)) ⌝ }
+{
+    let m = MARKS[5];
+    in1(s, 6, m.lowest[0], m.highest[0])
+        & in1(s, 7, m.lowest[1], m.highest[1])
+        & in8(s, 8, 0, 100000000000)
+        & in2(s, 16, 1, 20000)
+        & in4(s, 18, 1, 1000000)
+        & in2(s, 22, 0, 10000)
+}
+
+pub fn rq_ok(s: &[u8]) -> bool
+    ensures { λ r. ⌜ r ≡ rangesHold 6 (now (s .entry)) ⌝ }
+{
+    let m = MARKS[6];
+    in1(s, 6, m.lowest[0], m.highest[0])
+        & in4(s, 7, 0, 4294967295)
+        & in4(s, 11, 0, 4294967295)
+        & in1(s, 15, 0, 4)
+        & (fields::u32_at(s, 7) <= fields::u32_at(s, 11))
+}
+
+pub fn th_ok(s: &[u8]) -> bool
+    ensures { λ r. ⌜ r ≡ rangesHold 9 (now (s .entry)) ⌝ }
+{
+    let m = MARKS[9];
+    in1(s, 6, m.lowest[0], m.highest[0])
+        & in1(s, 7, m.lowest[1], m.highest[1])
+        & in2(s, 8, 0, 10000)
+        & in4(s, 10, 0, 4294967295)
+        & in4(s, 14, 0, 4294967295)
+}
+
+pub fn rs_ok(s: &[u8]) -> bool
+    ensures { λ r. ⌜ r ≡ rangesHold 1 (now (s .entry)) ⌝ }
+{
+    in1(s, 6, 1, 3)
+        & in2(s, 7, 1, 20000)
+        & zero_or(s, 9, 500, 2000)
+        & in4(s, 11, 0, 20000000)
+        & in4(s, 15, 0, 20000000)
+        & in4(s, 19, 0, 1000000)
+        & in4(s, 23, 0, 1000000)
+        & zero_or(s, 27, 500, 1000)
+        & in2(s, 29, 0, 168)
 }

@@ -1,14 +1,26 @@
 -- Sums and sorting: no lower where no part is lower; and the sort is right.
-use mathlib.Core.Path.{_≡_, refl}
-use mathlib.Core.Bool.{cond}
+use mathlib.Core.Path.{_≡_, refl, ap, _∙_}
+use mathlib.Core.Bool.{Bool, true, false, cond}
 use mathlib.Core.List.{List, [], _∷_}
 use Prim.Native.Nat.{ℕ, zero, suc, _+_, _≤_, max, min}
 use native.Mathlib.Nat.{le-refl, le-trans, add-le-add, add-comm, max-eq-left, max-eq-right, min-eq-left, min-eq-right}
 use native.Mathlib.Decide.{decLe}
+use native.Mathlib.Numerals.{add-one}
 use native.Mathlib.Omega.{arith}
 use lib.Dec.{eqb}
+use mir.Val.{boolByte}
 use Rattle.lists.specs.Lists.{Each, done, also, Pairwise, none, more}
-use Rattle.reference.specs.Sums.{sumTo, listTo, insert, falling, sumFirst, sumHighest}
+use Rattle.lists.specs.Tests.{countTo}
+use Rattle.reference.specs.Sums.{sumTo, sumOf, listTo, insert, falling, sumFirst, sumHighest}
+
+-- a test as a number
+pub one-if : (b : Bool) → boolByte b ≡ cond b 1 0
+one-if true = refl
+one-if false = refl
+
+pub one-high : (b : Bool) → boolByte b ≤ 1
+one-high true = omega arith
+one-high false = omega arith
 
 pub max-mono : {a b c d : ℕ} → a ≤ b → c ≤ d → max a c ≤ max b d
 max-mono h g = omega arith
@@ -20,6 +32,22 @@ pub sumTo-mono : (n : ℕ) {f g : ℕ → ℕ} → ((k : ℕ) → f k ≤ g k) �
 unfolding sumTo
 sumTo-mono zero h = le-refl 0
 sumTo-mono (suc n) h = add-le-add (sumTo-mono n h) (h (suc n))
+
+-- one more turn of a loop that sums, and its end
+pub sum-more : (f : ℕ → ℕ) (n s x : ℕ) → s ≡ sumTo n f → x ≡ f (n + 1) → s + x ≡ sumTo (n + 1) f
+unfolding sumTo
+sum-more f n s x e g = rw (add-one n, e, rw (add-one n) at g) refl
+
+pub sum-ends : (f : ℕ → ℕ) (n k s : ℕ) → k ≤ n → n ≤ k → s ≡ sumTo n f → s ≡ sumTo k f
+sum-ends f n k s p q e = e ∙ ap (λ (j : ℕ). sumTo j f) (omega arith)
+
+-- the same of a loop that counts
+pub count-more : (f : ℕ → Bool) (n c : ℕ) (b : Bool) → c ≡ countTo n f → b ≡ f (n + 1) → c + boolByte b ≡ countTo (n + 1) f
+unfolding countTo
+count-more f n c b e g = rw (add-one n, e, one-if b, rw (add-one n) at g) refl
+
+pub count-ends : (f : ℕ → Bool) (n k c : ℕ) → k ≤ n → n ≤ k → c ≡ countTo n f → c ≡ countTo k f
+count-ends f n k c p q e = e ∙ ap (λ (j : ℕ). countTo j f) (omega arith)
 
 pub listTo-mono : (n : ℕ) {f g : ℕ → ℕ} → ((k : ℕ) → f k ≤ g k) → Pairwise _≤_ (listTo n f) (listTo n g)
 unfolding listTo
@@ -69,11 +97,6 @@ unfolding falling
 falling-falls b done = tt
 falling-falls b (also {a = x} {l = l} h e) = insert-falls (falling l) b x h (falling-falls b e)
 
--- how often a value stands in a list
-unfoldable pub count : ℕ → List ℕ → ℕ
-count v [] = 0
-count v (x ∷ l) = cond (eqb x v) 1 0 + count v l
-
 exchange : (f : ℕ → ℕ) (x y : ℕ) → f (max x y) + f (min x y) ≡ f x + f y
 exchange f x y = go (decLe x y)
   where
@@ -81,12 +104,20 @@ exchange f x y = go (decLe x y)
     go (yes h) = rw (max-eq-right {n = x} {m = y} h, min-eq-left {n = x} {m = y} h) (add-comm (f y) (f x))
     go (no h) = rw (max-eq-left {n = x} {m = y} (omega arith), min-eq-right {n = y} {m = x} (omega arith)) refl
 
-insert-count : (v x : ℕ) (l : List ℕ) → count v (insert x l) ≡ cond (eqb x v) 1 0 + count v l
-unfolding insert count
-insert-count v x [] = refl
-insert-count v x (y ∷ l) = rw (insert-count v (min x y) l) (omega (arith, exchange (λ (z : ℕ). cond (eqb z v) 1 0) x y))
+insert-sum : (f : ℕ → ℕ) (x : ℕ) (l : List ℕ) → sumOf f (insert x l) ≡ f x + sumOf f l
+unfolding insert sumOf
+insert-sum f x [] = refl
+insert-sum f x (y ∷ l) = rw (insert-sum f (min x y) l) (omega (arith, exchange f x y))
+
+-- whatever is added up over the elements
+pub falling-sum : (f : ℕ → ℕ) (l : List ℕ) → sumOf f (falling l) ≡ sumOf f l
+unfolding falling sumOf
+falling-sum f [] = refl
+falling-sum f (x ∷ l) = rw (insert-sum f x (falling l), falling-sum f l) refl
+
+-- how often a value stands in a list
+abbrev pub count : ℕ → List ℕ → ℕ
+count v l = sumOf (λ x. cond (eqb x v) 1 0) l
 
 pub falling-count : (v : ℕ) (l : List ℕ) → count v (falling l) ≡ count v l
-unfolding falling count
-falling-count v [] = refl
-falling-count v (x ∷ l) = rw (insert-count v x (falling l), falling-count v l) refl
+falling-count v l = falling-sum (λ x. cond (eqb x v) 1 0) l

@@ -1,6 +1,6 @@
 -- A formula is written once, as a `Sum`, and read twice: with each division's fraction dropped (the level), and exactly
 -- (the exact level). So "the exact level takes the same formulas" is true because there is one set of formulas.
-use mathlib.Core.Bool.{true, cond}
+use mathlib.Core.Bool.{cond}
 use Prim.Native.Nat.{ℕ, zero, suc, _+_, _*_, _/_, _≤_, _<_, max}
 use lib.Dec.{leb, eqb}
 use Rattle.reference.specs.Sums.{sumTo}

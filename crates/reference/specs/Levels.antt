@@ -2,7 +2,7 @@
 use mathlib.Core.Path.{_≡_}
 use mathlib.Core.Bool.{Bool, cond, _&&_, not}
 use mathlib.Core.List.{List, [], _∷_}
-use Prim.Native.Nat.{ℕ, zero, suc, _+_, _*_, _-_, _/_, _≤_}
+use Prim.Native.Nat.{ℕ, zero, suc, _+_, _*_, _-_, _≤_}
 use lib.Dec.{leb, eqb}
 use Rattle.records.specs.Table.{thermal, nuclear, storage, RQ}
 use Rattle.records.specs.Dossier.{records}
@@ -11,6 +11,14 @@ use Rattle.acceptance.specs.Fit.{energy, start, noLoad, reserve}
 use Rattle.acceptance.specs.Curve.{points, rise, fullHours}
 use Rattle.reference.specs.Sums.{sumTo, listTo, sumHighest}
 use Rattle.reference.specs.Exact.{Sum, whole, share, _⊕_, total, perThousand, greater, dropped, exact, cents, Close}
+
+-- ---- what a dossier's current records say
+
+abbrev pub parametersIn : List ℕ → Parameters
+parametersIn d = parameters (records d)
+
+abbrev pub amountsIn : List ℕ → Amounts
+amountsIn d = amounts (records d)
 
 -- ---- the profile at an hour
 
@@ -109,11 +117,14 @@ line v i a b x = record { level = v; lamination = i; from = a; to = b; sum = x }
 abbrev pub amount : Line → ℕ
 amount x = cents (dropped (x .sum))
 
--- n laminations from lamination i on, then the other levels; "The first lamination reaches down to 0 MW"
+-- lamination i, points i to i+1; "The first lamination reaches down to 0 MW"
+abbrev pub lamination : Parameters → Amounts → ℕ → ℕ → Line
+lamination s m p i = line energy i (cond (eqb i 1) 0 (output s i)) (output s (i + 1)) (thermalEnergy s m p i)
+
+-- n laminations from lamination i on, then the other levels
 unfoldable pub laminations : Parameters → Amounts → ℕ → ℕ → ℕ → List Line → List Line
 laminations s m p i zero others = others
-laminations s m p i (suc n) others =
-    line energy i (cond (eqb i 1) 0 (output s i)) (output s (i + 1)) (thermalEnergy s m p i) ∷ laminations s m p (i + 1) n others
+laminations s m p i (suc n) others = lamination s m p i ∷ laminations s m p (i + 1) n others
 
 -- "where a technology has one lamination, it runs from 0 to the capacity"
 unfoldable pub oneLamination : Parameters → Sum → Line
@@ -140,7 +151,7 @@ lines s m h = linesOf s m (profile s h)
 
 -- the levels of a dossier at an hour
 unfoldable pub levels : List ℕ → ℕ → List Line
-levels d h = lines (parameters (records d)) (amounts (records d)) h
+levels d h = lines (parametersIn d) (amountsIn d) h
 
 -- ---- levels side by side
 

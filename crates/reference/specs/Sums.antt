@@ -7,6 +7,11 @@ unfoldable pub sumTo : ℕ → (ℕ → ℕ) → ℕ
 sumTo zero f = 0
 sumTo (suc n) f = sumTo n f + f (suc n)
 
+-- f of each element of a list, added up
+unfoldable pub sumOf : (ℕ → ℕ) → List ℕ → ℕ
+sumOf f [] = 0
+sumOf f (x ∷ l) = f x + sumOf f l
+
 -- f n, …, f 1
 unfoldable pub listTo : ℕ → (ℕ → ℕ) → List ℕ
 listTo zero f = []

@@ -1,67 +1,85 @@
 -- The report's lines as bytes; 15 and 16; what the program `levels` prints.
 use mathlib.Core.Bool.{cond}
-use mathlib.Core.List.{List, [], _∷_, _++_}
+use mathlib.Core.List.{List, [], _∷_, _++_, map}
 use Prim.Native.Nat.{ℕ}
 use lib.Dec.{ltb, eqb}
 use lib.ListN.{length, drop}
 use Rattle.fields.specs.Numbers.{number}
 use Rattle.records.specs.declared.Answer.{Answer}
-use Rattle.records.specs.declared.Answer.the-variants.{Accepted, Refused}
+use Rattle.records.specs.declared.Answer.the-variants.{Accepted, Refused as Turned}
 use Rattle.records.specs.Answers.{orElse, refuseIf, isAccepted}
 use Rattle.records.specs.Dossier.{records}
 use Rattle.station.specs.Parameters.{parameters}
 use Rattle.acceptance.specs.Fit.{energy, start, noLoad}
 use Rattle.acceptance.specs.Answer.{answer}
-use Rattle.reference.specs.Levels.{Line, amount, profile, levels}
+use Rattle.reference.specs.Levels.{profile, levels}
+use Rattle.reference.specs.Packed.{Shown, shown}
+use Rattle.report.specs.declared.Written.{Written}
+use Rattle.report.specs.declared.Written.the-variants.{Bytes, Refused}
 use Rattle.text.specs.Text.{decimal, tenths, hundredths, refusalLine, profileWord, energyWord, startWord, noLoadWord, reserveWord, space, newline, over}
 
 -- ---- the lines, "each line ended by byte 10"
 
--- the first line: the profile
 unfoldable pub profileLine : ℕ → List ℕ
 profileLine p = profileWord ++ decimal p ++ newline
 
 -- "Energy lines: lamination, from, to, level."
-unfoldable pub energyLine : Line → List ℕ
-energyLine x = energyWord ++ decimal (x .lamination) ++ space ++ tenths (x .from) ++ space ++ tenths (x .to) ++ space ++ hundredths (amount x) ++ newline
+unfoldable pub energyLine : ℕ → ℕ → ℕ → ℕ → List ℕ
+energyLine i a b x = energyWord ++ decimal i ++ space ++ tenths a ++ space ++ tenths b ++ space ++ hundredths x ++ newline
 
 -- any other line: its word and level
-unfoldable pub amountLine : List ℕ → Line → List ℕ
-amountLine word x = word ++ hundredths (amount x) ++ newline
+unfoldable pub amountLine : List ℕ → ℕ → List ℕ
+amountLine word x = word ++ hundredths x ++ newline
 
--- the line of a level
-unfoldable pub levelLine : Line → List ℕ
+unfoldable pub levelLine : Shown → List ℕ
 levelLine x =
-    cond (eqb (x .level) energy) (energyLine x)
-    (cond (eqb (x .level) start) (amountLine startWord x)
-    (cond (eqb (x .level) noLoad) (amountLine noLoadWord x)
-    (amountLine reserveWord x)))
+    cond (eqb (x .level) energy) (energyLine (x .lamination) (x .from) (x .to) (x .cents))
+    (cond (eqb (x .level) start) (amountLine startWord (x .cents))
+    (cond (eqb (x .level) noLoad) (amountLine noLoadWord (x .cents))
+    (amountLine reserveWord (x .cents))))
 
 -- "Levels a technology lacks have no line."
-unfoldable pub levelLines : List Line → List ℕ
+unfoldable pub levelLines : List Shown → List ℕ
 levelLines [] = []
 levelLines (x ∷ l) = levelLine x ++ levelLines l
 
+-- a report of a profile and what its levels show
+unfoldable pub reportText : ℕ → List Shown → List ℕ
+reportText p l = profileLine p ++ levelLines l
+
 -- the report of a dossier at an hour
 unfoldable pub report : List ℕ → ℕ → List ℕ
-report d h = profileLine (profile (parameters (records d)) h) ++ levelLines (levels d h)
+report d h = reportText (profile (parameters (records d)) h) (map shown (levels d h))
 
 -- ---- written to a lent buffer
 
--- "15 report buffer too short", last in the order; a buffer of n bytes
-unfoldable pub reportAnswer : List ℕ → ℕ → ℕ → Answer
-reportAnswer d h n = orElse (answer d) (refuseIf (ltb n (length (report d h))) 15 0)
+-- "15 report buffer too short", of a buffer of n bytes
+unfoldable pub shortFor : List ℕ → ℕ → Answer
+shortFor text n = refuseIf (ltb n (length text)) 15 0
 
 -- "the first line starts at byte 0, and bytes past its length stay"; a refused call keeps every byte
+unfoldable pub bufferWith : Answer → List ℕ → List ℕ → List ℕ
+bufferWith a text buf = cond (isAccepted a) (over text buf) buf
+
+-- what the caller is told: how many bytes the report has, or the refusal
+unfoldable pub written : Answer → ℕ → Written
+written Accepted n = Bytes n
+written (Turned k p) n = Refused k p
+
+-- the answer to a report into a buffer of n bytes: 15 is last in the order
+unfoldable pub reportAnswer : List ℕ → ℕ → ℕ → Answer
+reportAnswer d h n = orElse (answer d) (shortFor (report d h) n)
+
+-- the buffer after it
 unfoldable pub bufferAfter : List ℕ → ℕ → List ℕ → List ℕ
-bufferAfter d h buf = cond (isAccepted (reportAnswer d h (length buf))) (over (report d h) buf) buf
+bufferAfter d h buf = bufferWith (reportAnswer d h (length buf)) (report d h) buf
 
 -- ---- the program
 
 -- "A refusal prints `refused N at P`"; or else the text
 unfoldable pub printed : Answer → List ℕ → List ℕ
 printed Accepted text = text
-printed (Refused n p) text = refusalLine n p
+printed (Turned n p) text = refusalLine n p
 
 -- what `levels` prints for its standard input, "a big-endian 4-byte hour, then the dossier"; "16 under four bytes of input" comes first
 unfoldable pub prints : List ℕ → List ℕ

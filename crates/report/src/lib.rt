@@ -1,1 +1,226 @@
 // The report, and what the program `levels` prints. The definitions are in specs/, their laws in proofs/.
+ghost use mathlib.Core.Path.{_≡_};
+ghost use mathlib.Core.List.{_++_};
+ghost use Prim.Native.Nat.{_≤_};
+ghost use lib.ListN.{length};
+ghost use Rattle.text.specs.Text.{over, tenths, space};
+ghost use Rattle.report.specs.Parts.{laminationLines, heldLine, otherLines, packedReport};
+ghost use Rattle.report.specs.Report.{profileLine, energyLine, amountLine, shortFor, bufferWith, written, report, reportAnswer, bufferAfter, prints};
+use records::Answer;
+use reference::HourLevels;
+
+// What a report gives its caller: how many bytes were written, or a refusal.
+pub enum Written {
+    Bytes(usize),
+    Refused { number: u8, place: usize },
+}
+
+// The word and the line end are 9 bytes.
+fn profile_line_len(profile: u64) -> usize
+    ensures { λ r. ⌜ r ≡ length (profileLine profile) ⌝ }
+{
+    text::decimal_len(profile) + 9
+}
+
+fn put_profile_line(buf: &mut [u8], profile: u64) -> usize
+    requires { ⌜ length (profileLine profile) ≤ length (now buf) ⌝ }
+    ensures { λ r. ⌜ (r ≡ length (profileLine profile)) × (now (buf .exit) ≡ over (profileLine profile) (now (buf .entry))) ⌝ }
+{
+    let a = text::put_numbered(buf, b"profile ", profile);
+    a + text::put(&mut buf[a..], b"\n")
+}
+
+// A line with a word and a level.
+fn put_amount_line(buf: &mut [u8], word: &[u8], cents: u64) -> usize
+    requires { ⌜ length (amountLine (now word) cents) ≤ length (now buf) ⌝ }
+    ensures { λ r. ⌜ (r ≡ length (amountLine (now (word .entry)) cents)) × (now (buf .exit) ≡ over (amountLine (now (word .entry)) cents) (now (buf .entry))) ⌝ }
+{
+    let a = text::put(buf, word);
+    let b = a + text::put_hundredths(&mut buf[a..], cents);
+    b + text::put(&mut buf[b..], b"\n")
+}
+
+// An output behind a space.
+fn put_output(buf: &mut [u8], n: u64) -> usize
+    requires { ⌜ length (space ++ tenths n) ≤ length (now buf) ⌝ }
+    ensures { λ r. ⌜ (r ≡ length (space ++ tenths n)) × (now (buf .exit) ≡ over (space ++ tenths n) (now (buf .entry))) ⌝ }
+{
+    let a = text::put(buf, b" ");
+    a + text::put_tenths(&mut buf[a..], n)
+}
+
+// The word, the spaces and the line end are 11 bytes.
+fn energy_line_len(lamination: u64, from: u64, to: u64, cents: u64) -> usize
+    ensures { λ r. ⌜ r ≡ length (energyLine lamination from to cents) ⌝ }
+{
+    text::decimal_len(lamination)
+        + text::tenths_len(from)
+        + text::tenths_len(to)
+        + text::hundredths_len(cents)
+        + 11
+}
+
+fn put_energy_line(buf: &mut [u8], lamination: u64, from: u64, to: u64, cents: u64) -> usize
+    requires { ⌜ length (energyLine lamination from to cents) ≤ length (now buf) ⌝ }
+    ensures { λ r. ⌜ (r ≡ length (energyLine lamination from to cents)) × (now (buf .exit) ≡ over (energyLine lamination from to cents) (now (buf .entry))) ⌝ }
+{
+    let a = text::put_numbered(buf, b"energy ", lamination);
+    let b = a + put_output(&mut buf[a..], from);
+    let c = b + put_output(&mut buf[b..], to);
+    // the level and the line end are a line's with a space for its word
+    c + put_amount_line(&mut buf[c..], b" ", cents)
+}
+
+// All energy lines.
+fn laminations_len(lv: HourLevels) -> usize
+    requires { ⌜ lv .count ≤ 20 ⌝ }
+    ensures { λ r. ⌜ r ≡ length (laminationLines lv (lv .count)) ⌝ }
+{
+    let count = lv.count;
+    let mut len = 0;
+    let mut i = 0;
+    while i < count {
+        len += energy_line_len((i + 1) as u64, lv.from[i], lv.to[i], lv.cents[i]);
+        i += 1;
+    }
+    len
+}
+
+fn put_laminations(buf: &mut [u8], lv: HourLevels) -> usize
+    requires { ⌜ (lv .count ≤ 20) × (length (laminationLines lv (lv .count)) ≤ length (now buf)) ⌝ }
+    ensures { λ r. ⌜ (r ≡ length (laminationLines lv (lv .count))) × (now (buf .exit) ≡ over (laminationLines lv (lv .count)) (now (buf .entry))) ⌝ }
+{
+    let laminations = lv.count;
+    let mut at = 0;
+    let mut i = 0;
+    while i < laminations {
+        at += put_energy_line(
+            &mut buf[at..],
+            (i + 1) as u64,
+            lv.from[i],
+            lv.to[i],
+            lv.cents[i],
+        );
+        i += 1;
+    }
+    at
+}
+
+// The line end is one byte.
+fn amount_line_len(word: &[u8], cents: u64) -> usize
+    requires { ⌜ length (now word) ≤ 8 ⌝ }
+    ensures { λ r. ⌜ r ≡ length (amountLine (now (word .entry)) cents) ⌝ }
+{
+    word.len() + text::hundredths_len(cents) + 1
+}
+
+// A line that is there where the technology holds its level.
+fn held_line_len(held: bool, word: &[u8], cents: u64) -> usize
+    requires { ⌜ length (now word) ≤ 8 ⌝ }
+    ensures { λ r. ⌜ r ≡ length (heldLine held (now (word .entry)) cents) ⌝ }
+{
+    if held {
+        amount_line_len(word, cents)
+    } else {
+        0
+    }
+}
+
+fn put_held_line(buf: &mut [u8], held: bool, word: &[u8], cents: u64) -> usize
+    requires { ⌜ length (heldLine held (now word) cents) ≤ length (now buf) ⌝ }
+    ensures { λ r. ⌜ (r ≡ length (heldLine held (now (word .entry)) cents)) × (now (buf .exit) ≡ over (heldLine held (now (word .entry)) cents) (now (buf .entry))) ⌝ }
+{
+    if held {
+        put_amount_line(buf, word, cents)
+    } else {
+        0
+    }
+}
+
+// The other lines: a thermal station has all three, a storage one reserve alone.
+fn others_len(technology: u8, start: u64, noload: u64, reserve: u64) -> usize
+    ensures { λ r. ⌜ r ≡ length (otherLines technology start noload reserve) ⌝ }
+{
+    let thermal = technology == 1;
+    let storage = technology == 3;
+    let a = held_line_len(thermal, b"start ", start);
+    let b = held_line_len(thermal, b"no-load ", noload);
+    a + b + held_line_len(thermal | storage, b"reserve ", reserve)
+}
+
+fn put_others(buf: &mut [u8], technology: u8, start: u64, noload: u64, reserve: u64) -> usize
+    requires { ⌜ length (otherLines technology start noload reserve) ≤ length (now buf) ⌝ }
+    ensures { λ r. ⌜ (r ≡ length (otherLines technology start noload reserve)) × (now (buf .exit) ≡ over (otherLines technology start noload reserve) (now (buf .entry))) ⌝ }
+{
+    let thermal = technology == 1;
+    let storage = technology == 3;
+    let a = put_held_line(buf, thermal, b"start ", start);
+    let b = a + put_held_line(&mut buf[a..], thermal, b"no-load ", noload);
+    b + put_held_line(&mut buf[b..], thermal | storage, b"reserve ", reserve)
+}
+
+fn report_len(lv: HourLevels) -> usize
+    requires { ⌜ lv .count ≤ 20 ⌝ }
+    ensures { λ r. ⌜ r ≡ length (packedReport lv) ⌝ }
+{
+    let first = profile_line_len(lv.profile as u64);
+    first + laminations_len(lv) + others_len(lv.technology, lv.start, lv.noload, lv.reserve)
+}
+
+fn put_report(buf: &mut [u8], lv: HourLevels) -> usize
+    requires { ⌜ (lv .count ≤ 20) × (length (packedReport lv) ≤ length (now buf)) ⌝ }
+    ensures { λ r. ⌜ (r ≡ length (packedReport lv)) × (now (buf .exit) ≡ over (packedReport lv) (now (buf .entry))) ⌝ }
+{
+    let a = put_profile_line(buf, lv.profile as u64);
+    let b = a + put_laminations(&mut buf[a..], lv);
+    b
+        + put_others(
+            &mut buf[b..],
+            lv.technology,
+            lv.start,
+            lv.noload,
+            lv.reserve,
+        )
+}
+
+// The report of levels in hand. Its length comes first, so that a buffer too short keeps every byte.
+fn report_levels(lv: HourLevels, buf: &mut [u8]) -> Written
+    requires { ⌜ lv .count ≤ 20 ⌝ }
+    ensures answer { λ r. ⌜ r ≡ written (shortFor (packedReport lv) (length (now (buf .entry)))) (length (packedReport lv)) ⌝ }
+    ensures buffer { λ r. ⌜ now (buf .exit) ≡ bufferWith (shortFor (packedReport lv) (length (now (buf .entry)))) (packedReport lv) (now (buf .entry)) ⌝ }
+{
+    if buf.len() < report_len(lv) {
+        Written::Refused {
+            number: 15,
+            place: 0,
+        }
+    } else {
+        Written::Bytes(put_report(buf, lv))
+    }
+}
+
+// The report of a dossier at an hour, written to a lent buffer.
+pub fn report(d: &[u8], hour: u32, buf: &mut [u8]) -> Written
+    ensures answer { λ r. ⌜ r ≡ written (reportAnswer (now (d .entry)) hour (length (now (buf .entry)))) (length (report (now (d .entry)) hour)) ⌝ }
+    ensures buffer { λ r. ⌜ now (buf .exit) ≡ bufferAfter (now (d .entry)) hour (now (buf .entry)) ⌝ }
+{
+    let mut index = [0u64; 2350];
+    match acceptance::judge(d, &mut index) {
+        Answer::Accepted => report_levels(reference::hour_levels(d, &index, hour), buf),
+        Answer::Refused { number, place } => Written::Refused { number, place },
+    }
+}
+
+// All that the program prints for its whole input, a 4-byte hour and then the dossier. 2,283 bytes are enough for any of it.
+pub fn print(input: &[u8], out: &mut [u8]) -> usize
+    requires { ⌜ 2283 ≤ length (now out) ⌝ }
+    ensures { λ r. ⌜ (r ≡ length (prints (now (input .entry)))) × (now (out .exit) ≡ over (prints (now (input .entry))) (now (out .entry))) ⌝ }
+{
+    if input.len() < 4 {
+        return text::put_refusal(out, 16, 0);
+    }
+    match report(&input[4..], fields::u32_at(input, 0), out) {
+        Written::Bytes(len) => len,
+        Written::Refused { number, place } => text::put_refusal(out, number, place),
+    }
+}

@@ -30,6 +30,15 @@ currentFrom k n b (r ∷ l) = currentFrom k n (better k n b r) l
 unfoldable pub current : ℕ → ℕ → List (List ℕ) → List ℕ
 current k n l = currentFrom k n [] l
 
+-- where it stands, of records from place p on, after the best one before them, b at place q
+unfoldable pub startFrom : ℕ → ℕ → List ℕ → ℕ → ℕ → List (List ℕ) → ℕ
+startFrom k n b q p [] = q
+startFrom k n b q p (r ∷ l) = startFrom k n (better k n b r) (cond (matches k n r && leb (issue b) (issue r)) p q) (p + length r) l
+
+-- where the current record of a mark and key stands, the first record at place 0; 0 where there is none
+unfoldable pub startOf : ℕ → ℕ → List (List ℕ) → ℕ
+startOf k n l = startFrom k n [] 0 0 l
+
 -- whether there is one
 unfoldable pub present : List ℕ → Bool
 present r = ltb 0 (length r)

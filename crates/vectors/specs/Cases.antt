@@ -1,9 +1,8 @@
 -- Cases of data/document-01.txt as claims about the definitions. Written by tools/vectors.
 use mathlib.Core.Path.{_≡_}
-use lib.IntN.{ℤ, pos, negsuc}
+use lib.IntN.{pos, negsuc}
 use Rattle.fields.specs.Numbers.{bytesOf}
 use Rattle.station.specs.Current.{lookupBytes}
-use Rattle.conduct.specs.declared.Verdict.{Verdict}
 use Rattle.conduct.specs.declared.Verdict.the-variants.{Passes, Fails, Refused}
 use Rattle.conduct.specs.Verdict.{onOffer, onPrice}
 use Rattle.report.specs.Report.{prints}

@@ -1,0 +1,56 @@
+-- The answer, test by test.
+use mathlib.Core.Path.{_≡_, refl}
+use mathlib.Core.Bool.{true, false}
+use mathlib.Core.List.{List}
+use Prim.Native.Nat.{ℕ}
+use lib.ListN.{length}
+use Rattle.records.specs.declared.Answer.{Answer}
+use Rattle.records.specs.declared.Answer.the-variants.{Accepted, Refused}
+use Rattle.records.specs.Table.{RS}
+use Rattle.records.specs.Answers.{orElse, refuseIf}
+use Rattle.records.specs.Dossier.{records}
+use Rattle.station.specs.Current.{readable}
+use Rattle.station.specs.Parameters.{Parameters, parameters, technology}
+use Rattle.acceptance.specs.Fit.{unfit}
+use Rattle.acceptance.specs.Curve.{curveFits, fuelHolds, windowFits}
+use Rattle.acceptance.specs.Answer.{unsupported, answer}
+
+-- ---- 7, 8 and 9
+
+module _ (s : Parameters) (n : ℕ) where
+  pub draws-7 : false ≡ curveFits s → Refused 7 n ≡ unsupported s n
+  unfolding unsupported orElse refuseIf
+  draws-7 p = rw (← p) refl
+
+  pub draws-8 : true ≡ curveFits s → false ≡ fuelHolds s → Refused 8 n ≡ unsupported s n
+  unfolding unsupported orElse refuseIf
+  draws-8 p q = rw (← p, ← q) refl
+
+  pub draws-9 : true ≡ curveFits s → true ≡ fuelHolds s → false ≡ windowFits s → Refused 9 n ≡ unsupported s n
+  unfolding unsupported orElse refuseIf
+  draws-9 p q r = rw (← p, ← q, ← r) refl
+
+  pub draws-none : true ≡ curveFits s → true ≡ fuelHolds s → true ≡ windowFits s → Accepted ≡ unsupported s n
+  unfolding unsupported orElse refuseIf
+  draws-none p q r = rw (← p, ← q, ← r) refl
+
+-- ---- the whole
+
+module _ (d : List ℕ) where
+  pub unreadable : (n p : ℕ) → Refused n p ≡ readable d → Refused n p ≡ answer d
+  unfolding answer orElse
+  unreadable n p e = rw (← e) refl
+
+  module _ (e : readable d ≡ Accepted) where
+    pub no-station : parameters (records d) .has RS 0 ≡ false → Refused 5 (length d) ≡ answer d
+    unfolding answer orElse refuseIf
+    no-station f = rw (e, f) refl
+
+    module _ (f : parameters (records d) .has RS 0 ≡ true) where
+      pub draws-6 : (n p : ℕ) → Refused n p ≡ unfit (technology (parameters (records d))) (records d) → Refused n p ≡ answer d
+      unfolding answer orElse refuseIf
+      draws-6 n p g = rw (e, f, ← g) refl
+
+      pub the-rest : {a : Answer} → Accepted ≡ unfit (technology (parameters (records d))) (records d) → a ≡ unsupported (parameters (records d)) (length d) → a ≡ answer d
+      unfolding answer orElse refuseIf
+      the-rest g h = rw (e, f, ← g) h

@@ -1,0 +1,127 @@
+-- What it takes for a record of each mark to fit a technology.
+use mathlib.Core.Path.{_≡_, refl, ap, ap₂, sym, _∙_}
+use mathlib.Core.Bool.{Bool, true, false, cond, _&&_, _||_, not}
+use mathlib.Core.List.{List}
+use Prim.Native.Nat.{ℕ, zero, suc, _<_}
+use native.Mathlib.Omega.{arith}
+use lib.Dec.{ltb, eqb}
+use Rattle.lists.specs.Tests.{allBelow, among}
+use Rattle.fields.specs.Numbers.{number}
+use Rattle.records.specs.Table.{table, rowOf, fieldOf}
+use Rattle.records.specs.Record.{mark, size, offsetIn, offset, read, value}
+use Rattle.acceptance.specs.Fit.{levelsOf, holds, fieldFits, ruleFits, fits}
+use Rattle.acceptance.specs.declared.Tried.{Tried}
+use Rattle.acceptance.specs.Looked.{Known, triedAs}
+
+pub and-true : (a : Bool) → a && true ≡ a
+and-true true = refl
+and-true false = refl
+
+or-false : (a : Bool) → a || false ≡ a
+or-false true = refl
+or-false false = refl
+
+by-technology : (P : ℕ → Type 0) → P 1 → P 2 → P 3 → (t : ℕ) → Known t → P t
+by-technology P a b c zero k = absurd (omega (arith, k))
+by-technology P a b c (suc zero) k = a
+by-technology P a b c (suc (suc zero)) k = b
+by-technology P a b c (suc (suc (suc zero))) k = c
+by-technology P a b c (suc (suc (suc (suc t)))) k = absurd (omega (arith, k))
+
+-- ---- the levels that are held
+
+pub held-thermal : (t v : ℕ) → t ≡ 1 → eqb v 1 || (eqb v 2 || (eqb v 3 || eqb v 4)) ≡ holds t v
+unfolding holds levelsOf among
+held-thermal t v e = rw (e, or-false (eqb v 4)) refl
+
+pub held-nuclear : (t v : ℕ) → t ≡ 2 → eqb v 1 ≡ holds t v
+unfolding holds levelsOf among
+held-nuclear t v e = rw (e, or-false (eqb v 1)) refl
+
+pub held-storage : (t v : ℕ) → Known t → (t ≡ 1 → ⊥) → (t ≡ 2 → ⊥) → eqb v 1 || eqb v 4 ≡ holds t v
+unfolding holds levelsOf among
+held-storage t v k a b =
+    let e : t ≡ 3 = omega (arith, k, a, b) in
+    rw (e, or-false (eqb v 4)) refl
+
+-- ---- by mark
+
+module _ (t : ℕ) (s : List ℕ) (known : Known t) where
+  pub fits-rs : cond (eqb t 1 || eqb t 2) (not true || ltb 0 (number 9 2 s)) (eqb (number 9 2 s) 0)
+      && cond (eqb t 1) (not false || ltb 0 (number 11 4 s)) (eqb (number 11 4 s) 0)
+      && cond (eqb t 1) (not false || ltb 0 (number 15 4 s)) (eqb (number 15 4 s) 0)
+      && cond (eqb t 2) (not true || ltb 0 (number 19 4 s)) (eqb (number 19 4 s) 0)
+      && cond (eqb t 3) (not true || ltb 0 (number 23 4 s)) (eqb (number 23 4 s) 0)
+      && cond (eqb t 3) (not true || ltb 0 (number 27 2 s)) (eqb (number 27 2 s) 0)
+      && cond (eqb t 3) (not true || ltb 0 (number 29 2 s)) (eqb (number 29 2 s) 0)
+      ≡ fits t 1 s
+  unfolding fits ruleFits fieldFits allBelow among value read offset offsetIn fieldOf rowOf table
+  fits-rs =
+      by-technology
+      (λ t. cond (eqb t 1 || eqb t 2) (not true || ltb 0 (number 9 2 s)) (eqb (number 9 2 s) 0)
+      && cond (eqb t 1) (not false || ltb 0 (number 11 4 s)) (eqb (number 11 4 s) 0)
+      && cond (eqb t 1) (not false || ltb 0 (number 15 4 s)) (eqb (number 15 4 s) 0)
+      && cond (eqb t 2) (not true || ltb 0 (number 19 4 s)) (eqb (number 19 4 s) 0)
+      && cond (eqb t 3) (not true || ltb 0 (number 23 4 s)) (eqb (number 23 4 s) 0)
+      && cond (eqb t 3) (not true || ltb 0 (number 27 2 s)) (eqb (number 27 2 s) 0)
+      && cond (eqb t 3) (not true || ltb 0 (number 29 2 s)) (eqb (number 29 2 s) 0)
+      ≡ fits t 1 s)
+      (sym (and-true _)) (sym (and-true _)) (sym (and-true _)) t known
+
+  pub fits-hp : eqb t 1 ≡ fits t 2 s
+  unfolding fits ruleFits fieldFits allBelow among value read offset offsetIn fieldOf rowOf table
+  fits-hp = by-technology (λ t. eqb t 1 ≡ fits t 2 s) refl refl refl t known
+
+  pub fits-fu : eqb t 1 || eqb (number 11 4 s) 0 ≡ fits t 3 s
+  unfolding fits ruleFits fieldFits allBelow among value read offset offsetIn fieldOf rowOf table
+  fits-fu = by-technology (λ t. eqb t 1 || eqb (number 11 4 s) 0 ≡ fits t 3 s) refl (sym (and-true _)) (sym (and-true _)) t known
+
+  pub fits-ad : holds t (number 8 1 s) && (not (eqb (number 7 1 s) 5) || (eqb t 2 && eqb (number 8 1 s) 1)) ≡ fits t 4 s
+  unfolding fits ruleFits fieldFits allBelow among value read offset offsetIn fieldOf rowOf table
+  fits-ad =
+      by-technology (λ t. holds t (number 8 1 s) && (not (eqb (number 7 1 s) 5) || (eqb t 2 && eqb (number 8 1 s) 1)) ≡ fits t 4 s)
+      refl refl refl t known
+
+  pub fits-mm : eqb t 1 || eqb (number 22 2 s) 0 ≡ fits t 5 s
+  unfolding fits ruleFits fieldFits allBelow among value read offset offsetIn fieldOf rowOf table
+  fits-mm = by-technology (λ t. eqb t 1 || eqb (number 22 2 s) 0 ≡ fits t 5 s) refl (sym (and-true _)) (sym (and-true _)) t known
+
+  pub fits-hr : eqb t 3 ≡ fits t 7 s
+  unfolding fits ruleFits fieldFits allBelow among value read offset offsetIn fieldOf rowOf table
+  fits-hr = by-technology (λ t. eqb t 3 ≡ fits t 7 s) refl refl refl t known
+
+  pub fits-ch : eqb t 3 ≡ fits t 8 s
+  unfolding fits ruleFits fieldFits allBelow among value read offset offsetIn fieldOf rowOf table
+  fits-ch = by-technology (λ t. eqb t 3 ≡ fits t 8 s) refl refl refl t known
+
+  pub fits-th : holds t (number 7 1 s) ≡ fits t 9 s
+  unfolding fits ruleFits fieldFits allBelow among value read offset offsetIn fieldOf rowOf table
+  fits-th = by-technology (λ t. holds t (number 7 1 s) ≡ fits t 9 s) refl refl refl t known
+
+  pub fits-none : true ≡ fits t 0 s
+  unfolding fits ruleFits fieldFits allBelow among value read offset offsetIn fieldOf rowOf table
+  fits-none = by-technology (λ t. true ≡ fits t 0 s) refl refl refl t known
+
+  pub fits-rq : true ≡ fits t 6 s
+  unfolding fits ruleFits fieldFits allBelow among value read offset offsetIn fieldOf rowOf table
+  fits-rq = by-technology (λ t. true ≡ fits t 6 s) refl refl refl t known
+
+abbrev tried : ℕ → Bool → Tried
+tried n b = record { len = n; fits = b }
+
+-- a record whose mark was read
+pub at-mark : (t k m n : ℕ) (s : List ℕ) {b : Bool} → size m ≡ n → b ≡ fits t m s → k ≡ mark s → k ≡ m → tried n b ≡ triedAs t (mark s) s
+at-mark t k m n s z e p q = ap₂ tried (sym z) e ∙ ap (λ (x : ℕ). triedAs t x s) (sym q ∙ p)
+
+pub no-mark : (k : ℕ) → (k ≡ 1 → ⊥) → (k ≡ 2 → ⊥) → (k ≡ 3 → ⊥) → (k ≡ 4 → ⊥) → (k ≡ 5 → ⊥) → (k ≡ 6 → ⊥) → (k ≡ 7 → ⊥) → (k ≡ 8 → ⊥) → (k ≡ 9 → ⊥) → k < 10 → k ≡ 0
+no-mark zero a1 a2 a3 a4 a5 a6 a7 a8 a9 h = refl
+no-mark (suc zero) a1 a2 a3 a4 a5 a6 a7 a8 a9 h = absurd (a1 refl)
+no-mark (suc (suc zero)) a1 a2 a3 a4 a5 a6 a7 a8 a9 h = absurd (a2 refl)
+no-mark (suc (suc (suc zero))) a1 a2 a3 a4 a5 a6 a7 a8 a9 h = absurd (a3 refl)
+no-mark (suc (suc (suc (suc zero)))) a1 a2 a3 a4 a5 a6 a7 a8 a9 h = absurd (a4 refl)
+no-mark (suc (suc (suc (suc (suc zero))))) a1 a2 a3 a4 a5 a6 a7 a8 a9 h = absurd (a5 refl)
+no-mark (suc (suc (suc (suc (suc (suc zero)))))) a1 a2 a3 a4 a5 a6 a7 a8 a9 h = absurd (a6 refl)
+no-mark (suc (suc (suc (suc (suc (suc (suc zero))))))) a1 a2 a3 a4 a5 a6 a7 a8 a9 h = absurd (a7 refl)
+no-mark (suc (suc (suc (suc (suc (suc (suc (suc zero)))))))) a1 a2 a3 a4 a5 a6 a7 a8 a9 h = absurd (a8 refl)
+no-mark (suc (suc (suc (suc (suc (suc (suc (suc (suc zero))))))))) a1 a2 a3 a4 a5 a6 a7 a8 a9 h = absurd (a9 refl)
+no-mark (suc (suc (suc (suc (suc (suc (suc (suc (suc (suc k)))))))))) a1 a2 a3 a4 a5 a6 a7 a8 a9 h = absurd (omega arith)

@@ -1,0 +1,331 @@
+-- 6 through the index: what a slot says of the current record, and the loop over the records.
+use mathlib.Core.Path.{_≡_, refl, ap, ap₂, sym, subst, _∙_}
+use mathlib.Core.Bool.{Bool, true, false, cond, _&&_, _||_, not, false≢true}
+use mathlib.Core.List.{List, [], _∷_}
+use mathlib.Core.Logic.{_⊎_, inl, inr}
+use Prim.Native.Nat.{ℕ, zero, suc, _+_, _-_, _%_, _≤_, _<_}
+use native.Mathlib.Numerals.{add-one}
+use native.Mathlib.Omega.{arith}
+use lib.Bits.{bitOr, and-le-r, or-add-and}
+use lib.Dec.{ltb, eqb}
+use lib.ListN.{length, getD, take, drop, length-take, length-drop, drop-of-length-le}
+use lib.Seq.{drop-drop}
+use borrow.Author.Tests.{eqb-true, eqb-false, eq-eqb, ne-eqb}
+use Rattle.lists.specs.Lists.{Each, done, also, Member, here, there}
+use Rattle.lists.specs.Tests.{allBelow}
+use Rattle.lists.proofs.Lists.{member-each}
+use Rattle.lists.proofs.Tests.{split, below-at}
+use Rattle.fields.specs.Numbers.{number}
+use Rattle.records.specs.declared.Answer.the-variants.{Accepted, Refused}
+use Rattle.records.specs.Table.{rowOf, fieldOf, AD, TH}
+use Rattle.records.specs.Record.{mark, size, issue, keyOf, offset, read, value, fault}
+use Rattle.records.specs.Answers.{orElse, refuseIf}
+use Rattle.records.specs.declared.Found.the-variants.{Record}
+use Rattle.records.specs.Walk.{found}
+use Rattle.records.specs.Dossier.{firstOf, restOf, recordsIn, records, firstDrawn, scan}
+use Rattle.records.proofs.Record.{mark-take, mark-nil, size-ge, within-record, faultless}
+use Rattle.records.proofs.Answers.{orElse-parts}
+use Rattle.records.proofs.Dossier.{first-mark, first-length, records-step, scan-each}
+use Rattle.records.proofs.Read.{number-take}
+use Rattle.station.specs.Current.{current, twin, twins, readable}
+use Rattle.station.specs.Parameters.{parameters, technology}
+use Rattle.station.specs.Declared.{CurrentOf, absent, standing, Distinct}
+use Rattle.station.proofs.Current.{current-found, matches-self}
+use Rattle.station.proofs.Twins.{twins-distinct}
+use Rattle.index.specs.Slots.{slotAt, slot}
+use Rattle.index.proofs.Slots.{InKey, in-key, slot-lt, at-mark, low, high, limits}
+use Rattle.index.proofs.Turn.{tail, its-slot as found-slot}
+use Rattle.index.specs.declared.Entry.{Entry}
+use Rattle.index.specs.Entries.{entryAs}
+use Rattle.lookup.specs.Parts.{part, bytesOf, placeAt, partAt, Indexed}
+use Rattle.lookup.proofs.Parts.{part-current}
+use Rattle.acceptance.specs.Fit.{holds, fieldFits, ruleFits, fits, isCurrent, unfit}
+use Rattle.acceptance.specs.Looked.{Known, slotFits, slotsFit, slotsEmpty, allFit, notFit}
+use Rattle.acceptance.proofs.ByMark.{and-true, fits-hp, fits-fu, fits-mm, fits-rq, fits-none, fits-hr, fits-ch}
+use Rattle.acceptance.proofs.Sound.{each-unfit}
+
+-- ---- a record cut from the rest fits as the rest does
+
+value-take : (k i : ℕ) (s : List ℕ) → value k i (take (size k) s) ≡ value k i s
+unfolding value read
+value-take k i s = rw (number-take (size k) (offset k i) (fieldOf k i .width) s (within-record k i)) refl
+
+below-same : (n : ℕ) (f g : ℕ → Bool) → ((i : ℕ) → f i ≡ g i) → allBelow n f ≡ allBelow n g
+unfolding allBelow
+below-same zero f g h = refl
+below-same (suc n) f g h = ap₂ (λ (a b : Bool). a && b) (below-same n f g h) (h n)
+
+rule-take : (t k : ℕ) (s : List ℕ) → ruleFits t k (take (size k) s) ≡ ruleFits t k s
+unfolding ruleFits
+rule-take t k s = go (eqb k AD) refl (eqb k TH) refl
+  where
+    at : (j i : ℕ) → k ≡ j → value j i (take (size k) s) ≡ value j i s
+    at j i e = rw e (value-take j i s)
+
+    go : (a : Bool) → eqb k AD ≡ a → (b : Bool) → eqb k TH ≡ b
+        → cond a (holds t (value AD 2 (take (size k) s)) && (not (eqb (value AD 1 (take (size k) s)) 5) || (eqb t 2 && eqb (value AD 2 (take (size k) s)) 1))) (cond b (holds t (value TH 1 (take (size k) s))) true)
+        ≡ cond a (holds t (value AD 2 s) && (not (eqb (value AD 1 s) 5) || (eqb t 2 && eqb (value AD 2 s) 1))) (cond b (holds t (value TH 1 s)) true)
+    go true e b f = rw (at AD 1 (eqb-true k AD e), at AD 2 (eqb-true k AD e)) refl
+    go false e true f = rw (at TH 1 (eqb-true k TH f)) refl
+    go false e false f = refl
+
+fits-take : (t k : ℕ) (s : List ℕ) → fits t k (take (size k) s) ≡ fits t k s
+unfolding fits
+fits-take t k s =
+    rw (below-same (length (rowOf k .fields)) (λ i. fieldFits t (fieldOf k i) (value k i (take (size k) s))) (λ i. fieldFits t (fieldOf k i) (value k i s)) (λ i. ap (fieldFits t (fieldOf k i)) (value-take k i s)), rule-take t k s)
+    refl
+
+-- ---- where no two records are twins, one that has the current one's issue is the current one
+
+twin-of : (r s : List ℕ) → mark r ≡ mark s → keyOf r ≡ keyOf s → issue r ≡ issue s → twin r s ≡ true
+unfolding twin
+twin-of r s a b c = rw (a, b, c, eq-eqb (mark s) (mark s) refl, eq-eqb (keyOf s) (keyOf s) refl, eq-eqb (issue s) (issue s) refl) refl
+
+same-member : {l : List (List ℕ)} {r s : List ℕ} → Distinct l → Member r l → Member s l → twin r s ≡ true → twin s r ≡ true → r ≡ s
+same-member d here here e f = refl
+same-member d here (there m) e f = absurd (false≢true (sym (member-each m (d .0)) ∙ e))
+same-member d (there m) here e f = absurd (false≢true (sym (member-each m (d .0)) ∙ f))
+same-member d (there m) (there n) e f = same-member (d .1) m n e f
+
+is-the-current : {l : List (List ℕ)} {r : List ℕ} → Distinct l → Member r l → isCurrent l r ≡ true → current (mark r) (keyOf r) l ≡ r
+unfolding isCurrent
+is-the-current {l} {r} d m e = go (current-found (mark r) (keyOf r) l)
+  where
+    go : CurrentOf (mark r) (keyOf r) l (current (mark r) (keyOf r) l) → current (mark r) (keyOf r) l ≡ r
+    go (absent p w) = absurd (false≢true (sym (member-each m w) ∙ matches-self r))
+    go (standing q) =
+        let i : issue r ≡ issue (current (mark r) (keyOf r) l) = eqb-true (issue r) (issue (current (mark r) (keyOf r) l)) e in
+        same-member d (q .member) m (twin-of _ r (q .marked) (q .keyed) (sym i)) (twin-of r _ (sym (q .marked)) (sym (q .keyed)) i)
+
+pub readable-distinct : (d : List ℕ) → readable d ≡ Accepted → Distinct (records d)
+unfolding readable
+readable-distinct d e =
+    twins-distinct 0 (records d)
+    (orElse-parts (scan 0 (records d)) (twins 0 [] (records d)) (orElse-parts (refuseIf (ltb 60000 (length d)) 13 0) _ e .1) .1)
+
+each-member : {A : Type 0} {P : A → Type 0} (l : List A) → ((a : A) → Member a l → P a) → Each P l
+each-member [] f = done
+each-member (a ∷ l) f = also (f a here) (each-member l (λ b m. f b (there m)))
+
+-- ---- every slot fits
+
+part-there : (d ix : List ℕ) (j n : ℕ) (r : List ℕ) → (r ≡ [] → ⊥) → partAt d ix j n ≡ r → (eqb (getD ix j 0) 0 ≡ false) × (take n (drop (getD ix j 0 % 65536) d) ≡ r)
+unfolding partAt bytesOf placeAt
+part-there d ix j n r z = go (eqb (getD ix j 0) 0) (ltb (length d) (getD ix j 0 % 65536 + n))
+  where
+    go : (a b : Bool) → bytesOf d (cond (a || b) (part 0 0) (part (getD ix j 0 % 65536) n)) ≡ r → (a ≡ false) × (take n (drop (getD ix j 0 % 65536) d) ≡ r)
+    go true b e = absurd (z (sym e))
+    go false true e = absurd (z (sym e))
+    go false false e = (refl, e)
+
+module _ (t : ℕ) (d ix : List ℕ) where
+  region : (a n j : ℕ) → slotsFit t d ix a n ≡ true → a ≤ j → j < a + n → slotFits t d ix j ≡ true
+  unfolding slotsFit
+  region a n j e p q =
+      subst (λ (i : ℕ). slotFits t d ix i ≡ true) (omega arith) (below-at n (λ i. slotFits t d ix (a + i)) e (j - a) (omega arith))
+
+  module _ (known : Known t) (e : allFit t d ix ≡ true) where
+    parts : (slotsFit t d ix 0 1 ≡ true) × (slotsFit t d ix 1 (cond (eqb t 1) 0 25) ≡ true) × (slotsFit t d ix 26 (cond (eqb t 1) 80 112) ≡ true) × (slotsFit t d ix 2338 12 ≡ true) × (slotsEmpty ix 154 (cond (eqb t 3) 0 2184) ≡ true)
+    unfolding allFit
+    parts = five (slotsFit t d ix 0 1) (slotsFit t d ix 1 (cond (eqb t 1) 0 25)) (slotsFit t d ix 26 (cond (eqb t 1) 80 112)) (slotsFit t d ix 2338 12) _ e
+      where
+        five : (a b c d e : Bool) → a && b && c && d && e ≡ true → (a ≡ true) × (b ≡ true) × (c ≡ true) × (d ≡ true) × (e ≡ true)
+        five true true true true e h = (refl, refl, refl, refl, h)
+        five true true true false e h = absurd (false≢true h)
+        five true true false d e h = absurd (false≢true h)
+        five true false c d e h = absurd (false≢true h)
+        five false b c d e h = absurd (false≢true h)
+
+    -- the slots of HP and FU, of AD, and of MM
+    points : eqb t 1 ≡ false → slotsFit t d ix 1 25 ≡ true
+    points z = rw z at (parts .1)
+
+    items : eqb t 1 ≡ false → slotsFit t d ix 26 112 ≡ true
+    items z = rw z at (parts .2)
+
+    adders : (j : ℕ) → 26 ≤ j → j < 106 → slotFits t d ix j ≡ true
+    adders j p q = split (eqb t 1) (λ z. region 26 80 j (rw z at (parts .2)) p (omega arith)) (λ z. region 26 112 j (items z) p (omega arith))
+
+    priced : eqb t 3 ≡ false → (j : ℕ) → 154 ≤ j → j < 2338 → slotFits t d ix j ≡ true
+    unfolding allFit slotsEmpty slotFits
+    priced z j p q =
+        let w : slotsEmpty ix 154 2184 ≡ true = rw z at (parts .4) in
+        let k : 154 + (j - 154) ≡ j = omega arith in
+        let g : eqb (getD ix j 0) 0 ≡ true = rw k at (below-at 2184 (λ i. eqb (getD ix (154 + i) 0) 0) w (j - 154) (omega arith)) in
+        rw g refl
+
+    -- every record of the mark fits, or the slot was looked at
+    abbrev Looked : ℕ → ℕ → Type 0
+    Looked k n = ((s : List ℕ) → fits t k s ≡ true) ⊎ (slotFits t d ix (slot k n) ≡ true)
+
+    looked : (k n : ℕ) → InKey k n → Looked k n
+    unfolding low high
+    looked k n p =
+        at-mark (λ k. InKey k n → Looked k n) k n p
+        (λ q. inr (region 0 1 (slot 1 n) (parts .0) (omega arith) (omega (arith, limits 1 n q))))
+        (λ q. split (eqb t 1) (λ z. inl (λ s. sym (fits-hp t s known) ∙ z)) (λ z. inr (region 1 25 (slot 2 n) (points z) (omega (arith, limits 2 n q)) (omega (arith, limits 2 n q)))))
+        (λ q. split (eqb t 1) (λ z. inl (λ s. sym (fits-fu t s known) ∙ rw z refl)) (λ z. inr (region 1 25 (slot 3 n) (points z) (omega (arith, limits 3 n q)) (omega (arith, limits 3 n q)))))
+        (λ q. inr (adders (slot 4 n) (omega (arith, limits 4 n q)) (omega (arith, limits 4 n q))))
+        (λ q. split (eqb t 1) (λ z. inl (λ s. sym (fits-mm t s known) ∙ rw z refl)) (λ z. inr (region 26 112 (slot 5 n) (items z) (omega (arith, limits 5 n q)) (omega (arith, limits 5 n q)))))
+        (λ q. inl (λ s. sym (fits-rq t s known)))
+        (λ q. split (eqb t 3) (λ z. inl (λ s. sym (fits-hr t s known) ∙ z)) (λ z. inr (priced z (slot 7 n) (omega (arith, limits 7 n q)) (omega (arith, limits 7 n q)))))
+        (λ q. split (eqb t 3) (λ z. inl (λ s. sym (fits-ch t s known) ∙ z)) (λ z. inr (priced z (slot 8 n) (omega (arith, limits 8 n q)) (omega (arith, limits 8 n q)))))
+        (λ q. inr (region 2338 12 (slot 9 n) (parts .3) (omega (arith, limits 9 n q)) (omega (arith, limits 9 n q))))
+        p
+
+    module _ (h : Indexed d ix) (distinct : Distinct (records d)) where
+      slot-record : (r : List ℕ) → fault r ≡ 0 → current (mark r) (keyOf r) (records d) ≡ r → slotFits t d ix (slot (mark r) (keyOf r)) ≡ true → fits t (mark r) r ≡ true
+      unfolding slotFits
+      slot-record r f c w =
+          let j : ℕ = slot (mark r) (keyOf r) in
+          let s : List ℕ = drop (getD ix j 0 % 65536) d in
+          let z = part-there d ix j (size (mark r)) r (λ x. faultless r f .known (ap mark x ∙ mark-nil)) (part-current d ix h (mark r) (keyOf r) (in-key r f) refl refl ∙ c) in
+          let m : mark s ≡ mark r = sym (mark-take (size (mark r)) s (omega (arith, size-ge (mark r)))) ∙ ap mark (z .1) in
+          let g : fits t (mark s) s ≡ true = rw (z .0) at w in
+          ap (fits t (mark r)) (sym (z .1)) ∙ fits-take t (mark r) s ∙ ap (λ (x : ℕ). fits t x s) (sym m) ∙ g
+
+      member-fits : (r : List ℕ) → Member r (records d) → isCurrent (records d) r ≡ true → fits t (mark r) r ≡ true
+      member-fits r m c =
+          let f = member-each m (scan-each 0 (records d) (h .clean)) in
+          go f (looked (mark r) (keyOf r) (in-key r f))
+        where
+          go : fault r ≡ 0 → Looked (mark r) (keyOf r) → fits t (mark r) r ≡ true
+          go f (inl g) = g r
+          go f (inr g) = slot-record r f (is-the-current distinct m c) g
+
+      pub slots-accepted : t ≡ technology (parameters (records d)) → Accepted ≡ unfit t (records d)
+      slots-accepted g = sym (rw g (each-unfit (each-member (records d) (λ r m c. rw (← g) (member-fits r m c)))))
+
+-- ---- the tests of slots
+
+module _ (t : ℕ) (d ix : List ℕ) (j : ℕ) where
+  pub slot-empty : getD ix j 0 ≡ 0 → true ≡ slotFits t d ix j
+  unfolding slotFits
+  slot-empty e = rw (eq-eqb (getD ix j 0) 0 e) refl
+
+  pub slot-past : Known t → length d < getD ix j 0 % 65536 → true ≡ slotFits t d ix j
+  unfolding slotFits
+  slot-past k h =
+      rw (drop-of-length-le d {i = getD ix j 0 % 65536} (omega arith), mark-nil, ← fits-none t [] k) (go (eqb (getD ix j 0) 0))
+    where
+      go : (b : Bool) → true ≡ b || true
+      go true = refl
+      go false = refl
+
+  pub slot-there : (getD ix j 0 ≡ 0 → ⊥) → {b : Bool} → b ≡ fits t (mark (take (length d - getD ix j 0 % 65536) (drop (getD ix j 0 % 65536) d))) (take (length d - getD ix j 0 % 65536) (drop (getD ix j 0 % 65536) d)) → b ≡ slotFits t d ix j
+  unfolding slotFits
+  slot-there z e = rw (ne-eqb (getD ix j 0) 0 z) (e ∙ ap (λ (s : List ℕ). fits t (mark s) s) (tail d (getD ix j 0 % 65536)))
+
+  pub slots-one-not : (n i : ℕ) → i < n → false ≡ slotFits t d ix (j + i) → false ≡ slotsFit t d ix j n
+  unfolding slotsFit
+  slots-one-not n i h e =
+      split (allBelow n (λ i. slotFits t d ix (j + i))) (λ w. absurd (false≢true (e ∙ below-at n (λ i. slotFits t d ix (j + i)) w i h))) sym
+
+  pub slots-next : (i : ℕ) → slotsFit t d ix j i ≡ true → true ≡ slotFits t d ix (j + i) → slotsFit t d ix j (i + 1) ≡ true
+  unfolding slotsFit allBelow
+  slots-next i p q = rw (add-one i, p, ← q) refl
+
+-- a number that two have no bit of has no bit
+or-none : (a b : ℕ) → eqb (bitOr a b) 0 ≡ eqb a 0 && eqb b 0
+or-none a b = go (eqb a 0) refl
+  where
+    some : (a ≡ 0 → ⊥) → bitOr a b ≡ 0 → ⊥
+    some z e = omega (arith, z, or-add-and a b, and-le-r a b, e)
+
+    go : (x : Bool) → eqb a 0 ≡ x → eqb (bitOr a b) 0 ≡ x && eqb b 0
+    go true e = rw (eqb-true a 0 e) refl
+    go false e = ne-eqb (bitOr a b) 0 (some (eqb-false a 0 e))
+
+pub empty-next : (ix : List ℕ) (j i a : ℕ) → eqb a 0 ≡ slotsEmpty ix j i → eqb (bitOr a (getD ix (j + i) 0)) 0 ≡ slotsEmpty ix j (i + 1)
+unfolding slotsEmpty allBelow
+empty-next ix j i a e = or-none a (getD ix (j + i) 0) ∙ rw (e, add-one i) refl
+
+-- ---- the loop over the records
+
+pub fit-passes : (d ix s : List ℕ) (f : Bool) → f ≡ true → false ≡ notFit d ix s f
+unfolding notFit
+fit-passes d ix s f e = rw e (go (eqb (number 2 4 s) (number 2 4 (partAt d ix (slotAt (mark s) s) (size (mark s))))))
+  where
+    go : (b : Bool) → false ≡ b && false
+    go true = refl
+    go false = refl
+
+pub unfit-current : (d ix s : List ℕ) (f : Bool) → f ≡ false → {a b : ℕ} {part : List ℕ} {x : Entry} → x ≡ entryAs (mark s) s → part ≡ partAt d ix (x .slot) (x .len) → a ≡ number 2 4 s → b ≡ number 2 4 part → eqb a b ≡ notFit d ix s f
+unfolding notFit
+unfit-current d ix s f e w p q r = rw (e, q, r, p, w, and-true (eqb (number 2 4 s) (number 2 4 (partAt d ix (slotAt (mark s) s) (size (mark s)))))) refl
+
+-- from place p on the first unfit record is that of the whole, and no record is at fault
+pub record Left (t : ℕ) (d : List ℕ) (p : ℕ) : Type 0 where
+  pub answer : firstDrawn (λ q r. refuseIf (isCurrent (records d) r && not (fits t (mark r) r)) 6 q) p (records (drop p d)) ≡ unfit t (records d)
+  pub clean : Each (λ r. fault r ≡ 0) (records (drop p d))
+
+pub begin : (t : ℕ) (d ix : List ℕ) → Indexed d ix → Left t d 0
+unfolding unfit
+begin t d ix h = record { answer = refl; clean = scan-each 0 (records d) (h .clean) }
+
+pub finish : (t : ℕ) (d : List ℕ) (p : ℕ) → length d ≤ p → Left t d p → Accepted ≡ unfit t (records d)
+unfolding firstDrawn records recordsIn
+finish t d p h left = rw (drop-of-length-le d {i = p} h) at (left .answer)
+
+both-parts : {P : List ℕ → Type 0} {r : List ℕ} {l : List (List ℕ)} → Each P (r ∷ l) → P r × Each P l
+both-parts (also h e) = (h, e)
+
+module _ (t : ℕ) (d ix : List ℕ) (h : Indexed d ix) (p : ℕ) (inside : p < length d) (left : Left t d p) where
+  step : records (drop p d) ≡ firstOf (drop p d) ∷ records (restOf (drop p d))
+  step = records-step (drop p d) (simp length-drop (omega arith))
+
+  clean-parts : (fault (firstOf (drop p d)) ≡ 0) × Each (λ r. fault r ≡ 0) (records (restOf (drop p d)))
+  clean-parts = both-parts (subst (λ (l : List (List ℕ)). Each (λ r. fault r ≡ 0) l) step (left .clean))
+
+  its-found : found (drop p d) ≡ Record (mark (drop p d)) (size (mark (drop p d)))
+  unfolding found
+  its-found = rw (eq-eqb (fault (firstOf (drop p d))) 0 (clean-parts .0)) refl
+
+  its-slot : slot (mark (firstOf (drop p d))) (keyOf (firstOf (drop p d))) ≡ slotAt (mark (drop p d)) (drop p d)
+  unfolding firstOf
+  its-slot = found-slot (drop p d) (mark (drop p d)) (size (mark (drop p d))) its-found
+
+  pub slot-below : slotAt (mark (take (length d - p) (drop p d))) (take (length d - p) (drop p d)) < 2350
+  slot-below =
+      let r : List ℕ = firstOf (drop p d) in
+      rw (tail d p, ← its-slot) (slot-lt (mark r) (keyOf r) (in-key r (clean-parts .0)))
+
+  module _ {n : ℕ} (en : n ≡ size (mark (take (length d - p) (drop p d)))) where
+    n-is : n ≡ size (mark (drop p d))
+    n-is = en ∙ ap (λ (s : List ℕ). size (mark s)) (tail d p)
+
+    pub its-length : (1 ≤ n) × (n ≤ length d - p)
+    unfolding firstOf
+    its-length =
+        let s : List ℕ = drop p d in
+        let w = first-length s (clean-parts .0) in
+        (omega (arith, n-is, size-ge (mark s)), omega (arith, n-is, w, length-take (size (mark s)) s, length-drop p d))
+
+    module _ {b f : Bool} (ef : f ≡ fits t (mark (take (length d - p) (drop p d))) (take (length d - p) (drop p d))) (eb : b ≡ notFit d ix (take (length d - p) (drop p d)) f) where
+      part-is : partAt d ix (slotAt (mark (drop p d)) (drop p d)) (size (mark (drop p d))) ≡ current (mark (firstOf (drop p d))) (keyOf (firstOf (drop p d))) (records d)
+      part-is =
+          let r : List ℕ = firstOf (drop p d) in
+          part-current d ix h (mark r) (keyOf r) (in-key r (clean-parts .0)) (sym its-slot) (ap size (sym (first-mark (drop p d))))
+
+      test : b ≡ isCurrent (records d) (firstOf (drop p d)) && not (fits t (mark (firstOf (drop p d))) (firstOf (drop p d)))
+      unfolding isCurrent issue firstOf notFit
+      test =
+          let s : List ℕ = drop p d in
+          let v : f ≡ fits t (mark (firstOf s)) (firstOf s) =
+          ef ∙ ap (λ (x : List ℕ). fits t (mark x) x) (tail d p) ∙ sym (fits-take t (mark s) s) ∙ ap (λ (k : ℕ). fits t k (firstOf s)) (sym (first-mark s)) in
+          eb ∙ rw (tail d p, part-is, v, number-take (size (mark s)) 2 4 s (size-ge (mark s))) refl
+
+      pub refuses : b ≡ true → Refused 6 p ≡ unfit t (records d)
+      unfolding firstDrawn orElse refuseIf
+      refuses e = rw (step, sym test ∙ e) at (left .answer)
+
+      pub goes-on : b ≡ false → Left t d (p + n)
+      unfolding firstDrawn orElse refuseIf restOf
+      goes-on e =
+          let s : List ℕ = drop p d in
+          let z = rw (step, sym test ∙ e, first-length s (clean-parts .0)) at (left .answer) in
+          rw n-is
+          (record {
+            answer = rw (← drop-drop (size (mark s)) p d) z;
+            clean = rw (← drop-drop (size (mark s)) p d) (clean-parts .1);
+          })

@@ -1,0 +1,62 @@
+-- How code looks for 6: at the slots of the index first, and through the records only where some slot's record does not fit;
+-- for 7: along the curve once; for 8: request by request. No paper speaks of this; the laws `slots-accepted` and `legs-curve` tie it to `unfit` and `curveHolds`.
+use mathlib.Core.Bool.{Bool, cond, _&&_, _||_, not}
+use mathlib.Core.List.{List}
+use Prim.Native.Nat.{ℕ, _+_, _*_, _-_, _%_, _≤_}
+use lib.Dec.{ltb, leb, eqb}
+use lib.ListN.{getD, drop}
+use Rattle.lists.specs.Tests.{allBelow}
+use Rattle.fields.specs.Numbers.{number}
+use Rattle.records.specs.Table.{thermal, storage, HP, FU, RQ}
+use Rattle.records.specs.Record.{mark, size}
+use Rattle.index.specs.Slots.{slotAt}
+use Rattle.lookup.specs.Parts.{partAt}
+use Rattle.station.specs.Parameters.{Parameters, output, heat, requested}
+use Rattle.acceptance.specs.declared.Tried.{Tried}
+use Rattle.acceptance.specs.Fit.{fits}
+use Rattle.acceptance.specs.Curve.{rise}
+
+-- one of the three technologies
+abbrev pub Known : ℕ → Type 0
+Known t = (1 ≤ t) × (t ≤ 3)
+
+-- a record's length, and whether it fits
+abbrev pub triedAs : ℕ → ℕ → List ℕ → Tried
+triedAs t k s = record { len = size k; fits = fits t k s }
+
+-- the slot is empty, or the record that stands at its place fits
+unfoldable pub slotFits : ℕ → List ℕ → List ℕ → ℕ → Bool
+slotFits t d ix j = eqb (getD ix j 0) 0 || fits t (mark (drop (getD ix j 0 % 65536) d)) (drop (getD ix j 0 % 65536) d)
+
+-- the same of n slots from slot j on
+unfoldable pub slotsFit : ℕ → List ℕ → List ℕ → ℕ → ℕ → Bool
+slotsFit t d ix j n = allBelow n (λ i. slotFits t d ix (j + i))
+
+-- n slots from slot j on are empty
+unfoldable pub slotsEmpty : List ℕ → ℕ → ℕ → Bool
+slotsEmpty ix j n = allBelow n (λ i. eqb (getD ix (j + i) 0) 0)
+
+-- the slots of RS, AD and TH fit, those of HP, FU and MM too unless the technology is thermal, which they always fit, and those
+-- of HR and CH are empty unless it is storage, which they always fit; RQ always fits
+unfoldable pub allFit : ℕ → List ℕ → List ℕ → Bool
+allFit t d ix =
+    slotsFit t d ix 0 1 && slotsFit t d ix 1 (cond (eqb t thermal) 0 25) && slotsFit t d ix 26 (cond (eqb t thermal) 80 112) && slotsFit t d ix 2338 12
+    && slotsEmpty ix 154 (cond (eqb t storage) 0 2184)
+
+-- the record at the front of s has the issue of the current one of its mark and key, and does not fit
+unfoldable pub notFit : List ℕ → List ℕ → List ℕ → Bool → Bool
+notFit d ix s f = eqb (number 2 4 s) (number 2 4 (partAt d ix (slotAt (mark s) s) (size (mark s)))) && not f
+
+-- what a curve rises by up to point i, 0 at the first
+unfoldable pub lastRise : (ℕ → ℕ) → ℕ → ℕ
+lastRise f i = cond (eqb i 1) 0 (rise f (i - 1))
+
+-- the next point is there, its output above and its heat no lower, and the slope to it no lower than the last one
+unfoldable pub legHolds : Parameters → ℕ → Bool
+legHolds s i =
+    s .has HP (i + 1) && ltb (output s i) (output s (i + 1)) && leb (heat s i) (heat s (i + 1))
+    && leb (lastRise (heat s) i * rise (output s) i) (rise (heat s) i * lastRise (output s) i)
+
+-- request n is absent or withdrawn, or its profile has an FU
+abbrev pub fuelled : Parameters → ℕ → Bool
+fuelled s n = not (s .has RQ n) || eqb (requested s n) 0 || s .has FU (requested s n)

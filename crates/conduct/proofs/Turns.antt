@@ -1,0 +1,213 @@
+-- The refusals as code tries them: tests over numbers that were read, and one pair after the other.
+use mathlib.Core.Path.{_≡_, refl, ap, sym, _∙_}
+use mathlib.Core.Bool.{Bool, true, false, cond, _&&_, _||_, not, false≢true}
+use mathlib.Core.List.{List, [], _∷_}
+use Prim.Native.Nat.{ℕ, suc, _+_, _-_, _*_, _%_, _≤_, _<_}
+use native.Mathlib.Nat.{sub-zero}
+use native.Mathlib.Numerals.{add-one}
+use native.Mathlib.Omega.{arith}
+use lib.Dec.{leb, ltb, eqb}
+use lib.ListN.{length}
+use borrow.Author.Tests.{lt-ltb, le-ltb, leb-true, eqb-true, eqb-false, not-false}
+use Rattle.lists.specs.Tests.{every, everyOf, between, among}
+use Rattle.lists.proofs.Tests.{split, and-left, and-right, or-false-left, or-false-right, between-low, between-high}
+use Rattle.records.proofs.Answers.{not-refuseIf}
+use Rattle.records.specs.declared.Answer.{Answer}
+use Rattle.records.specs.declared.Answer.the-variants.{Accepted, Refused}
+use Rattle.records.specs.Table.{TH}
+use Rattle.records.specs.Record.{inRange}
+use Rattle.records.specs.Answers.{orElse, refuseIf}
+use Rattle.station.specs.Current.{current, present}
+use Rattle.station.specs.Parameters.{Parameters, parameters, capacity, technology, thresholdKey}
+use Rattle.acceptance.specs.Fit.{holds, levelsOf}
+use Rattle.conduct.specs.Test.{quantity, priceAt, before}
+use Rattle.conduct.specs.Refusals.{levelRefusal, conditionRefusal, lengthRefusal, priceBefore, pairHolds, malformed, aboveCapacity}
+use Rattle.conduct.specs.Shapes.{pairTest}
+
+-- ---- chains of answers
+
+refused-if : (b : Bool) (n p : ℕ) → b ≡ true → Refused n p ≡ refuseIf b n p
+unfolding refuseIf
+refused-if b n p e = rw e refl
+
+accepted-if : (b : Bool) (n p : ℕ) → b ≡ false → Accepted ≡ refuseIf b n p
+unfolding refuseIf
+accepted-if b n p e = rw e refl
+
+pub refused-first : {a : Answer} {n p : ℕ} (b : Answer) → a ≡ Refused n p → Refused n p ≡ orElse a b
+unfolding orElse
+refused-first b e = rw e refl
+
+pub accepted-then : {a : Answer} (b : Answer) → a ≡ Accepted → b ≡ orElse a b
+unfolding orElse
+accepted-then b e = rw e refl
+
+-- ---- pairs in turn
+
+pub one-less : (n k : ℕ) → k < n → n - k ≡ suc (n - (k + 1))
+one-less n k h = omega arith
+
+-- all pairs are left where the loop begins
+pub all-left : {A : Type 0} (f : ℕ → A) (n : ℕ) → f (n - 0) ≡ f n
+all-left f n = ap f (sub-zero n)
+
+pub before-next : (o : List ℕ) (k : ℕ) → quantity o k ≡ before o (k + 1)
+unfolding before
+before-next o k = rw (add-one k) refl
+
+pub priceBefore-next : (o : List ℕ) (k : ℕ) → priceAt o k ≡ priceBefore o (k + 1)
+unfolding priceBefore
+priceBefore-next o k = rw (add-one k) refl
+
+pair-test : (o : List ℕ) (k : ℕ) → pairTest (before o k) (priceBefore o k) (quantity o k) (priceAt o k) ≡ pairHolds o k
+unfolding pairHolds every inRange between
+pair-test o k =
+    go (ltb (before o k) (quantity o k)) (leb 2147283648 (priceAt o k)) (leb (priceAt o k) 2147683648) (leb (priceBefore o k) (priceAt o k))
+  where
+    go : (a b c d : Bool) → a && b && c && d ≡ a && ((b && c) && (d && true))
+    go false b c d = refl
+    go true false c d = refl
+    go true true false d = refl
+    go true true true false = refl
+    go true true true true = refl
+
+-- 10: what was read of a pair, and of the one before it
+module _ (o : List ℕ) (n k low last high p : ℕ) (h : k < n) (l : low ≡ before o k) (b : last ≡ priceBefore o k) (q : high ≡ quantity o k) (e : p ≡ priceAt o k) where
+  pub malformed-stop : pairTest low last high p ≡ false → Refused 10 (6 * k) ≡ malformed o k (n - k)
+  unfolding malformed orElse refuseIf
+  malformed-stop t =
+      let z : pairHolds o k ≡ false = sym (pair-test o k) ∙ rw (← l, ← b, ← q, ← e) t in
+      rw (one-less n k h, z) refl
+
+  pub malformed-next : pairTest low last high p ≡ true → malformed o (k + 1) (n - (k + 1)) ≡ malformed o k (n - k)
+  unfolding malformed orElse refuseIf
+  malformed-next t =
+      let z : pairHolds o k ≡ true = sym (pair-test o k) ∙ rw (← l, ← b, ← q, ← e) t in
+      rw (one-less n k h, z) refl
+
+pub malformed-end : (o : List ℕ) (n k : ℕ) → n ≤ k → Accepted ≡ malformed o k (n - k)
+unfolding malformed
+malformed-end o n k h = let z : n - k ≡ 0 = omega arith in rw z refl
+
+-- 11: what was read of a pair
+module _ (s : Parameters) (o : List ℕ) (n k most high : ℕ) (h : k < n) (l : most ≡ capacity s) (q : high ≡ quantity o k) where
+  pub above-stop : most < high → Refused 11 (6 * k) ≡ aboveCapacity s o k (n - k)
+  unfolding aboveCapacity orElse refuseIf
+  above-stop t = rw (one-less n k h, ← l, ← q, lt-ltb most high t) refl
+
+  pub above-next : high ≤ most → aboveCapacity s o (k + 1) (n - (k + 1)) ≡ aboveCapacity s o k (n - k)
+  unfolding aboveCapacity orElse refuseIf
+  above-next t = rw (one-less n k h, ← l, ← q, le-ltb most high t) refl
+
+pub above-end : (s : Parameters) (o : List ℕ) (n k : ℕ) → n ≤ k → Accepted ≡ aboveCapacity s o k (n - k)
+unfolding aboveCapacity
+above-end s o n k h = let z : n - k ≡ 0 = omega arith in rw z refl
+
+-- ---- 10 at the length, 12, 14
+
+module _ (o : List ℕ) where
+  pub length-holds : leb 6 (length o) && leb (length o) 120 && eqb (length o % 6) 0 ≡ true → Accepted ≡ lengthRefusal o
+  unfolding lengthRefusal between
+  length-holds e = accepted-if _ 10 (length o) (ap not e)
+
+  pub length-fails : leb 6 (length o) && leb (length o) 120 && eqb (length o % 6) 0 ≡ false → Refused 10 (length o) ≡ lengthRefusal o
+  unfolding lengthRefusal between
+  length-fails e = refused-if _ 10 (length o) (ap not e)
+
+pub holds-tests : (t v : ℕ) → eqb t 1 && (eqb v 1 || eqb v 2 || eqb v 3 || eqb v 4) || eqb t 2 && eqb v 1 || eqb t 3 && (eqb v 1 || eqb v 4) ≡ holds t v
+unfolding holds levelsOf among
+holds-tests t v =
+    split (eqb t 1)
+    (λ e. rw (eqb-true t 1 e) (four (eqb v 1) (eqb v 2) (eqb v 3) (eqb v 4)))
+    (λ e. rw e (split (eqb t 2)
+    (λ f. rw (eqb-true t 2 f) refl)
+    (λ f. rw f (two (eqb t 3)))))
+  where
+    four : (a b c d : Bool) → (a || b || c || d) || false || false ≡ a || (b || (c || (d || false)))
+    four true b c d = refl
+    four false true c d = refl
+    four false false true d = refl
+    four false false false true = refl
+    four false false false false = refl
+
+    last : (a b : Bool) → a || b ≡ a || (b || false)
+    last true b = refl
+    last false true = refl
+    last false false = refl
+
+    two : (b : Bool) → b && (eqb v 1 || eqb v 4) ≡ among v (cond b (1 ∷ 4 ∷ []) [])
+    two true = last (eqb v 1) (eqb v 4)
+    two false = refl
+
+-- 12: what was read of the technology, and whether it holds the level
+module _ (s : Parameters) (v t : ℕ) (r : Bool) (e : t ≡ technology s) (h : r ≡ holds t v) where
+  same-test : eqb v 1 || not r ≡ eqb v 1 || not (holds (technology s) v)
+  same-test = rw (h, e) refl
+
+  pub level-refused : eqb v 1 || not r ≡ true → Refused 12 0 ≡ levelRefusal s v
+  unfolding levelRefusal
+  level-refused z = refused-if (eqb v 1 || not (holds (technology s) v)) 12 0 (sym same-test ∙ z)
+
+  pub level-accepted : eqb v 1 || not r ≡ false → Accepted ≡ levelRefusal s v
+  unfolding levelRefusal
+  level-accepted z = accepted-if (eqb v 1 || not (holds (technology s) v)) 12 0 (sym same-test ∙ z)
+
+-- 14: what was read of TH
+pub in-conditions : (c : ℕ) → leb 1 c && leb c 3 ≡ true → (1 ≤ c) × (c ≤ 3)
+in-conditions c e = (leb-true 1 c (and-left (leb 1 c) (leb c 3) e), leb-true c 3 (and-right (leb 1 c) (leb c 3) e))
+
+pub condition-in : (l : List (List ℕ)) (v c : ℕ) (r : List ℕ) → leb 1 c && leb c 3 ≡ true → r ≡ current TH (thresholdKey c v) l → 0 < length r → Accepted ≡ conditionRefusal (parameters l) v c
+unfolding conditionRefusal between parameters present
+condition-in l v c r t e h = accepted-if _ 14 0 (rw (t, ← e, lt-ltb 0 (length r) h) refl)
+
+pub condition-none : (l : List (List ℕ)) (v c : ℕ) (r : List ℕ) → leb 1 c && leb c 3 ≡ true → r ≡ current TH (thresholdKey c v) l → length r ≤ 0 → Refused 14 0 ≡ conditionRefusal (parameters l) v c
+unfolding conditionRefusal between parameters present
+condition-none l v c r t e h = refused-if _ 14 0 (rw (t, ← e, le-ltb 0 (length r) h) refl)
+
+pub condition-out : (s : Parameters) (v c : ℕ) → leb 1 c && leb c 3 ≡ false → Refused 14 0 ≡ conditionRefusal s v c
+unfolding conditionRefusal between
+condition-out s v c t = refused-if _ 14 0 (rw t refl)
+
+-- ---- what an offer without refusal is like
+
+pub length-accepted : (o : List ℕ) → lengthRefusal o ≡ Accepted → length o ≤ 120
+unfolding lengthRefusal
+length-accepted o e =
+    between-high 6 120 (length o) (and-left (between 6 120 (length o)) (eqb (length o % 6) 0) (not-false _ (not-refuseIf _ 10 (length o) e)))
+
+pub condition-accepted : (s : Parameters) (v c : ℕ) → conditionRefusal s v c ≡ Accepted → (1 ≤ c) × (c ≤ 3)
+unfolding conditionRefusal
+condition-accepted s v c e =
+    let b : between 1 3 c ≡ true = and-left (between 1 3 c) (s .has TH (thresholdKey c v)) (not-false _ (not-refuseIf _ 14 0 e)) in
+    (between-low 1 3 c b, between-high 1 3 c b)
+
+among-range : (v : ℕ) (l : List ℕ) → everyOf (between 1 4) l ≡ true → among v l ≡ true → (1 ≤ v) × (v ≤ 4)
+unfolding everyOf among
+among-range v [] e h = absurd (false≢true h)
+among-range v (m ∷ l) e h = go (eqb v m) refl h (λ z. among-range v l (and-right (between 1 4 m) (everyOf (between 1 4) l) e) z)
+  where
+    own : between 1 4 m ≡ true
+    own = and-left (between 1 4 m) (everyOf (between 1 4) l) e
+
+    go : (b : Bool) → eqb v m ≡ b → b || among v l ≡ true → (among v l ≡ true → (1 ≤ v) × (v ≤ 4)) → (1 ≤ v) × (v ≤ 4)
+    go true q z f = rw (eqb-true v m q) (between-low 1 4 m own, between-high 1 4 m own)
+    go false q z f = f z
+
+holds-range : (t v : ℕ) → holds t v ≡ true → (1 ≤ v) × (v ≤ 4)
+unfolding holds levelsOf everyOf between
+holds-range t v = go (eqb t 1) (eqb t 2) (eqb t 3)
+  where
+    go : (a b c : Bool) → among v (cond a (1 ∷ 2 ∷ 3 ∷ 4 ∷ []) (cond b (1 ∷ []) (cond c (1 ∷ 4 ∷ []) []))) ≡ true → (1 ≤ v) × (v ≤ 4)
+    go true b c = among-range v (1 ∷ 2 ∷ 3 ∷ 4 ∷ []) refl
+    go false true c = among-range v (1 ∷ []) refl
+    go false false true = among-range v (1 ∷ 4 ∷ []) refl
+    go false false false = among-range v [] refl
+
+pub level-range : (s : Parameters) (v : ℕ) → levelRefusal s v ≡ Accepted → (holds (technology s) v ≡ true) × (2 ≤ v) × (v ≤ 4)
+unfolding levelRefusal
+level-range s v e =
+    let b : eqb v 1 || not (holds (technology s) v) ≡ false = not-refuseIf _ 12 0 e in
+    let h : holds (technology s) v ≡ true = not-false _ (or-false-right (eqb v 1) (not (holds (technology s) v)) b) in
+    let n : v ≡ 1 → ⊥ = eqb-false v 1 (or-false-left (eqb v 1) (not (holds (technology s) v)) b) in
+    let r : (1 ≤ v) × (v ≤ 4) = holds-range (technology s) v h in
+    (h, omega arith, r .1)

@@ -1,0 +1,60 @@
+use mathlib.Core.Path.{_≡_, sym, _∙_}
+use Rattle.records.specs.declared.Answer.the-variants.{Accepted}
+use Rattle.records.specs.Dossier.{records}
+use Rattle.station.specs.Parameters.{parameters}
+use Rattle.reference.specs.Levels.{levels}
+use Rattle.conduct.specs.Refusals.{offerRefusal}
+use Rattle.reference.proofs.Packed.{handed-shown, handed-count}
+use Rattle.conduct.proofs.Outer.{offer-accepted, offer-refused, offer-tested}
+use borrow.Author.Needs.{needs}
+use Rattle.conduct.proofs.offer_verdict.Statement.{statement}
+use Rattle.conduct.proofs.offer_verdict.Tie as tie
+
+offer-refusal-requires : tie.Need-offer-refusal-requires
+offer-refusal-requires c κs = search needs
+
+enum-known-number : tie.Need-enum-known-number
+enum-known-number c = search needs
+
+enum-told : tie.Need-enum-told
+enum-told c = search needs
+
+hour-levels-requires : tie.Need-hour-levels-requires
+hour-levels-requires c κs = search needs
+
+no-refusal : (c : tie.After-enum-told) → offerRefusal (parameters (records (c .before .before .before .before .before .before .args .d .now))) (c .before .before .before .before .before .before .args .condition) (c .before .before .before .before .before .before .args .offer .now) ≡ Accepted
+no-refusal c = sym (c .before .before .offer-refusal .ensures) ∙ c .enum-told .given .1
+
+threshold-of-requires : tie.Need-threshold-of-requires
+threshold-of-requires c κs =
+    let q = offer-accepted _ _ _ (no-refusal (c .before)) in
+    (c .before .before .before .before .before .before .before .pre .0, q .0, q .1, search needs, search needs)
+
+offer-test-requires : tie.Need-offer-test-requires
+offer-test-requires c κs =
+    let a = c .before .before .before .before .before .before .before .before .args in
+    (handed-count (a .d .now) (a .hour) _ (c .before .hour-levels .ensures), offer-accepted _ _ _ (no-refusal (c .before .before)) .2)
+
+returns : tie.Need-returns
+returns c =
+    let a = c .before .before .before .before .before .before .before .args in
+    offer-refused (parameters (records (a .d .now))) (a .condition) (levels (a .d .now) (a .hour)) (a .offer .now) (sym (c .before .before .before .offer-refusal .ensures) ∙ c .before .number .given .1)
+
+returns-2 : tie.Need-returns-2
+returns-2 c =
+    let a = c .before .before .before .before .before .before .before .before .before .args in
+    offer-tested (parameters (records (a .d .now))) (a .condition) (levels (a .d .now) (a .hour)) (a .offer .now) (c .before .before .hour-levels .result) (c .before .threshold-of .result)
+    (no-refusal (c .before .before .before)) (handed-shown (a .d .now) (a .hour) _ (c .before .before .hour-levels .ensures)) (c .before .threshold-of .ensures) (c .offer-test .ensures)
+
+pub offer-verdict-spec : {M : Type 1} → statement M
+offer-verdict-spec =
+    tie.close
+    (tie.spec
+    offer-refusal-requires
+    enum-known-number
+    enum-told
+    hour-levels-requires
+    threshold-of-requires
+    offer-test-requires
+    returns
+    returns-2)

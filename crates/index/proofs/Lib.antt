@@ -1,0 +1,4 @@
+pub mod Slots
+pub mod Holds
+pub mod Turn
+pub mod Entries

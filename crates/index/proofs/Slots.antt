@@ -1,0 +1,235 @@
+-- Laws of the slots: in range they are below 2350, and no two keys share one.
+use mathlib.Core.Path.{_≡_, refl, ap, sym, subst, _∙_}
+use mathlib.Core.Bool.{Bool, true, false, cond, _&&_, not, _||_}
+use mathlib.Core.List.{List, [], _∷_}
+use Prim.Native.Nat.{ℕ, zero, suc, _+_, _*_, _/_, _%_, _≤_, _<_}
+use native.Mathlib.Omega.{arith}
+use lib.Dec.{leb, ltb, eqb, lit≤, lit<}
+use lib.ListN.{length, getD}
+use borrow.Author.Tests.{lt-ltb, leb-true, ltb-true, ltb-false}
+use Rattle.lists.specs.Tests.{allBelow, between, everyOf}
+use Rattle.lists.proofs.Tests.{and-left, and-right, and-both, between-low, between-high, in-between, below-at, everyOf-at}
+use Rattle.fields.specs.Numbers.{number}
+use Rattle.records.specs.declared.MarkShape.{MarkShape}
+use Rattle.records.specs.Table.{Row, table, rowOf, fieldOf}
+use Rattle.records.specs.Record.{markIn, mark, widths, size, offsetIn, offset, read, value, keyIn, keyWidth, keyOf, inRange, rangesHold, fault}
+use Rattle.records.specs.Shapes.{shape, shapeOf, keyField, keyFits, keyTest}
+use Rattle.records.proofs.Record.{faultless, field-in}
+use Rattle.index.specs.Slots.{slot}
+
+-- ---- the marks
+
+cond-lt : (b : Bool) (x y n : ℕ) → x < n → y < n → cond b x y < n
+cond-lt true x y n p q = p
+cond-lt false x y n p q = q
+
+in-lt : (k : ℕ) (l : List Row) (a b : ℕ) → 0 < k → markIn k l a b < k + length l
+unfolding markIn
+in-lt k [] a b h = omega arith
+in-lt k (x ∷ l) a b h =
+    cond-lt (eqb a (x .first) && eqb b (x .second)) k (markIn (suc k) l a b) (k + suc (length l)) (omega arith) (omega (arith, in-lt (suc k) l a b (omega arith)))
+
+pub mark-lt : (s : List ℕ) → mark s < 10
+unfolding mark table
+mark-lt s = in-lt 1 table (getD s 0 0) (getD s 1 0) (lit< tt)
+
+pub by-mark : (P : ℕ → Type 0) → P 1 → P 2 → P 3 → P 4 → P 5 → P 6 → P 7 → P 8 → P 9 → (k : ℕ) → (k ≡ 0 → ⊥) → k < 10 → P k
+by-mark P a b c d e f g h i zero z l = absurd (z refl)
+by-mark P a b c d e f g h i (suc zero) z l = a
+by-mark P a b c d e f g h i (suc (suc zero)) z l = b
+by-mark P a b c d e f g h i (suc (suc (suc zero))) z l = c
+by-mark P a b c d e f g h i (suc (suc (suc (suc zero)))) z l = d
+by-mark P a b c d e f g h i (suc (suc (suc (suc (suc zero))))) z l = e
+by-mark P a b c d e f g h i (suc (suc (suc (suc (suc (suc zero)))))) z l = f
+by-mark P a b c d e f g h i (suc (suc (suc (suc (suc (suc (suc zero))))))) z l = g
+by-mark P a b c d e f g h i (suc (suc (suc (suc (suc (suc (suc (suc zero)))))))) z l = h
+by-mark P a b c d e f g h i (suc (suc (suc (suc (suc (suc (suc (suc (suc zero))))))))) z l = i
+by-mark P a b c d e f g h i (suc (suc (suc (suc (suc (suc (suc (suc (suc (suc k)))))))))) z l = absurd (omega arith)
+
+pub size-11 : (k : ℕ) → (k ≡ 0 → ⊥) → k < 10 → 11 ≤ size k
+unfolding size widths rowOf table
+size-11 = by-mark (λ k. 11 ≤ size k) (lit≤ tt) (lit≤ tt) (lit≤ tt) (lit≤ tt) (lit≤ tt) (lit≤ tt) (lit≤ tt) (lit≤ tt) (lit≤ tt)
+
+-- ---- keys: the numbers within the bounds of the code's table
+
+abbrev Span : MarkShape → ℕ → ℕ → Type 0
+Span m i x = (getD (m .lowest) i 0 ≤ x) × (x ≤ getD (m .highest) i 0)
+
+-- a number's key fields; the tests: there is no second field, no third
+unfoldable pub Spans : Bool → Bool → MarkShape → ℕ → Type 0
+Spans true b m n = Span m 0 n
+Spans false true m n = Span m 0 (n / 256) × Span m 1 (n % 256)
+Spans false false m n = Span m 0 (n / 65536) × Span m 1 (n / 256 % 256) × Span m 2 (n % 256)
+
+abbrev none : MarkShape → ℕ → Bool
+none m i = eqb (getD (m .highest) i 0) 0
+
+-- a number is a key of mark k
+pub record InKey (k n : ℕ) : Type 0 where
+  pub known : 1 ≤ k
+  pub low : k < 10
+  pub spans : Spans (none (shapeOf k) 1) (none (shapeOf k) 2) (shapeOf k) n
+
+span-of : {lo hi x : ℕ} → between lo hi x ≡ true → (lo ≤ x) × (x ≤ hi)
+span-of {lo} {hi} {x} e = (between-low lo hi x e, between-high lo hi x e)
+
+of-span : (m : MarkShape) (i x : ℕ) → Span m i x → keyField m i x ≡ true
+unfolding keyField
+of-span m i x p = in-between (getD (m .lowest) i 0) (getD (m .highest) i 0) x (p .0) (p .1)
+
+to-span : (m : MarkShape) (i x : ℕ) → keyField m i x ≡ true → Span m i x
+unfolding keyField
+to-span m i x e = span-of e
+
+-- the test of the code decides it
+pub test-key : (k n : ℕ) → k < 10 → keyTest k n ≡ true → InKey k n
+unfolding keyTest keyFits
+test-key k n h e =
+    record { known = ltb-true 0 k (and-left (ltb 0 k) (keyFits (shapeOf k) n) e); low = h; spans = go (shapeOf k) (none (shapeOf k) 1) (none (shapeOf k) 2) (and-right (ltb 0 k) (keyFits (shapeOf k) n) e) }
+  where
+    go : (m : MarkShape) (a b : Bool) → cond a (keyField m 0 n) (cond b (keyField m 0 (n / 256) && keyField m 1 (n % 256)) (keyField m 0 (n / 65536) && keyField m 1 (n / 256 % 256) && keyField m 2 (n % 256))) ≡ true → Spans a b m n
+    go m true b e = unfold Spans in to-span m 0 n e
+    go m false true e =
+        unfold Spans in
+        (to-span m 0 (n / 256) (and-left (keyField m 0 (n / 256)) (keyField m 1 (n % 256)) e), to-span m 1 (n % 256) (and-right (keyField m 0 (n / 256)) (keyField m 1 (n % 256)) e))
+    go m false false e =
+        let f = and-left (keyField m 0 (n / 65536) && keyField m 1 (n / 256 % 256)) (keyField m 2 (n % 256)) e in
+        unfold Spans in
+        (to-span m 0 (n / 65536) (and-left (keyField m 0 (n / 65536)) (keyField m 1 (n / 256 % 256)) f), to-span m 1 (n / 256 % 256) (and-right (keyField m 0 (n / 65536)) (keyField m 1 (n / 256 % 256)) f), to-span m 2 (n % 256) (and-right (keyField m 0 (n / 65536) && keyField m 1 (n / 256 % 256)) (keyField m 2 (n % 256)) e))
+
+pub key-test : (k n : ℕ) → InKey k n → keyTest k n ≡ true
+unfolding keyTest keyFits
+key-test k n p = and-both (ltb 0 k) (keyFits (shapeOf k) n) (lt-ltb 0 k (omega (arith, p .known))) (go (shapeOf k) (none (shapeOf k) 1) (none (shapeOf k) 2) (p .spans))
+  where
+    go : (m : MarkShape) (a b : Bool) → Spans a b m n → cond a (keyField m 0 n) (cond b (keyField m 0 (n / 256) && keyField m 1 (n % 256)) (keyField m 0 (n / 65536) && keyField m 1 (n / 256 % 256) && keyField m 2 (n % 256))) ≡ true
+    go m true b q = unfold Spans in of-span m 0 n q
+    go m false true q = unfold Spans in rw (of-span m 0 (n / 256) (q .0), of-span m 1 (n % 256) (q .1)) refl
+    go m false false q = unfold Spans in rw (of-span m 0 (n / 65536) (q .0), of-span m 1 (n / 256 % 256) (q .1), of-span m 2 (n % 256) (q .2)) refl
+
+-- ---- a record without fault has a key of its mark
+
+Keyed : List ℕ → ℕ → Type 0
+Keyed r k = rangesHold k r ≡ true → Spans (none (shapeOf k) 1) (none (shapeOf k) 2) (shapeOf k) (number 6 (keyWidth k) r)
+
+module _ (r : List ℕ) where
+  keyed-rs : Keyed r 1
+  unfolding Keyed Spans shapeOf shape keyWidth keyIn rowOf table number
+  keyed-rs h = (omega arith, omega arith)
+
+  keyed-hp : Keyed r 2
+  unfolding Keyed Spans shapeOf shape keyWidth keyIn inRange value read offset offsetIn fieldOf rowOf table
+  keyed-hp h = span-of (field-in 2 0 r h (lit< tt))
+
+  keyed-fu : Keyed r 3
+  unfolding Keyed Spans shapeOf shape keyWidth keyIn inRange value read offset offsetIn fieldOf rowOf table
+  keyed-fu h = span-of (field-in 3 0 r h (lit< tt))
+
+  keyed-rq : Keyed r 6
+  unfolding Keyed Spans shapeOf shape keyWidth keyIn inRange value read offset offsetIn fieldOf rowOf table
+  keyed-rq h = span-of (field-in 6 0 r h (lit< tt))
+
+  keyed-hr : Keyed r 7
+  unfolding Keyed Spans shapeOf shape keyWidth keyIn inRange value read offset offsetIn fieldOf rowOf table
+  keyed-hr h = span-of (field-in 7 0 r h (lit< tt))
+
+  keyed-ch : Keyed r 8
+  unfolding Keyed Spans shapeOf shape keyWidth keyIn inRange value read offset offsetIn fieldOf rowOf table
+  keyed-ch h = span-of (field-in 8 0 r h (lit< tt))
+
+  keyed-mm : Keyed r 5
+  unfolding Keyed Spans shapeOf shape keyWidth keyIn inRange value read offset offsetIn fieldOf rowOf table number
+  keyed-mm h =
+      let a = span-of (field-in 5 0 r h (lit< tt)) in
+      let b = span-of (field-in 5 1 r h (lit< tt)) in
+      ((omega (arith, a, b), omega (arith, a, b)), (omega (arith, a, b), omega (arith, a, b)))
+
+  keyed-th : Keyed r 9
+  unfolding Keyed Spans shapeOf shape keyWidth keyIn inRange value read offset offsetIn fieldOf rowOf table number
+  keyed-th h =
+      let a = span-of (field-in 9 0 r h (lit< tt)) in
+      let b = span-of (field-in 9 1 r h (lit< tt)) in
+      ((omega (arith, a, b), omega (arith, a, b)), (omega (arith, a, b), omega (arith, a, b)))
+
+  keyed-ad : Keyed r 4
+  unfolding Keyed Spans shapeOf shape keyWidth keyIn inRange value read offset offsetIn fieldOf rowOf table number
+  keyed-ad h =
+      let a = span-of (field-in 4 0 r h (lit< tt)) in
+      let b = span-of (field-in 4 1 r h (lit< tt)) in
+      let c = span-of (field-in 4 2 r h (lit< tt)) in
+      ((omega (arith, a, b, c), omega (arith, a, b, c)), (omega (arith, a, b, c), omega (arith, a, b, c)), (omega (arith, a, b, c), omega (arith, a, b, c)))
+
+pub in-key : (r : List ℕ) → fault r ≡ 0 → InKey (mark r) (keyOf r)
+unfolding Keyed keyOf
+in-key r e =
+    let f = faultless r e in
+    record {
+      known = omega (arith, f .known);
+      low = mark-lt r;
+      spans = by-mark (Keyed r) (keyed-rs r) (keyed-hp r) (keyed-fu r) (keyed-ad r) (keyed-mm r) (keyed-rq r) (keyed-hr r) (keyed-ch r) (keyed-th r) (mark r) (f .known) (mark-lt r) (f .ranges);
+    }
+
+-- ---- no two keys share a slot
+
+-- where the slots of a mark begin and end
+unfoldable pub low : ℕ → ℕ
+low k = getD (0 ∷ 0 ∷ 1 ∷ 22 ∷ 26 ∷ 106 ∷ 138 ∷ 154 ∷ 322 ∷ 2338 ∷ []) k 0
+
+unfoldable pub high : ℕ → ℕ
+high k = getD (0 ∷ 0 ∷ 21 ∷ 25 ∷ 105 ∷ 137 ∷ 153 ∷ 321 ∷ 2337 ∷ 2349 ∷ []) k 0
+
+pub at-mark : (P : ℕ → Type 0) (k n : ℕ) → InKey k n → P 1 → P 2 → P 3 → P 4 → P 5 → P 6 → P 7 → P 8 → P 9 → P k
+at-mark P k n p a b c d e f g h i = by-mark P a b c d e f g h i k (λ z. omega (arith, z, p .known)) (p .low)
+
+pub limits : (k n : ℕ) → InKey k n → (low k ≤ slot k n) × (slot k n ≤ high k)
+unfolding Spans shapeOf shape rowOf table slot low high
+limits k n p = at-mark (λ j. InKey j n → (low j ≤ slot j n) × (slot j n ≤ high j)) k n p (λ q. (omega (arith, q .spans), omega (arith, q .spans))) (λ q. (omega (arith, q .spans), omega (arith, q .spans))) (λ q. (omega (arith, q .spans), omega (arith, q .spans))) (λ q. (omega (arith, q .spans), omega (arith, q .spans))) (λ q. (omega (arith, q .spans), omega (arith, q .spans))) (λ q. (omega (arith, q .spans), omega (arith, q .spans))) (λ q. (omega (arith, q .spans), omega (arith, q .spans))) (λ q. (omega (arith, q .spans), omega (arith, q .spans))) (λ q. (omega (arith, q .spans), omega (arith, q .spans))) p
+
+all-le : (l : List ℕ) (m : ℕ) → everyOf (λ x. leb x m) l ≡ true → leb 0 m ≡ true → (k : ℕ) → getD l k 0 ≤ m
+all-le l m e z k = leb-true (getD l k 0) m (everyOf-at (λ x. leb x m) l 0 z e k)
+
+pub slot-lt : (k n : ℕ) → InKey k n → slot k n < 2350
+unfolding high
+slot-lt k n p = omega (arith, limits k n p .1, high-le k)
+  where
+    high-le : (k : ℕ) → high k ≤ 2349
+    high-le k = unfold high everyOf in all-le (0 ∷ 0 ∷ 21 ∷ 25 ∷ 105 ∷ 137 ∷ 153 ∷ 321 ∷ 2337 ∷ 2349 ∷ []) 2349 refl refl k
+
+three : (a b c x y z : ℕ) → Span (shapeOf 4) 0 a × Span (shapeOf 4) 1 b × Span (shapeOf 4) 2 c → Span (shapeOf 4) 0 x × Span (shapeOf 4) 1 y × Span (shapeOf 4) 2 z → 1 + a * 20 + b * 4 + c ≡ 1 + x * 20 + y * 4 + z → (a ≡ x) × (b ≡ y) × (c ≡ z)
+unfolding shapeOf shape rowOf table
+three a b c x y z p q e =
+    let f : a ≡ x = omega (arith, p, q, e) in
+    let g : b ≡ y = omega (arith, p, q, e, f) in
+    (f, g, omega (arith, e, f, g))
+
+three-digits : (n : ℕ) → n ≡ n / 65536 * 65536 + n / 256 % 256 * 256 + n % 256
+three-digits n = omega arith
+
+three-same : (n m : ℕ) → (n / 65536 ≡ m / 65536) × (n / 256 % 256 ≡ m / 256 % 256) × (n % 256 ≡ m % 256) → n ≡ m
+three-same n m p = three-digits n ∙ rw (p .0, p .1, p .2) (sym (three-digits m))
+
+same-key : (k n m : ℕ) → InKey k n → InKey k m → slot k n ≡ slot k m → n ≡ m
+unfolding Spans shapeOf shape rowOf table slot
+same-key k n m p =
+    at-mark (λ j. InKey j n → InKey j m → slot j n ≡ slot j m → n ≡ m) k n p (λ p q e. omega (arith, p .spans, q .spans, e)) (λ p q e. omega (arith, p .spans, q .spans, e)) (λ p q e. omega (arith, p .spans, q .spans, e))
+    (λ p q e. three-same n m (three (n / 65536) (n / 256 % 256) (n % 256) (m / 65536) (m / 256 % 256) (m % 256) (p .spans) (q .spans) e))
+    (λ p q e. omega (arith, p .spans, q .spans, e)) (λ p q e. omega (arith, p .spans, q .spans, e)) (λ p q e. omega (arith, p .spans, q .spans, e)) (λ p q e. omega (arith, p .spans, q .spans, e)) (λ p q e. omega (arith, p .spans, q .spans, e)) p
+
+apartTest : ℕ → ℕ → Bool
+apartTest k j = not (ltb 0 k && ltb k j) || ltb (high k) (low j)
+
+ordered : (k j : ℕ) → 1 ≤ k → k < j → j < 10 → high k < low j
+unfolding apartTest high low allBelow
+ordered k j a b c =
+    let t : not (ltb 0 k && ltb k j) || ltb (high k) (low j) ≡ true =
+    below-at 10 (λ x. apartTest x j) (below-at 10 (λ y. allBelow 10 (λ x. apartTest x y)) refl j c) k (omega arith) in
+    ltb-true (high k) (low j) (rw (lt-ltb 0 k (omega arith), lt-ltb k j b) at t)
+
+pub slot-apart : (k n j m : ℕ) → InKey k n → InKey j m → slot k n ≡ slot j m → (k ≡ j) × (n ≡ m)
+slot-apart k n j m p q e = go (ltb k j) refl (ltb j k) refl
+  where
+    go : (a : Bool) → ltb k j ≡ a → (b : Bool) → ltb j k ≡ b → (k ≡ j) × (n ≡ m)
+    go true x b y = absurd (omega (arith, e, limits k n p, limits j m q, ordered k j (p .known) (ltb-true k j x) (q .low)))
+    go false x true y = absurd (omega (arith, e, limits k n p, limits j m q, ordered j k (q .known) (ltb-true j k y) (p .low)))
+    go false x false y =
+        let w : k ≡ j = omega (arith, ltb-false k j x, ltb-false j k y) in
+        (w, same-key k n m p (subst (λ (i : ℕ). InKey i m) (sym w) q) (e ∙ ap (λ (i : ℕ). slot i m) (sym w)))

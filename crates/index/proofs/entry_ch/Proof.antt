@@ -1,0 +1,28 @@
+use mathlib.Core.Path.{ap, _∙_}
+use Rattle.records.specs.Table.{table, rowOf}
+use Rattle.records.specs.Record.{widths, size, keyIn, keyWidth}
+use Rattle.index.specs.Slots.{slot, slotAt}
+use Rattle.index.specs.Entries.{entry}
+use borrow.Author.Needs.{needs}
+use Rattle.index.proofs.entry_ch.Statement.{statement}
+use Rattle.index.proofs.entry_ch.Tie as tie
+
+element-copy-out-t35 : tie.Need-element-copy-out-t35
+element-copy-out-t35 c = search needs
+
+u16-at-requires : tie.Need-u16-at-requires
+u16-at-requires c κs = search needs
+
+cast-slot-ch : tie.Need-cast-slot-ch
+cast-slot-ch c = search needs
+
+slot-ch-requires : tie.Need-slot-ch-requires
+slot-ch-requires c κs = search needs
+
+returns : tie.Need-returns
+unfolding slotAt size widths keyWidth keyIn rowOf table
+returns c = ap (entry _) (c .slot-ch .ensures ∙ ap (slot 8) (c .before .u16-at .ensures))
+
+pub entry-ch-spec : {M : Type 1} → statement M
+entry-ch-spec =
+    tie.close (tie.spec element-copy-out-t35 u16-at-requires cast-slot-ch slot-ch-requires returns)

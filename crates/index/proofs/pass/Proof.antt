@@ -1,0 +1,170 @@
+use borrow.Author.Needs.{needs}
+use native.Mathlib.Omega.{arith}
+use mathlib.Core.Path.{_≡_, refl, sym, ap, _∙_}
+use mathlib.Core.Bool.{true}
+use mathlib.Core.List.{List}
+use Prim.Native.Nat.{ℕ, _≤_, _<_, _-_}
+use lib.ListN.{length, drop, take, length-set}
+use Rattle.records.specs.declared.Found.the-variants.{Record}
+use Rattle.records.specs.Walk.{found}
+use Rattle.records.proofs.Walk.{Rest, start, stop, end}
+use Rattle.index.specs.declared.Reading.{Reading}
+use Rattle.index.specs.Slots.{slotAt, kept, keepStep, passOf, slotsOf}
+use Rattle.index.specs.Entries.{readingOf}
+use Rattle.index.proofs.Turn.{tail, bounds, turn, below}
+use Rattle.index.proofs.Entries.{whole-found, fault-found}
+use Rattle.index.proofs.pass.Statement.{statement}
+use Rattle.index.proofs.pass.Tie as tie
+
+abbrev Inv-loop : tie.InvT-loop
+Inv-loop d index₀ at₀ rising₀ index at rising = (at ≤ length d) × (length index ≡ length index₀) × Rest keepStep (kept index₀ true) d at (kept index rising)
+
+abbrev μ-loop : tie.MeasureT-loop
+μ-loop d index₀ at₀ rising₀ index at rising = length d - at
+
+loop-holds : tie.Need-loop-holds Inv-loop μ-loop
+loop-holds c = (search needs, refl, start _ _ _)
+
+sub-rest : tie.Need-sub-rest Inv-loop μ-loop
+sub-rest c = search needs
+
+part-rest-start : tie.Need-part-rest-start Inv-loop μ-loop
+part-rest-start c = search needs
+
+part-rest-end : tie.Need-part-rest-end Inv-loop μ-loop
+part-rest-end c = search needs
+
+read-requires : tie.Need-read-requires Inv-loop μ-loop
+read-requires c κs = search needs
+
+enum-known-entry : tie.Need-enum-known-entry Inv-loop μ-loop
+enum-known-entry c = search needs
+
+abbrev d-of : tie.In-loop Inv-loop μ-loop → List ℕ
+d-of i = i .before .before .before .before .args .d .now
+
+abbrev at-of : tie.In-loop Inv-loop μ-loop → ℕ
+at-of i = i .before .loop .at
+
+read-of : (r : tie.After-read Inv-loop μ-loop) {x : Reading} → r .read .result ≡ x → readingOf (drop (at-of (r .before .before)) (d-of (r .before .before))) ≡ x
+read-of r g = sym (ap readingOf (tail (d-of (r .before .before)) (at-of (r .before .before)))) ∙ sym (r .read .ensures) ∙ g
+
+-- a turn with a record
+abbrev In : tie.After-known-told Inv-loop μ-loop → tie.In-loop Inv-loop μ-loop
+In c = c .before .before .before .before .before
+
+abbrev len-of : tie.After-known-told Inv-loop μ-loop → ℕ
+len-of c = c .before .entry .given .0 .0 .len
+
+abbrev slot-of : tie.After-known-told Inv-loop μ-loop → ℕ
+slot-of c = c .before .entry .given .0 .0 .slot
+
+its-found : (c : tie.After-known-told Inv-loop μ-loop) → (k : ℕ) × (found (drop (at-of (In c)) (d-of (In c))) ≡ Record k (len-of c)) × (slot-of c ≡ slotAt k (take (length (d-of (In c)) - at-of (In c)) (drop (at-of (In c)) (d-of (In c)))))
+its-found c =
+    let z = whole-found (drop (at-of (In c)) (d-of (In c))) (c .before .entry .given .0 .0) (read-of (c .before .before .before) (c .before .entry .given .1)) in
+    (z .0, z .1, z .2 ∙ sym (ap (slotAt (z .0)) (tail (d-of (In c)) (at-of (In c)))))
+
+its : (c : tie.After-known-told Inv-loop μ-loop) → (1 ≤ len-of c) × (len-of c ≤ length (d-of (In c)) - at-of (In c)) × (its-found c .0 < 10)
+its c = bounds (d-of (In c)) (at-of (In c)) _ _ (its-found c .1)
+
+slot-fits : (c : tie.After-known-told Inv-loop μ-loop) → slot-of c < 2350
+slot-fits c = below (d-of (In c)) (at-of (In c)) _ _ (its-found c .1) (its-found c .2)
+
+u32-at-requires : tie.Need-u32-at-requires Inv-loop μ-loop
+u32-at-requires c κs = search needs
+
+cast-stamp : tie.Need-cast-stamp Inv-loop μ-loop
+cast-stamp c = search needs
+
+add-stamp : tie.Need-add-stamp Inv-loop μ-loop
+add-stamp c = search needs
+
+mul-stamp : tie.Need-mul-stamp Inv-loop μ-loop
+mul-stamp c = search needs
+
+mul-old : tie.Need-mul-old Inv-loop μ-loop
+mul-old c = omega (arith, slot-fits (c .before))
+
+slice-read-old : tie.Need-slice-read-old Inv-loop μ-loop
+slice-read-old c = omega (arith, slot-fits (c .before .before))
+
+add-greater : tie.Need-add-greater Inv-loop μ-loop
+add-greater c = search needs
+
+greater-requires : tie.Need-greater-requires Inv-loop μ-loop
+greater-requires c κs = search needs
+
+mul-index : tie.Need-mul-index Inv-loop μ-loop
+mul-index c = omega (arith, slot-fits (c .before .before .before))
+
+slice-write-index : tie.Need-slice-write-index Inv-loop μ-loop
+slice-write-index c = omega (arith, slot-fits (c .before .before .before))
+
+add-at : tie.Need-add-at Inv-loop μ-loop
+add-at c = omega (arith, its (c .before .before .before .before))
+
+loop-less : tie.Need-loop-less Inv-loop μ-loop
+loop-less c = omega (arith, its (c .before .before .before .before))
+
+loop-again : tie.Need-loop-again Inv-loop μ-loop
+loop-again c =
+    let k = c .before .before .before .before in
+    let i = In k in
+    let l = i .before .loop in
+    (omega (arith, its k), simp length-set (l .inv .1), turn (d-of i) _ (l .index) (l .at) (its-found k .0) (len-of k) (l .rising) (i .loop-test .taken) (l .inv .2) (its-found k .1) (its-found k .2) (c .before .before .before .u32-at .ensures) (c .before .greater .ensures))
+
+enum-known-number : tie.Need-enum-known-number Inv-loop μ-loop
+enum-known-number c = search needs
+
+same-length : tie.Need-same-length Inv-loop μ-loop
+same-length c = search needs
+
+returns : tie.Need-returns Inv-loop μ-loop
+unfolding passOf slotsOf
+returns c =
+    let r = c .before .before .before in
+    let i = r .before .before in
+    let e = stop keepStep (kept (i .before .before .before .before .args .index .now) true) (d-of i) (at-of i) _ _ (i .loop-test .taken) (i .before .loop .inv .2) (fault-found (drop (at-of i) (d-of i)) _ (read-of r (c .before .number .given .1))) in
+    (sym (ap passOf e), sym (ap (slotsOf (i .before .loop .index)) e))
+
+same-length-2 : tie.Need-same-length-2 Inv-loop μ-loop
+same-length-2 c = search needs
+
+returns-2 : tie.Need-returns-2 Inv-loop μ-loop
+unfolding passOf slotsOf
+returns-2 c =
+    let l = c .before .loop in
+    let a = c .before .before .before .before .args in
+    let e = end keepStep (kept (a .index .now) true) (a .d .now) (l .at) (kept (l .index) (l .rising)) (c .loop-test .left) (l .inv .2) in
+    (sym (ap passOf e), sym (ap (slotsOf (l .index)) e))
+
+pub pass-spec : {M : Type 1} → statement M
+pass-spec =
+    tie.close
+    (tie.spec
+    Inv-loop
+    μ-loop
+    loop-holds
+    sub-rest
+    part-rest-start
+    part-rest-end
+    read-requires
+    enum-known-entry
+    u32-at-requires
+    cast-stamp
+    add-stamp
+    mul-stamp
+    mul-old
+    slice-read-old
+    add-greater
+    greater-requires
+    mul-index
+    slice-write-index
+    add-at
+    loop-less
+    loop-again
+    enum-known-number
+    same-length
+    returns
+    same-length-2
+    returns-2)

@@ -1,0 +1,34 @@
+-- What the record reader answers: what is found, with its slot.
+use mathlib.Core.Bool.{cond}
+use mathlib.Core.List.{List}
+use Prim.Native.Nat.{ℕ}
+use lib.Dec.{ltb}
+use lib.ListN.{length}
+use Rattle.records.specs.declared.Found.{Found}
+use Rattle.records.specs.declared.Found.the-variants.{Record, Faulty}
+use Rattle.records.specs.Record.{size, rangesHold}
+use Rattle.records.specs.Walk.{found}
+use Rattle.index.specs.declared.Entry.{Entry}
+use Rattle.index.specs.declared.Reading.{Reading}
+use Rattle.index.specs.declared.Reading.the-variants.{Whole, Fault}
+use Rattle.index.specs.Slots.{slotAt}
+
+abbrev pub entry : ℕ → ℕ → Entry
+entry n j = record { len = n; slot = j }
+
+-- the length and the slot of a record of mark k
+abbrev pub entryAs : ℕ → List ℕ → Entry
+entryAs k s = entry (size k) (slotAt k s)
+
+-- what is found, with its slot
+unfoldable pub placed : List ℕ → Found → Reading
+placed s (Record k n) = Whole (entry n (slotAt k s))
+placed s (Faulty m) = Fault m
+
+-- at the front of the rest of a dossier
+unfoldable pub readingOf : List ℕ → Reading
+readingOf s = placed s (found s)
+
+-- the same of a rest that begins with mark k
+unfoldable pub readingAs : ℕ → List ℕ → Reading
+readingAs k s = cond (ltb (length s) (size k)) (Fault 2) (cond (rangesHold k s) (Whole (entryAs k s)) (Fault 3))

@@ -1,0 +1,82 @@
+-- From the index to the lookup.
+use mathlib.Core.Path.{_≡_, refl, ap, sym, _∙_}
+use mathlib.Core.Bool.{Bool, true, false, cond, _&&_}
+use mathlib.Core.List.{List, [], _∷_}
+use Prim.Native.Nat.{ℕ, _+_, _*_, _≤_, _<_}
+use native.Mathlib.Omega.{arith}
+use lib.Dec.{eqb, leb}
+use lib.ListN.{length}
+use borrow.Author.Tests.{eq-eqb, ne-eqb, leb-true}
+use Rattle.lists.specs.Tests.{everyOf}
+use Rattle.lists.proofs.Tests.{everyOf-at}
+use Rattle.fields.specs.Numbers.{number}
+use Rattle.fields.proofs.Numbers.{number-join}
+use Rattle.records.specs.Table.{Row, table, noRow, rowOf}
+use Rattle.records.specs.declared.Answer.{Answer}
+use Rattle.records.specs.declared.Answer.the-variants.{Accepted, Refused}
+use Rattle.records.specs.Record.{mark, keyIn, keyWidth}
+use Rattle.records.specs.Answers.{isAccepted}
+use Rattle.records.specs.Dossier.{records}
+use Rattle.station.specs.Current.{current, readable, lookup, lookupBytes}
+use Rattle.lookup.specs.declared.Part.{Part}
+use Rattle.lookup.specs.Parts.{part, bytesOf, currentPart, lookupPart, indexOf}
+use Rattle.lookup.proofs.Parts.{current-bytes, current-ends}
+use Rattle.lookup.proofs.Opening.{accepted-indexed}
+
+-- ---- a key's bytes as a number
+
+pub number-0 : (l : List ℕ) → length l ≡ 0 → 0 ≡ number 0 (length l) l
+unfolding number
+number-0 l e = rw e refl
+
+pub number-at : (l : List ℕ) (w : ℕ) {b : ℕ} → length l ≡ w → b ≡ number 0 w l → b ≡ number 0 (length l) l
+number-at l w e h = rw e h
+
+pub number-3 : (l : List ℕ) {b c : ℕ} → length l ≡ 3 → b ≡ number 0 2 l → c ≡ number 2 1 l → b * 256 + c ≡ number 0 (length l) l
+number-3 l e h g = rw (e, h, g) (sym (number-join 0 2 1 l))
+
+-- no key is wider than three bytes
+pub width-le : (k : ℕ) → keyWidth k ≤ 3
+unfolding keyWidth rowOf table everyOf keyIn
+width-le k = leb-true (keyWidth k) 3 (everyOf-at (λ (x : Row). leb (keyIn (x .fields)) 3) (noRow ∷ table) noRow refl refl k)
+
+-- ---- the lookup by start and length
+
+module _ (d : List ℕ) (k n : ℕ) (b : k < 10) where
+  by-answer : (P : Part → List ℕ → Type 0) → (Accepted ≡ readable d → P (currentPart k n (records d)) (current k n (records d))) → P (part 0 0) [] → P (lookupPart d k n) (lookup d k n)
+  unfolding lookupPart lookup
+  by-answer P p q = go (readable d) refl
+    where
+      go : (a : Answer) → a ≡ readable d → P (cond (isAccepted a) (currentPart k n (records d)) (part 0 0)) (cond (isAccepted a) (current k n (records d)) [])
+      go Accepted e = unfold isAccepted in p e
+      go (Refused m p) e = unfold isAccepted in q
+
+  -- its bytes are the part that the lookup hands back
+  pub lookup-bytes : bytesOf d (lookupPart d k n) ≡ lookup d k n
+  lookup-bytes = by-answer (λ p l. bytesOf d p ≡ l) (λ e. current-bytes d (indexOf d) (accepted-indexed d e) k n b) (unfold bytesOf in refl)
+
+  pub lookup-ends : {p : Part} → p ≡ lookupPart d k n → p .start + p .length ≤ length d
+  lookup-ends q = rw q (by-answer (λ p l. p .start + p .length ≤ length d) (λ e. current-ends d (indexOf d) (accepted-indexed d e) k n b refl) (omega arith))
+
+pub part-accepted : (d : List ℕ) (k n : ℕ) → Accepted ≡ readable d → currentPart k n (records d) ≡ lookupPart d k n
+unfolding lookupPart isAccepted
+part-accepted d k n e = rw (← e) refl
+
+pub part-refused : (d : List ℕ) (k n m p : ℕ) → Refused m p ≡ readable d → part 0 0 ≡ lookupPart d k n
+unfolding lookupPart isAccepted
+part-refused d k n m p e = rw (← e) refl
+
+-- ---- by the bytes of mark and key
+
+pub looked : (d m key : List ℕ) {k n : ℕ} {p : Part} {l : List ℕ} → k < 10 → l ≡ bytesOf d p → p ≡ lookupPart d k n → k ≡ mark m → n ≡ number 0 (length key) key → length m ≡ 2 → length key ≡ keyWidth k → l ≡ lookupBytes d m key
+unfolding lookupBytes
+looked d m key {k} {n} b e q g i t w =
+    e ∙ ap (bytesOf d) q ∙ lookup-bytes d k n b ∙ rw (eq-eqb (length m) 2 t, eq-eqb (length key) (keyWidth (mark m)) (w ∙ ap keyWidth g), g, i) refl
+
+pub other-width : (d m key : List ℕ) → (length key ≡ keyWidth (mark m) → ⊥) → [] ≡ lookupBytes d m key
+unfolding lookupBytes
+other-width d m key w = rw (ne-eqb (length key) (keyWidth (mark m)) w) (go (eqb (length m) 2))
+  where
+    go : (b : Bool) → [] ≡ cond (b && false) (lookup d (mark m) (number 0 (length key) key)) []
+    go true = refl
+    go false = refl

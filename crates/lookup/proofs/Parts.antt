@@ -1,0 +1,186 @@
+-- The part at a slot is the current record.
+use mathlib.Core.Path.{_≡_, refl, ap, ap₂, sym, subst, _∙_}
+use mathlib.Core.Bool.{Bool, true, false, cond, true≢false, _||_}
+use mathlib.Core.List.{List, []}
+use Prim.Native.Nat.{ℕ, zero, suc, _+_, _-_, _*_, _/_, _%_, _≤_, _<_}
+use native.Mathlib.Nat.{add-sub-cancel-left}
+use native.Mathlib.Omega.{arith}
+use lib.Dec.{ltb, eqb, lit<, lit≤}
+use lib.ListN.{length, getD, take, drop, replicate, length-replicate, getD-replicate, List·getD-eq-default}
+use borrow.Author.Tests.{ne-eqb, le-ltb, ltb-true, ltb-false}
+use Rattle.lists.specs.Lists.{Each, done, also}
+use Rattle.lists.proofs.Lists.{each-map}
+use Rattle.lists.proofs.Tests.{split, or-false-right}
+use Rattle.records.specs.Table.{table, rowOf}
+use Rattle.records.specs.Record.{mark, size, widths}
+use Rattle.records.specs.Shapes.{shape, shapeOf, keyTest}
+use Rattle.records.specs.Dossier.{records}
+use Rattle.station.specs.Current.{matches, better, currentFrom, current, startFrom, startOf}
+use Rattle.station.proofs.Current.{matches-mark, matches-key}
+use Rattle.index.specs.Slots.{slot, kept}
+use Rattle.index.proofs.Slots.{Spans, InKey, at-mark, in-key, key-test, test-key, slot-lt}
+use Rattle.index.proofs.Holds.{Holds, absent, there, Good, good-records, index-holds, folded-length}
+use Rattle.lookup.specs.declared.Part.{Part}
+use Rattle.lookup.specs.Parts.{part, bytesOf, currentPart, indexOf, placeAt, partAt, Indexed}
+
+-- ---- a part within the dossier
+
+pub cut : (d : List ℕ) (p : Part) → take (p .start + p .length - p .start) (drop (p .start) d) ≡ bytesOf d p
+unfolding bytesOf
+cut d p = ap (λ (n : ℕ). take n (drop (p .start) d)) (add-sub-cancel-left (p .start) (p .length))
+
+pub place-ends : (e : ℕ) (ix : List ℕ) (j n : ℕ) {p : Part} → p ≡ placeAt e ix j n → p .start + p .length ≤ e
+unfolding placeAt
+place-ends e ix j n q = rw q (go (eqb (getD ix j 0) 0 || ltb e (getD ix j 0 % 65536 + n)) refl)
+  where
+    go : (b : Bool) → eqb (getD ix j 0) 0 || ltb e (getD ix j 0 % 65536 + n) ≡ b → cond b (part 0 0) (part (getD ix j 0 % 65536) n) .start + cond b (part 0 0) (part (getD ix j 0 % 65536) n) .length ≤ e
+    go true x = omega arith
+    go false x = ltb-false e (getD ix j 0 % 65536 + n) (or-false-right (eqb (getD ix j 0) 0) (ltb e (getD ix j 0 % 65536 + n)) x)
+
+-- ---- what a slot holds
+
+module _ (len : ℕ) (d : List ℕ) (v : ℕ) (c : List ℕ) (q : ℕ) where
+  held-place : (ix : List ℕ) (j : ℕ) → getD ix j 0 ≡ v → length d ≤ 60000 → Holds len d (length d) v c q → placeAt (length d) ix j len ≡ part q (length c)
+  unfolding placeAt
+  held-place ix j i h (absent e z y) = rw (i, e, y, z) refl
+  held-place ix j i h (there e w l g) =
+      let m : v % 65536 ≡ q = omega (arith, e, w, h) in
+      rw (i, m, ne-eqb v 0 (λ z. omega (arith, e, z)), le-ltb (length d) (q + len) (omega (arith, w, l)), l) refl
+
+  held-bytes : Holds len d (length d) v c q → bytesOf d (part q (length c)) ≡ c
+  unfolding bytesOf
+  held-bytes (absent e z y) = rw z refl
+  held-bytes (there e w l g) = g
+
+  held-ends : Holds len d (length d) v c q → q + length c ≤ length d
+  held-ends (absent e z y) = omega (arith, y, ap length z)
+  held-ends (there e w l g) = w
+
+abbrev none : List ℕ
+none = replicate 2350 0
+
+all-zero : (j : ℕ) → getD none j 0 ≡ 0
+all-zero j = split (ltb j 2350) (λ e. getD-replicate 2350 j 0 0 (ltb-true j 2350 e)) (λ e. List·getD-eq-default none 0 {n = j} (omega (arith, length-replicate {A = ℕ} 2350 0, ltb-false j 2350 e)))
+
+pub index-length : (d ix : List ℕ) → Indexed d ix → length ix ≡ 2350
+unfolding indexOf
+index-length d ix h = ap length (h .here) ∙ folded-length 0 (kept none true) (records d) ∙ length-replicate {A = ℕ} 2350 0
+
+module _ (d ix : List ℕ) (h : Indexed d ix) where
+  -- ---- a key: at its slot stands the current record
+
+  module _ (k n : ℕ) (i : InKey k n) where
+    holds : Holds (size k) d (length d) (getD ix (slot k n) 0) (current k n (records d)) (startOf k n (records d))
+    unfolding indexOf
+    holds =
+        rw (h .here)
+        (index-holds d none (h .clean) (omega (arith, h .short)) (length-replicate {A = ℕ} 2350 0) all-zero k n i)
+
+    pub place-current : {j len : ℕ} → j ≡ slot k n → len ≡ size k → placeAt (length d) ix j len ≡ currentPart k n (records d)
+    unfolding currentPart
+    place-current a b =
+        rw (a, b) (held-place (size k) d (getD ix (slot k n) 0) (current k n (records d)) (startOf k n (records d)) ix (slot k n) refl (h .short) holds)
+
+    pub slot-within : {j : ℕ} → j ≡ slot k n → j < length ix
+    slot-within a = omega (arith, a, index-length d ix h, slot-lt k n i)
+
+    pub part-current : {j len : ℕ} → j ≡ slot k n → len ≡ size k → partAt d ix j len ≡ current k n (records d)
+    unfolding partAt currentPart
+    part-current a b = ap (bytesOf d) (place-current a b) ∙ held-bytes (size k) d (getD ix (slot k n) 0) (current k n (records d)) (startOf k n (records d)) holds
+
+  -- ---- no key: a clean dossier has no such record
+
+  module _ (k n : ℕ) (f : keyTest k n ≡ false) where
+    unmatched : {l : List (List ℕ)} → Each Good l → Each (λ r. matches k n r ≡ false) l
+    unmatched = each-map (λ r g. split (matches k n r) (λ m. absurd (true≢false (sym (key-test k n (subst (λ (x : ℕ). InKey x n) (matches-mark k n r m) (subst (λ (x : ℕ). InKey (mark r) x) (matches-key k n r m) (in-key r (g .0))))) ∙ f))) (λ m. m))
+
+    none-current : (c : List ℕ) {l : List (List ℕ)} → Each (λ r. matches k n r ≡ false) l → currentFrom k n c l ≡ c
+    unfolding currentFrom better
+    none-current c done = refl
+    none-current c (also m e) = rw m (none-current c e)
+
+    none-start : (c : List ℕ) (q p : ℕ) {l : List (List ℕ)} → Each (λ r. matches k n r ≡ false) l → startFrom k n c q p l ≡ q
+    unfolding startFrom better
+    none-start c q p done = refl
+    none-start c q p (also {a = r} m e) = rw m (none-start c q (p + length r) e)
+
+    pub no-key : part 0 0 ≡ currentPart k n (records d)
+    unfolding currentPart current startOf
+    no-key =
+        let e = unmatched (good-records d (h .clean)) in
+        sym (ap₂ part (none-start [] 0 0 e) (ap length (none-current [] e)))
+
+    no-bytes : [] ≡ current k n (records d)
+    unfolding current
+    no-bytes = sym (none-current [] (unmatched (good-records d (h .clean))))
+
+  -- ---- of every number
+
+  pub current-bytes : (k n : ℕ) → k < 10 → bytesOf d (currentPart k n (records d)) ≡ current k n (records d)
+  unfolding bytesOf currentPart
+  current-bytes k n b =
+      split (keyTest k n)
+      (λ t. held-bytes (size k) d (getD ix (slot k n) 0) (current k n (records d)) (startOf k n (records d)) (holds k n (test-key k n b t)))
+      (λ f. ap (bytesOf d) (sym (no-key k n f)) ∙ no-bytes k n f)
+
+  pub current-ends : (k n : ℕ) → k < 10 → {p : Part} → p ≡ currentPart k n (records d) → p .start + p .length ≤ length d
+  unfolding currentPart
+  current-ends k n b e =
+      rw e
+      (split (keyTest k n)
+      (λ t. held-ends (size k) d (getD ix (slot k n) 0) (current k n (records d)) (startOf k n (records d)) (holds k n (test-key k n b t)))
+      (λ f. omega (arith, ap (λ (p : Part). p .start) (no-key k n f), ap (λ (p : Part). p .length) (no-key k n f))))
+
+-- ---- keys and sizes fit
+
+pub key-small : (k n : ℕ) → InKey k n → n < 16777216
+unfolding Spans shapeOf shape rowOf table
+key-small k n p = at-mark (λ j. InKey j n → n < 16777216) k n p (λ q. omega (arith, q .spans)) (λ q. omega (arith, q .spans)) (λ q. omega (arith, q .spans)) (λ q. omega (arith, q .spans)) (λ q. omega (arith, q .spans)) (λ q. omega (arith, q .spans)) (λ q. omega (arith, q .spans)) (λ q. omega (arith, q .spans)) (λ q. omega (arith, q .spans)) p
+
+pub size-small : (k n : ℕ) → InKey k n → size k < 65536
+unfolding size widths rowOf table
+size-small k n p = at-mark (λ j. size j < 65536) k n p (lit< tt) (lit< tt) (lit< tt) (lit< tt) (lit< tt) (lit< tt) (lit< tt) (lit< tt) (lit< tt)
+
+-- ---- keys by their fields
+
+module _ (k : ℕ) where
+  abbrev low : ℕ → ℕ
+  low i = getD (shapeOf k .lowest) i 0
+
+  abbrev high : ℕ → ℕ
+  high i = getD (shapeOf k .highest) i 0
+
+  pub one-field : (n : ℕ) → 1 ≤ k → k < 10 → eqb (high 1) 0 ≡ true → low 0 ≤ n → n ≤ high 0 → InKey k n
+  unfolding Spans
+  one-field n a b e p q = record { known = a; low = b; spans = rw e (p, q) }
+
+  pub two-field : (x y : ℕ) → 1 ≤ k → k < 10 → eqb (high 1) 0 ≡ false → eqb (high 2) 0 ≡ true → low 0 ≤ x → x ≤ high 0 → low 1 ≤ y → y ≤ high 1 → high 1 < 256 → InKey k (x * 256 + y)
+  unfolding Spans
+  two-field x y a b e f p q r s t =
+      let i : (x * 256 + y) / 256 ≡ x = omega arith in
+      let j : (x * 256 + y) % 256 ≡ y = omega arith in
+      record { known = a; low = b; spans = rw (e, f, i, j) ((p, q), (r, s)) }
+
+pub three-field : (x y z : ℕ) → 1 ≤ x → x ≤ 4 → 1 ≤ y → y ≤ 5 → 1 ≤ z → z ≤ 4 → InKey 4 (x * 65536 + y * 256 + z)
+unfolding Spans shapeOf shape rowOf table
+three-field x y z p q r s t u =
+    record { known = lit≤ tt; low = lit< tt; spans = ((omega arith, omega arith), (omega arith, omega arith), (omega arith, omega arith)) }
+
+-- ---- the slot by kind
+
+pub slot-kind : {k j n m r : ℕ} → r ≡ slot k m → m ≡ n → j ≡ k → r ≡ slot j n
+slot-kind e f g = e ∙ ap₂ slot (sym g) f
+
+pub slot-none : (k n : ℕ) → k < 10 → (k ≡ 2 → ⊥) → (k ≡ 3 → ⊥) → (k ≡ 4 → ⊥) → (k ≡ 5 → ⊥) → (k ≡ 6 → ⊥) → (k ≡ 7 → ⊥) → (k ≡ 8 → ⊥) → (k ≡ 9 → ⊥) → 0 ≡ slot k n
+unfolding slot
+slot-none zero n l a b c d e f g h = refl
+slot-none (suc zero) n l a b c d e f g h = refl
+slot-none (suc (suc zero)) n l a b c d e f g h = absurd (a refl)
+slot-none (suc (suc (suc zero))) n l a b c d e f g h = absurd (b refl)
+slot-none (suc (suc (suc (suc zero)))) n l a b c d e f g h = absurd (c refl)
+slot-none (suc (suc (suc (suc (suc zero))))) n l a b c d e f g h = absurd (d refl)
+slot-none (suc (suc (suc (suc (suc (suc zero)))))) n l a b c d e f g h = absurd (e refl)
+slot-none (suc (suc (suc (suc (suc (suc (suc zero))))))) n l a b c d e f g h = absurd (f refl)
+slot-none (suc (suc (suc (suc (suc (suc (suc (suc zero)))))))) n l a b c d e f g h = absurd (g refl)
+slot-none (suc (suc (suc (suc (suc (suc (suc (suc (suc zero))))))))) n l a b c d e f g h = absurd (h refl)
+slot-none (suc (suc (suc (suc (suc (suc (suc (suc (suc (suc k)))))))))) n l a b c d e f g h = absurd (omega arith)

@@ -1,0 +1,30 @@
+use mathlib.Core.Path.{refl, _∙_}
+use Prim.Native.Nat.{ℕ, _+_, _*_, _≤_}
+use Rattle.records.specs.Table.{table, rowOf}
+use Rattle.records.specs.Record.{widths, size}
+use Rattle.records.specs.Shapes.{shape, shapeOf}
+use Rattle.index.proofs.Slots.{InKey}
+use Rattle.lookup.proofs.Parts.{three-field, slot-within, part-current}
+use borrow.Author.Needs.{needs}
+use Rattle.lookup.proofs.ad.Statement.{statement}
+use Rattle.lookup.proofs.ad.Tie as tie
+
+key : (p q j : ℕ) → 1 ≤ p → p ≤ 4 → 1 ≤ q → q ≤ 5 → 1 ≤ j → j ≤ 4 → InKey 4 (p * 65536 + q * 256 + j)
+unfolding shapeOf shape rowOf table
+key p q j a b x y z w = three-field p q j a b x y z w
+
+slot-ad-requires : tie.Need-slot-ad-requires
+slot-ad-requires c κs = search needs
+
+element-copy-out-part-at : tie.Need-element-copy-out-part-at
+element-copy-out-part-at c = search needs
+
+part-at-requires : tie.Need-part-at-requires
+part-at-requires c κs = (slot-within _ _ (c .before .before .before .pre .0) 4 _ (key _ _ _ (c .before .before .before .pre .1) (c .before .before .before .pre .2) (c .before .before .before .pre .3) (c .before .before .before .pre .4) (c .before .before .before .pre .5) (c .before .before .before .pre .6)) (c .slot-ad .ensures), search needs)
+
+returns : tie.Need-returns
+unfolding size widths rowOf table
+returns c = c .part-at .ensures ∙ part-current _ _ (c .before .before .before .before .pre .0) 4 _ (key _ _ _ (c .before .before .before .before .pre .1) (c .before .before .before .before .pre .2) (c .before .before .before .before .pre .3) (c .before .before .before .before .pre .4) (c .before .before .before .before .pre .5) (c .before .before .before .before .pre .6)) (c .before .slot-ad .ensures) refl
+
+pub ad-spec : {M : Type 1} → statement M
+ad-spec = tie.close (tie.spec slot-ad-requires element-copy-out-part-at part-at-requires returns)

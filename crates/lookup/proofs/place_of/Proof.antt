@@ -1,0 +1,37 @@
+use mathlib.Core.Path.{sym, _∙_}
+use native.Mathlib.Omega.{arith}
+use Rattle.records.proofs.Shapes.{shape-size}
+use Rattle.index.proofs.Slots.{test-key}
+use Rattle.lookup.proofs.Parts.{slot-within, place-current, no-key, key-small, size-small}
+use borrow.Author.Needs.{needs}
+use Rattle.lookup.proofs.place_of.Statement.{statement}
+use Rattle.lookup.proofs.place_of.Tie as tie
+
+in-key-requires : tie.Need-in-key-requires
+in-key-requires c κs = search needs
+
+mark-shape-requires : tie.Need-mark-shape-requires
+mark-shape-requires c κs = search needs
+
+slot-of-requires : tie.Need-slot-of-requires
+slot-of-requires c κs = (key-small _ _ (test-key _ _ (c .before .before .before .before .before .pre .1) (sym (c .before .before .in-key .ensures) ∙ c .before .if1 .taken)), c .before .before .before .before .before .pre .1)
+
+place-at-requires : tie.Need-place-at-requires
+place-at-requires c κs = (slot-within _ _ (c .before .before .before .before .before .before .pre .0) _ _ (test-key _ _ (c .before .before .before .before .before .before .pre .1) (sym (c .before .before .before .in-key .ensures) ∙ c .before .before .if1 .taken)) (c .slot-of .ensures), omega (arith, shape-size _ (c .before .mark-shape .ensures), size-small _ _ (test-key _ _ (c .before .before .before .before .before .before .pre .1) (sym (c .before .before .before .in-key .ensures) ∙ c .before .before .if1 .taken))))
+
+returns : tie.Need-returns
+returns c = c .place-at .ensures ∙ place-current _ _ (c .before .before .before .before .before .before .before .pre .0) _ _ (test-key _ _ (c .before .before .before .before .before .before .before .pre .1) (sym (c .before .before .before .before .in-key .ensures) ∙ c .before .before .before .if1 .taken)) (c .before .slot-of .ensures) (shape-size _ (c .before .before .mark-shape .ensures))
+
+returns-2 : tie.Need-returns-2
+returns-2 c = no-key _ _ (c .before .before .before .before .pre .0) _ _ (sym (c .before .in-key .ensures) ∙ c .if1 .left)
+
+pub place-of-spec : {M : Type 1} → statement M
+place-of-spec =
+    tie.close
+    (tie.spec
+    in-key-requires
+    mark-shape-requires
+    slot-of-requires
+    place-at-requires
+    returns
+    returns-2)

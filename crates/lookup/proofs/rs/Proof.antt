@@ -1,0 +1,29 @@
+use mathlib.Core.Path.{refl, _∙_}
+use lib.Dec.{lit≤, lit<}
+use Rattle.records.specs.Table.{table, rowOf}
+use Rattle.records.specs.Record.{widths, size}
+use Rattle.records.specs.Shapes.{shape, shapeOf}
+use Rattle.index.specs.Slots.{slot}
+use Rattle.index.proofs.Slots.{InKey}
+use Rattle.lookup.proofs.Parts.{one-field, slot-within, part-current}
+use borrow.Author.Needs.{needs}
+use Rattle.lookup.proofs.rs.Statement.{statement}
+use Rattle.lookup.proofs.rs.Tie as tie
+
+key : InKey 1 0
+unfolding shapeOf shape rowOf table
+key = one-field 1 0 (lit≤ tt) (lit< tt) refl (lit≤ tt) (lit≤ tt)
+
+element-copy-out-part-at : tie.Need-element-copy-out-part-at
+element-copy-out-part-at c = search needs
+
+part-at-requires : tie.Need-part-at-requires
+unfolding slot
+part-at-requires c κs = (slot-within _ _ (c .before .before .pre) 1 _ key refl, search needs)
+
+returns : tie.Need-returns
+unfolding slot size widths rowOf table
+returns c = c .part-at .ensures ∙ part-current _ _ (c .before .before .before .pre) 1 _ key refl refl
+
+pub rs-spec : {M : Type 1} → statement M
+rs-spec = tie.close (tie.spec element-copy-out-part-at part-at-requires returns)

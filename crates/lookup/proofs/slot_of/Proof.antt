@@ -1,0 +1,79 @@
+use mathlib.Core.Path.{refl}
+use native.Mathlib.Omega.{arith}
+use Rattle.lookup.proofs.Parts.{slot-kind, slot-none}
+use borrow.Author.Needs.{needs}
+use Rattle.lookup.proofs.slot_of.Statement.{statement}
+use Rattle.lookup.proofs.slot_of.Tie as tie
+
+slot-hp-requires : tie.Need-slot-hp-requires
+slot-hp-requires c κs = search needs
+
+returns : tie.Need-returns
+returns c = slot-kind (c .slot-hp .ensures) refl (c .before .if1 .taken)
+
+slot-fu-requires : tie.Need-slot-fu-requires
+slot-fu-requires c κs = search needs
+
+returns-2 : tie.Need-returns-2
+returns-2 c = slot-kind (c .slot-fu .ensures) refl (c .before .if2 .taken)
+
+slot-ad-requires : tie.Need-slot-ad-requires
+slot-ad-requires c κs = search needs
+
+returns-3 : tie.Need-returns-3
+returns-3 c = slot-kind (c .slot-ad .ensures) (omega arith) (c .before .if3 .taken)
+
+slot-mm-requires : tie.Need-slot-mm-requires
+slot-mm-requires c κs = search needs
+
+returns-4 : tie.Need-returns-4
+returns-4 c = slot-kind (c .slot-mm .ensures) (omega arith) (c .before .if4 .taken)
+
+slot-rq-requires : tie.Need-slot-rq-requires
+slot-rq-requires c κs = search needs
+
+returns-5 : tie.Need-returns-5
+returns-5 c = slot-kind (c .slot-rq .ensures) refl (c .before .if5 .taken)
+
+slot-hr-requires : tie.Need-slot-hr-requires
+slot-hr-requires c κs = search needs
+
+returns-6 : tie.Need-returns-6
+returns-6 c = slot-kind (c .slot-hr .ensures) refl (c .before .if6 .taken)
+
+slot-ch-requires : tie.Need-slot-ch-requires
+slot-ch-requires c κs = search needs
+
+returns-7 : tie.Need-returns-7
+returns-7 c = slot-kind (c .slot-ch .ensures) refl (c .before .if7 .taken)
+
+slot-th-requires : tie.Need-slot-th-requires
+slot-th-requires c κs = search needs
+
+returns-8 : tie.Need-returns-8
+returns-8 c = slot-kind (c .slot-th .ensures) (omega arith) (c .before .if8 .taken)
+
+returns-9 : tie.Need-returns-9
+returns-9 c = slot-none _ _ (c .before .before .before .before .before .before .before .before .pre .1) (c .before .before .before .before .before .before .before .if1 .left) (c .before .before .before .before .before .before .if2 .left) (c .before .before .before .before .before .if3 .left) (c .before .before .before .before .if4 .left) (c .before .before .before .if5 .left) (c .before .before .if6 .left) (c .before .if7 .left) (c .if8 .left)
+
+pub slot-of-spec : {M : Type 1} → statement M
+slot-of-spec =
+    tie.close
+    (tie.spec
+    slot-hp-requires
+    returns
+    slot-fu-requires
+    returns-2
+    slot-ad-requires
+    returns-3
+    slot-mm-requires
+    returns-4
+    slot-rq-requires
+    returns-5
+    slot-hr-requires
+    returns-6
+    slot-ch-requires
+    returns-7
+    slot-th-requires
+    returns-8
+    returns-9)

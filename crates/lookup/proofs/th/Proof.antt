@@ -1,0 +1,31 @@
+use mathlib.Core.Path.{refl, _∙_}
+use Prim.Native.Nat.{ℕ, _+_, _*_, _≤_}
+use lib.Dec.{lit≤, lit<}
+use Rattle.records.specs.Table.{table, rowOf}
+use Rattle.records.specs.Record.{widths, size}
+use Rattle.records.specs.Shapes.{shape, shapeOf}
+use Rattle.index.proofs.Slots.{InKey}
+use Rattle.lookup.proofs.Parts.{two-field, slot-within, part-current}
+use borrow.Author.Needs.{needs}
+use Rattle.lookup.proofs.th.Statement.{statement}
+use Rattle.lookup.proofs.th.Tie as tie
+
+key : (p j : ℕ) → 1 ≤ p → p ≤ 3 → 1 ≤ j → j ≤ 4 → InKey 9 (p * 256 + j)
+unfolding shapeOf shape rowOf table
+key p j a b x y = two-field 9 p j (lit≤ tt) (lit< tt) refl refl a b x y (lit< tt)
+
+slot-th-requires : tie.Need-slot-th-requires
+slot-th-requires c κs = search needs
+
+element-copy-out-part-at : tie.Need-element-copy-out-part-at
+element-copy-out-part-at c = search needs
+
+part-at-requires : tie.Need-part-at-requires
+part-at-requires c κs = (slot-within _ _ (c .before .before .before .pre .0) 9 _ (key _ _ (c .before .before .before .pre .1) (c .before .before .before .pre .2) (c .before .before .before .pre .3) (c .before .before .before .pre .4)) (c .slot-th .ensures), search needs)
+
+returns : tie.Need-returns
+unfolding size widths rowOf table
+returns c = c .part-at .ensures ∙ part-current _ _ (c .before .before .before .before .pre .0) 9 _ (key _ _ (c .before .before .before .before .pre .1) (c .before .before .before .before .pre .2) (c .before .before .before .before .pre .3) (c .before .before .before .before .pre .4)) (c .before .slot-th .ensures) refl
+
+pub th-spec : {M : Type 1} → statement M
+th-spec = tie.close (tie.spec slot-th-requires element-copy-out-part-at part-at-requires returns)

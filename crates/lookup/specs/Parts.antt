@@ -1,0 +1,49 @@
+-- The current records through the index, and where they lie in the dossier.
+use mathlib.Core.Bool.{true, cond, _||_}
+use mathlib.Core.List.{List}
+use mathlib.Core.Path.{_≡_}
+use Prim.Native.Nat.{ℕ, _+_, _%_, _≤_}
+use lib.Dec.{ltb, eqb}
+use lib.ListN.{length, getD, take, drop, replicate}
+use Rattle.records.specs.declared.Answer.the-variants.{Accepted}
+use Rattle.records.specs.Answers.{isAccepted}
+use Rattle.records.specs.Dossier.{records, scan}
+use Rattle.records.specs.Walk.{folded}
+use Rattle.station.specs.Current.{current, startOf, readable}
+use Rattle.index.specs.Slots.{kept, keepStep}
+use Rattle.lookup.specs.declared.Part.{Part}
+
+abbrev pub part : ℕ → ℕ → Part
+part a n = record { start = a; length = n }
+
+-- the bytes of a part of a dossier
+unfoldable pub bytesOf : List ℕ → Part → List ℕ
+bytesOf d p = take (p .length) (drop (p .start) d)
+
+-- the current record of a mark and key by where it starts and how long it is, 0 and 0 where there is none
+unfoldable pub currentPart : ℕ → ℕ → List (List ℕ) → Part
+currentPart k n l = part (startOf k n l) (length (current k n l))
+
+-- the part that `lookup` hands back, by start and length; the law `lookup-bytes` says that its bytes are that part
+unfoldable pub lookupPart : List ℕ → ℕ → ℕ → Part
+lookupPart d k n = cond (isAccepted (readable d)) (currentPart k n (records d)) (part 0 0)
+
+-- ---- through the index
+
+-- the index of a dossier
+unfoldable pub indexOf : List ℕ → List ℕ
+indexOf d = folded keepStep 0 (kept (replicate 2350 0) true) (records d) .slots
+
+-- where the record of a slot stands in a dossier of e bytes, n being its length; nowhere if there is none
+unfoldable pub placeAt : ℕ → List ℕ → ℕ → ℕ → Part
+placeAt e ix j n = cond (eqb (getD ix j 0) 0 || ltb e (getD ix j 0 % 65536 + n)) (part 0 0) (part (getD ix j 0 % 65536) n)
+
+-- the part of the dossier where it stands
+unfoldable pub partAt : List ℕ → List ℕ → ℕ → ℕ → List ℕ
+partAt d ix j n = bytesOf d (placeAt (length d) ix j n)
+
+-- a dossier that draws none of 1 to 3 and 13, with its index
+pub record Indexed (d ix : List ℕ) : Type 0 where
+  pub short : length d ≤ 60000
+  pub clean : scan 0 (records d) ≡ Accepted
+  pub here : ix ≡ indexOf d

@@ -1,0 +1,260 @@
+// The current records of a dossier: it is read once, for 13 and 1 to 4, and its index then gives each current record as a part of its bytes.
+ghost use mathlib.Core.Path.{_≡_};
+ghost use mathlib.Core.List.{[], _∷_};
+ghost use Prim.Native.Nat.{_+_, _*_, _/_, _%_, _<_, _≤_};
+ghost use lib.ListN.{length, replicate};
+ghost use Rattle.fields.specs.Numbers.{number};
+ghost use Rattle.records.specs.declared.Answer.the-variants.{Accepted};
+ghost use Rattle.records.specs.Record.{mark};
+ghost use Rattle.records.specs.Dossier.{records, scan};
+ghost use Rattle.station.specs.Current.{current, twins, readable, lookupBytes};
+ghost use Rattle.index.specs.Slots.{slot};
+ghost use Rattle.lookup.specs.Parts.{placeAt, bytesOf, partAt, currentPart, lookupPart, Indexed};
+use index::Passed;
+use records::Answer;
+use records::MARKS;
+
+// A part of a dossier, by its start and length.
+pub struct Part {
+    pub start: usize,
+    pub length: usize,
+}
+
+// A dossier is read: 13, 1 to 4, and its index.
+pub fn open(d: &[u8], index: &mut [u64]) -> Answer
+    requires { ⌜ now index ≡ replicate 2350 0 ⌝ }
+    ensures { λ r. ⌜ (r ≡ readable (now (d .entry))) × (r ≡ Accepted → Indexed (now (d .entry)) (now (index .exit))) ⌝ }
+{
+    if 60000 < d.len() {
+        return Answer::Refused {
+            number: 13,
+            place: 0,
+        };
+    }
+    match index::pass(d, index) {
+        Passed::Ended { rising } => {
+            if rising {
+                Answer::Accepted
+            } else {
+                twins::first_twin(d)
+            }
+        }
+        Passed::Stopped { number, place } => Answer::Refused { number, place },
+    }
+}
+
+// Where the record of a slot stands in a dossier of `end` bytes, nowhere if there is none.
+pub fn place_at(end: usize, index: &[u64], j: usize, len: usize) -> Part
+    requires { ⌜ (j < length (now index)) × (len < 65536) ⌝ }
+    ensures { λ r. ⌜ r ≡ placeAt end (now (index .entry)) j len ⌝ }
+{
+    let v = index[j];
+    let start = (v % 65536) as usize;
+    if (v == 0) | (end < start + len) {
+        return Part {
+            start: 0,
+            length: 0,
+        };
+    }
+    Part { start, length: len }
+}
+
+// The bytes of a part.
+pub fn bytes_of(d: &[u8], part: Part) -> &[u8]
+    requires { ⌜ part .start + part .length ≤ length (now d) ⌝ }
+    ensures { λ r. ⌜ now r ≡ bytesOf (now (d .entry)) part ⌝ }
+{
+    let start = part.start;
+    let end = start + part.length;
+    &d[start..end]
+}
+
+// The part of the dossier where the record of a slot stands, empty if there is none.
+pub fn part_at<'a>(d: &'a [u8], index: &[u64], j: usize, len: usize) -> &'a [u8]
+    requires { ⌜ (j < length (now index)) × (len < 65536) ⌝ }
+    ensures { λ r. ⌜ now r ≡ partAt (now (d .entry)) (now (index .entry)) j len ⌝ }
+{
+    bytes_of(d, place_at(d.len(), index, j, len))
+}
+
+// The current RS.
+pub fn rs<'a>(d: &'a [u8], index: &[u64]) -> &'a [u8]
+    requires { ⌜ Indexed (now d) (now index) ⌝ }
+    ensures { λ r. ⌜ now r ≡ current 1 0 (records (now (d .entry))) ⌝ }
+{
+    part_at(d, index, 0, MARKS[1].length)
+}
+
+// The current HP of a point.
+pub fn hp<'a>(d: &'a [u8], index: &[u64], n: usize) -> &'a [u8]
+    requires { ⌜ Indexed (now d) (now index) × (1 ≤ n) × (n ≤ 21) ⌝ }
+    ensures { λ r. ⌜ now r ≡ current 2 n (records (now (d .entry))) ⌝ }
+{
+    part_at(d, index, index::slot_hp(n), MARKS[2].length)
+}
+
+// The current FU of a profile.
+pub fn fu<'a>(d: &'a [u8], index: &[u64], p: usize) -> &'a [u8]
+    requires { ⌜ Indexed (now d) (now index) × (1 ≤ p) × (p ≤ 4) ⌝ }
+    ensures { λ r. ⌜ now r ≡ current 3 p (records (now (d .entry))) ⌝ }
+{
+    part_at(d, index, index::slot_fu(p), MARKS[3].length)
+}
+
+// The current AD of a profile, cost and level.
+pub fn ad<'a>(d: &'a [u8], index: &[u64], p: usize, c: usize, v: usize) -> &'a [u8]
+    requires { ⌜ Indexed (now d) (now index) × (1 ≤ p) × (p ≤ 4) × (1 ≤ c) × (c ≤ 5) × (1 ≤ v) × (v ≤ 4) ⌝ }
+    ensures { λ r. ⌜ now r ≡ current 4 (p * 65536 + c * 256 + v) (records (now (d .entry))) ⌝ }
+{
+    part_at(d, index, index::slot_ad(p, c, v), MARKS[4].length)
+}
+
+// The current MM of a profile and item.
+pub fn mm<'a>(d: &'a [u8], index: &[u64], p: usize, j: usize) -> &'a [u8]
+    requires { ⌜ Indexed (now d) (now index) × (1 ≤ p) × (p ≤ 4) × (1 ≤ j) × (j ≤ 8) ⌝ }
+    ensures { λ r. ⌜ now r ≡ current 5 (p * 256 + j) (records (now (d .entry))) ⌝ }
+{
+    part_at(d, index, index::slot_mm(p, j), MARKS[5].length)
+}
+
+// The current RQ of a request.
+pub fn rq<'a>(d: &'a [u8], index: &[u64], n: usize) -> &'a [u8]
+    requires { ⌜ Indexed (now d) (now index) × (1 ≤ n) × (n ≤ 16) ⌝ }
+    ensures { λ r. ⌜ now r ≡ current 6 n (records (now (d .entry))) ⌝ }
+{
+    part_at(d, index, index::slot_rq(n), MARKS[6].length)
+}
+
+// The current HR of an hour of the window.
+pub fn hr<'a>(d: &'a [u8], index: &[u64], n: usize) -> &'a [u8]
+    requires { ⌜ Indexed (now d) (now index) × (1 ≤ n) × (n ≤ 168) ⌝ }
+    ensures { λ r. ⌜ now r ≡ current 7 n (records (now (d .entry))) ⌝ }
+{
+    part_at(d, index, index::slot_hr(n), MARKS[7].length)
+}
+
+// The current CH of an interval.
+pub fn ch<'a>(d: &'a [u8], index: &[u64], n: usize) -> &'a [u8]
+    requires { ⌜ Indexed (now d) (now index) × (1 ≤ n) × (n ≤ 2016) ⌝ }
+    ensures { λ r. ⌜ now r ≡ current 8 n (records (now (d .entry))) ⌝ }
+{
+    part_at(d, index, index::slot_ch(n), MARKS[8].length)
+}
+
+// The current TH of a condition and level.
+pub fn th<'a>(d: &'a [u8], index: &[u64], c: usize, v: usize) -> &'a [u8]
+    requires { ⌜ Indexed (now d) (now index) × (1 ≤ c) × (c ≤ 3) × (1 ≤ v) × (v ≤ 4) ⌝ }
+    ensures { λ r. ⌜ now r ≡ current 9 (c * 256 + v) (records (now (d .entry))) ⌝ }
+{
+    part_at(d, index, index::slot_th(c, v), MARKS[9].length)
+}
+
+// The slot of a mark and key.
+pub fn slot_of(kind: usize, n: usize) -> usize
+    requires { ⌜ (n < 16777216) × (kind < 10) ⌝ }
+    ensures { λ r. ⌜ r ≡ slot kind n ⌝ }
+{
+    if kind == 2 {
+        return index::slot_hp(n);
+    }
+    if kind == 3 {
+        return index::slot_fu(n);
+    }
+    if kind == 4 {
+        return index::slot_ad(n / 65536, n / 256 % 256, n % 256);
+    }
+    if kind == 5 {
+        return index::slot_mm(n / 256, n % 256);
+    }
+    if kind == 6 {
+        return index::slot_rq(n);
+    }
+    if kind == 7 {
+        return index::slot_hr(n);
+    }
+    if kind == 8 {
+        return index::slot_ch(n);
+    }
+    if kind == 9 {
+        return index::slot_th(n / 256, n % 256);
+    }
+    0
+}
+
+// Where the current record of a mark and key stands; a number that is no key has none.
+pub fn place_of(d: &[u8], index: &[u64], kind: usize, n: usize) -> Part
+    requires { ⌜ Indexed (now d) (now index) × (kind < 10) ⌝ }
+    ensures { λ r. ⌜ r ≡ currentPart kind n (records (now (d .entry))) ⌝ }
+{
+    if records::in_key(kind, n) {
+        let m = records::mark_shape(kind);
+        return place_at(d.len(), index, slot_of(kind, n), m.length);
+    }
+    Part {
+        start: 0,
+        length: 0,
+    }
+}
+
+// The part of the dossier that holds the current record of a mark and key, empty if there is none.
+pub fn current_of<'a>(d: &'a [u8], index: &[u64], kind: usize, n: usize) -> &'a [u8]
+    requires { ⌜ Indexed (now d) (now index) × (n < 16777216) × (kind < 10) ⌝ }
+    ensures { λ r. ⌜ now r ≡ current kind n (records (now (d .entry))) ⌝ }
+{
+    bytes_of(d, place_of(d, index, kind, n))
+}
+
+// The lookup by kind and key number, as start and length.
+pub fn lookup_part(d: &[u8], kind: usize, n: usize) -> Part
+    requires { ⌜ kind < 10 ⌝ }
+    ensures { λ r. ⌜ r ≡ lookupPart (now (d .entry)) kind n ⌝ }
+{
+    let mut slots = [0u64; 2350];
+    match open(d, &mut slots) {
+        Answer::Accepted => place_of(d, &slots, kind, n),
+        Answer::Refused {
+            number: _,
+            place: _,
+        } => Part {
+            start: 0,
+            length: 0,
+        },
+    }
+}
+
+// A key's bytes as a number.
+pub fn key_number(key: &[u8]) -> usize
+    requires { ⌜ length (now key) ≤ 3 ⌝ }
+    ensures { λ r. ⌜ r ≡ number 0 (length (now (key .entry))) (now (key .entry)) ⌝ }
+{
+    if key.len() == 0 {
+        return 0;
+    }
+    if key.len() == 1 {
+        return fields::u8_at(key, 0) as usize;
+    }
+    if key.len() == 2 {
+        return fields::u16_at(key, 0) as usize;
+    }
+    (fields::u16_at(key, 0) as usize) * 256 + (fields::u8_at(key, 2) as usize)
+}
+
+// The lookup: the part of the dossier that holds the current record of a mark and key is handed back.
+pub fn current<'a>(d: &'a [u8], letters: &[u8; 2], key: &[u8]) -> &'a [u8]
+    ensures { λ r. ⌜ now r ≡ lookupBytes (now (d .entry)) (now (letters .entry)) (now (key .entry)) ⌝ }
+{
+    let kind = records::kind_at(letters);
+    let m = records::mark_shape(kind);
+    if key.len() == m.width {
+        return bytes_of(d, lookup_part(d, kind, key_number(key)));
+    }
+    &d[..0]
+}
+
+// The lookup for other languages: the mark as one number, its first letter high, and the key's bytes as one number.
+pub fn current_by_number(d: &[u8], letters: u16, key: u32) -> Part
+    ensures { λ r. ⌜ r ≡ lookupPart (now (d .entry)) (mark (letters / 256 ∷ letters % 256 ∷ [])) key ⌝ }
+{
+    let m = [(letters / 256) as u8, (letters % 256) as u8];
+    lookup_part(d, records::kind_at(&m), key as usize)
+}

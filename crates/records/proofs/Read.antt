@@ -1,0 +1,95 @@
+-- The reader's laws: what the rest of a dossier draws is what its bytes say, read in place.
+use mathlib.Core.Path.{_≡_, refl, ap, ap₂, sym, _∙_}
+use mathlib.Core.Bool.{Bool, true, false, cond, _&&_, not, _||_}
+use mathlib.Core.List.{List}
+use Prim.Native.Nat.{ℕ, zero, suc, _+_, _≤_, _<_}
+use native.Mathlib.Omega.{arith}
+use lib.Dec.{leb, ltb, eqb}
+use lib.ListN.{length, getD, take, length-take}
+use lib.Seq.{getD-take}
+use borrow.Author.Tests.{lt-ltb, le-ltb, ltb-true, ltb-false, eqb-true}
+use Rattle.lists.specs.Tests.{allBelow}
+use Rattle.lists.proofs.Tests.{and-left, and-right}
+use Rattle.fields.specs.Numbers.{number}
+use Rattle.fields.proofs.Numbers.{number-same}
+use Rattle.records.specs.declared.Found.the-variants.{Record, Faulty}
+use Rattle.records.specs.Table.{table, rowOf, fieldOf, RQ}
+use Rattle.records.specs.Record.{markIn, mark, size, offset, read, value, inRange, agrees, rangesHold, fault}
+use Rattle.records.specs.Dossier.{firstOf}
+use Rattle.records.specs.Walk.{found}
+use Rattle.records.proofs.Record.{mark-take, size-ge, within-record}
+use Rattle.records.specs.Shapes.{begins}
+
+-- ---- a record cut from the rest says what the rest says
+
+pub number-take : (n o w : ℕ) (s : List ℕ) → o + w ≤ n → number o w (take n s) ≡ number o w s
+number-take n o w s h = number-same o w (take n s) s (λ i a b. getD-take n s i 0 (omega arith))
+
+value-take : (k i : ℕ) (s : List ℕ) → value k i (take (size k) s) ≡ value k i s
+unfolding value read
+value-take k i s = rw (number-take (size k) (offset k i) (fieldOf k i .width) s (within-record k i)) refl
+
+below-same : (n : ℕ) (f g : ℕ → Bool) → ((i : ℕ) → f i ≡ g i) → allBelow n f ≡ allBelow n g
+unfolding allBelow
+below-same zero f g h = refl
+below-same (suc n) f g h = ap₂ (λ (a b : Bool). a && b) (below-same n f g h) (h n)
+
+agrees-take : (k : ℕ) (s : List ℕ) → agrees k (take (size k) s) ≡ agrees k s
+unfolding agrees
+agrees-take k s = go (eqb k RQ) refl
+  where
+    go : (b : Bool) → eqb k RQ ≡ b → not b || leb (value RQ 1 (take (size k) s)) (value RQ 2 (take (size k) s)) ≡ not b || leb (value RQ 1 s) (value RQ 2 s)
+    go true e = rw (eqb-true k RQ e, value-take RQ 1 s, value-take RQ 2 s) refl
+    go false e = refl
+
+ranges-take : (k : ℕ) (s : List ℕ) → rangesHold k (take (size k) s) ≡ rangesHold k s
+unfolding rangesHold
+ranges-take k s =
+    ap₂ (λ (a b : Bool). a && b)
+    (below-same (length (rowOf k .fields)) (λ i. inRange (fieldOf k i) (value k i (take (size k) s))) (λ i. inRange (fieldOf k i) (value k i s)) (λ i. ap (inRange (fieldOf k i)) (value-take k i s)))
+    (agrees-take k s)
+
+short : (n m : ℕ) (s : List ℕ) → m ≤ n → ltb (length (take n s)) m ≡ ltb (length s) m
+short n m s h = go (ltb (length s) m) refl
+  where
+    go : (b : Bool) → ltb (length s) m ≡ b → ltb (length (take n s)) m ≡ b
+    go true e = lt-ltb (length (take n s)) m (omega (arith, length-take n s, ltb-true (length s) m e))
+    go false e = le-ltb (length (take n s)) m (omega (arith, length-take n s, ltb-false (length s) m e))
+
+pub fault-first : (s : List ℕ) → fault (firstOf s) ≡ cond (ltb (length s) 2) 2 (cond (eqb (mark s) 0) 1 (cond (ltb (length s) (size (mark s))) 2 (cond (rangesHold (mark s) s) 0 3)))
+unfolding fault firstOf
+fault-first s =
+    rw (mark-take (size (mark s)) s (omega (arith, size-ge (mark s))), short (size (mark s)) 2 s (omega (arith, size-ge (mark s))), short (size (mark s)) (size (mark s)) s (omega arith), ranges-take (mark s) s) refl
+
+-- ---- what is found
+
+shown : (s : List ℕ) → found s ≡ cond (eqb (cond (ltb (length s) 2) 2 (cond (eqb (mark s) 0) 1 (cond (ltb (length s) (size (mark s))) 2 (cond (rangesHold (mark s) s) 0 3)))) 0) (Record (mark s) (size (mark s))) (Faulty (cond (ltb (length s) 2) 2 (cond (eqb (mark s) 0) 1 (cond (ltb (length s) (size (mark s))) 2 (cond (rangesHold (mark s) s) 0 3)))))
+unfolding found
+shown s = rw (fault-first s) refl
+
+pub found-short : (s : List ℕ) → length s < 2 → Faulty 2 ≡ found s
+found-short s h = sym (shown s ∙ rw (lt-ltb (length s) 2 h) refl)
+
+pub found-unknown : (s : List ℕ) → 2 ≤ length s → mark s ≡ 0 → Faulty 1 ≡ found s
+found-unknown s h e = sym (shown s ∙ rw (le-ltb (length s) 2 h, e) refl)
+
+-- of a known mark: what its length and its ranges say
+pub found-known : (k : ℕ) (s : List ℕ) → 2 ≤ length s → mark s ≡ k → eqb k 0 ≡ false → found s ≡ cond (ltb (length s) (size k)) (Faulty 2) (cond (rangesHold k s) (Record k (size k)) (Faulty 3))
+found-known k s h e z = shown s ∙ rw (le-ltb (length s) 2 h, e, z) (go (ltb (length s) (size k)) (rangesHold k s))
+  where
+    go : (a b : Bool) → cond (eqb (cond a 2 (cond b 0 3)) 0) (Record k (size k)) (Faulty (cond a 2 (cond b 0 3))) ≡ cond a (Faulty 2) (cond b (Record k (size k)) (Faulty 3))
+    go true b = refl
+    go false true = refl
+    go false false = refl
+
+-- two letters tell the mark, so that marks may be tried in any order
+pub begun : (a b : ℕ) (s : List ℕ) → begins s a b ≡ true → mark s ≡ markIn 1 table a b
+unfolding mark
+begun a b s e =
+    ap₂ (λ (x y : ℕ). markIn 1 table x y)
+    (eqb-true (getD s 0 0) a (and-left (eqb (getD s 0 0) a) (eqb (getD s 1 0) b) e))
+    (eqb-true (getD s 1 0) b (and-right (eqb (getD s 0 0) a) (eqb (getD s 1 0) b) e))
+
+pub no-mark : (s : List ℕ) → begins s 82 83 ≡ false → begins s 72 80 ≡ false → begins s 70 85 ≡ false → begins s 65 68 ≡ false → begins s 77 77 ≡ false → begins s 82 81 ≡ false → begins s 72 82 ≡ false → begins s 67 72 ≡ false → begins s 84 72 ≡ false → mark s ≡ 0
+unfolding mark markIn table
+no-mark s a b c d e f g h i = rw (a, b, c, d, e, f, g, h, i) refl

@@ -1,0 +1,42 @@
+use mathlib.Core.Path.{sym}
+use Rattle.lists.specs.Tests.{allBelow}
+use Rattle.lists.proofs.Tests.{and-true}
+use Rattle.records.specs.Table.{table, rowOf, fieldOf}
+use Rattle.records.specs.Record.{offsetIn, offset, read, value, inRange, agrees, rangesHold}
+use borrow.Author.Needs.{needs}
+use Rattle.records.proofs.ch_ok.Statement.{statement}
+use Rattle.records.proofs.ch_ok.Tie as tie
+
+array-copy-out-m : tie.Need-array-copy-out-m
+array-copy-out-m c = search needs
+
+element-copy-out-in2 : tie.Need-element-copy-out-in2
+element-copy-out-in2 c = search needs
+
+element-copy-out-in2-2 : tie.Need-element-copy-out-in2-2
+element-copy-out-in2-2 c = search needs
+
+in2-requires : tie.Need-in2-requires
+in2-requires c κs = search needs
+
+price-requires : tie.Need-price-requires
+price-requires c κs = search needs
+
+in4-requires : tie.Need-in4-requires
+in4-requires c κs = search needs
+
+returns : tie.Need-returns
+unfolding rangesHold allBelow inRange agrees value read offset offsetIn fieldOf rowOf table
+returns c = rw (c .before .before .in2 .ensures, c .before .price .ensures, c .in4 .ensures) (sym (and-true _))
+
+pub ch-ok-spec : {M : Type 1} → statement M
+ch-ok-spec =
+    tie.close
+    (tie.spec
+    array-copy-out-m
+    element-copy-out-in2
+    element-copy-out-in2-2
+    in2-requires
+    price-requires
+    in4-requires
+    returns)

@@ -1,0 +1,52 @@
+-- The code's table of marks and what it reads there: "const table by kind: length, key width, lowest and highest key fields".
+-- All of it follows from the table of marks.
+use mathlib.Core.Bool.{Bool, cond, _&&_}
+use mathlib.Core.List.{List, [], _∷_, map}
+use Prim.Native.Nat.{ℕ, _+_, _/_, _%_}
+use lib.Dec.{ltb, eqb}
+use lib.ListN.{getD}
+use Rattle.lists.specs.Tests.{between}
+use Rattle.records.specs.declared.MarkShape.{MarkShape}
+use Rattle.records.specs.Table.{Field, Row, noField, noRow, table, rowOf}
+use Rattle.records.specs.Record.{head, widths, isKey, keyIn}
+
+-- a bound of field i of a row, if the field belongs to the key, else 0
+abbrev pub keyBound : (Field → ℕ) → Row → ℕ → ℕ
+keyBound g x i = cond (isKey (getD (x .fields) i noField .role)) (g (getD (x .fields) i noField)) 0
+
+-- the whole length, the key's width, the lowest and the highest of the key fields
+unfoldable pub shape : Row → MarkShape
+shape x =
+    record {
+      length = head + widths (x .fields);
+      width = keyIn (x .fields);
+      lowest = keyBound (λ f. f .lowest) x 0 ∷ keyBound (λ f. f .lowest) x 1 ∷ keyBound (λ f. f .lowest) x 2 ∷ [];
+      highest = keyBound (λ f. f .highest) x 0 ∷ keyBound (λ f. f .highest) x 1 ∷ keyBound (λ f. f .highest) x 2 ∷ [];
+    }
+
+-- of every mark, an unknown one first
+unfoldable pub shapes : List MarkShape
+shapes = map shape (noRow ∷ table)
+
+-- of mark k
+unfoldable pub shapeOf : ℕ → MarkShape
+shapeOf k = shape (rowOf k)
+
+-- whether a number is within the bounds of key field i
+unfoldable pub keyField : MarkShape → ℕ → ℕ → Bool
+keyField m i x = between (getD (m .lowest) i 0) (getD (m .highest) i 0) x
+
+-- whether a number is a key of this shape: one field, or two or three of a byte each
+unfoldable pub keyFits : MarkShape → ℕ → Bool
+keyFits m n =
+    cond (eqb (getD (m .highest) 1 0) 0) (keyField m 0 n)
+    (cond (eqb (getD (m .highest) 2 0) 0) (keyField m 0 (n / 256) && keyField m 1 (n % 256))
+    (keyField m 0 (n / 65536) && keyField m 1 (n / 256 % 256) && keyField m 2 (n % 256)))
+
+-- whether a number is a key of mark k
+unfoldable pub keyTest : ℕ → ℕ → Bool
+keyTest k n = ltb 0 k && keyFits (shapeOf k) n
+
+-- whether some bytes begin with two letters
+abbrev pub begins : List ℕ → ℕ → ℕ → Bool
+begins s a b = eqb (getD s 0 0) a && eqb (getD s 1 0) b

@@ -1,0 +1,30 @@
+-- What the levels take from acceptance: a technology of the three, and a window that holds X hours.
+use mathlib.Core.Path.{_≡_}
+use mathlib.Core.Bool.{Bool, true, _&&_}
+use mathlib.Core.List.{List}
+use Prim.Native.Nat.{ℕ, _≤_}
+use lib.Dec.{leb, ltb, lit≤}
+use borrow.Author.Tests.{leb-true}
+use Rattle.lists.specs.Tests.{allTo}
+use Rattle.lists.proofs.Tests.{and-left, and-right, between-low}
+use Rattle.records.specs.Table.{table, rowOf, fieldOf, RS, HR}
+use Rattle.records.specs.Record.{value, inRange}
+use Rattle.station.specs.Current.{current}
+use Rattle.station.specs.Parameters.{parameters, technology, window}
+use Rattle.acceptance.specs.Curve.{fullHours, hoursHold, windowFits}
+use Rattle.acceptance.specs.Sound.{Sound}
+use Rattle.acceptance.proofs.Sound.{its-range}
+
+pub technology-low : {l : List (List ℕ)} → Sound l → 1 ≤ technology (parameters l)
+unfolding parameters inRange fieldOf rowOf table
+technology-low {l} h = between-low 1 3 (value RS 0 (current RS 0 l)) (its-range h RS 0 (h .station) 0 (lit≤ tt))
+
+pub hours-fit : {l : List (List ℕ)} → Sound l → technology (parameters l) ≡ 3 → fullHours (parameters l) ≤ window (parameters l)
+unfolding windowFits hoursHold
+hours-fit {l} h e =
+    let s = parameters l in
+    let x : Bool = ltb 0 (fullHours s) in
+    let y : Bool = leb (fullHours s) (window s) in
+    let z : Bool = allTo (window s) (s .has HR) in
+    let g : x && y && z ≡ true = rw e at (h .window) in
+    leb-true (fullHours s) (window s) (and-right x y (and-left (x && y) z g))

@@ -1,0 +1,34 @@
+-- What the code reads of a current record is what the parameters and the amounts say, and at most the table's highest.
+use mathlib.Core.Path.{_≡_, ap, sym, _∙_}
+use mathlib.Core.List.{List}
+use Prim.Native.Nat.{ℕ, _≤_}
+use Rattle.lists.specs.Lists.{Each}
+use Rattle.fields.specs.Numbers.{number, biased}
+use Rattle.records.specs.Table.{fieldOf}
+use Rattle.records.specs.Record.{fault}
+use Rattle.records.specs.Dossier.{records}
+use Rattle.records.proofs.Dossier.{scan-each}
+use Rattle.station.specs.Current.{current}
+use Rattle.station.specs.Parameters.{parameters, amounts}
+use Rattle.station.proofs.Parameters.{says-high, amount-high}
+use Rattle.lookup.specs.Parts.{Indexed}
+
+module _ {d ix : List ℕ} (h : Indexed d ix) where
+  pub clean : Each (λ r. fault r ≡ 0) (records d)
+  clean = scan-each 0 (records d) (h .clean)
+
+  pub says-read : {r : ℕ} {x : List ℕ} (k n i o w : ℕ) → parameters (records d) .says k n i ≡ number o w (current k n (records d)) → r ≡ number o w x → x ≡ current k n (records d) → (r ≡ parameters (records d) .says k n i) × (r ≤ fieldOf k i .highest)
+  says-read {r} k n i o w e p q =
+      let z : r ≡ parameters (records d) .says k n i = p ∙ ap (number o w) q ∙ sym e in
+      (z, rw z (says-high clean k n i))
+
+  pub amount-read : {r : ℕ} {x : List ℕ} (k n i o w : ℕ) → amounts (records d) .of k n i ≡ number o w (current k n (records d)) → r ≡ number o w x → x ≡ current k n (records d) → (r ≡ amounts (records d) .of k n i) × (r ≤ fieldOf k i .highest)
+  amount-read {r} k n i o w e p q =
+      let z : r ≡ amounts (records d) .of k n i = p ∙ ap (number o w) q ∙ sym e in
+      (z, rw z (amount-high clean k n i))
+
+  -- a price, plus 2^31
+  pub price-read : {r v : ℕ} {x : List ℕ} (k n i o : ℕ) → amounts (records d) .of k n i ≡ biased (number o 4 (current k n (records d))) → r ≡ biased v → v ≡ number o 4 x → x ≡ current k n (records d) → (r ≡ amounts (records d) .of k n i) × (r ≤ fieldOf k i .highest)
+  price-read {r} k n i o e b p q =
+      let z : r ≡ amounts (records d) .of k n i = b ∙ ap biased (p ∙ ap (number o 4) q) ∙ sym e in
+      (z, rw z (amount-high clean k n i))

@@ -1,0 +1,32 @@
+-- The formulas over numbers that were read are the paper's.
+use mathlib.Core.Path.{_≡_, refl}
+use Prim.Native.Nat.{ℕ, _+_, _*_, _/_}
+use native.Mathlib.Omega.{arith}
+use Rattle.station.specs.Parameters.{Parameters, Amounts, factor, startHeat, noLoadHeat, incrementalFuel, output, heat, fuel, emission}
+use Rattle.acceptance.specs.Fit.{energy, start, noLoad}
+use Rattle.acceptance.specs.Curve.{rise}
+use Rattle.reference.specs.Exact.{quotient, dropped}
+use Rattle.reference.specs.Levels.{adders, maintenance, startMaintenance, thermalEnergy, heatCost, startCost, noLoadCost, nuclearEnergy}
+
+module _ (s : Parameters) (m : Amounts) (p : ℕ) {f e k : ℕ} (fuel-is : f ≡ fuel m p) (emission-is : e ≡ emission m p) (factor-is : k ≡ factor s) where
+  pub heat-costs : (h : ℕ) {r : ℕ} → r ≡ quotient (h * f * k) 1000000 + quotient (h * e) 1000 → r ≡ dropped (heatCost s m p h)
+  unfolding dropped heatCost
+  heat-costs h g = rw (g, fuel-is, emission-is, factor-is) refl
+
+  pub thermal-costs : (i : ℕ) {h o r more : ℕ} → h ≡ rise (heat s) i → o ≡ rise (output s) i → r ≡ quotient (h * f * k) (100000 * o) + quotient (h * e) (100 * o)
+      → more ≡ dropped (adders m p 1) + dropped (maintenance s m p) → r + more ≡ dropped (thermalEnergy s m p i)
+  unfolding dropped thermalEnergy
+  thermal-costs i a b g t = rw (g, t, a, b, fuel-is, emission-is, factor-is) (omega arith)
+
+module _ (s : Parameters) (m : Amounts) (p : ℕ) where
+  pub start-costs : {h x a t : ℕ} → h ≡ startHeat s → x ≡ dropped (heatCost s m p h) → a ≡ dropped (adders m p start) → t ≡ dropped (startMaintenance s m p) → x + a + t ≡ dropped (startCost s m p)
+  unfolding dropped startCost
+  start-costs e f g k = rw (f, g, k, e) refl
+
+  pub noLoad-costs : {h x a : ℕ} → h ≡ noLoadHeat s → x ≡ dropped (heatCost s m p h) → a ≡ dropped (adders m p noLoad) → x + a ≡ dropped (noLoadCost s m p)
+  unfolding dropped noLoadCost
+  noLoad-costs e f g = rw (f, g, e) refl
+
+  pub nuclear-costs : {u f k a t : ℕ} → u ≡ incrementalFuel s → f ≡ fuel m p → k ≡ factor s → a ≡ dropped (adders m p energy) → t ≡ dropped (maintenance s m p) → u * f * k / 1000000000 + a + t ≡ dropped (nuclearEnergy s m p)
+  unfolding dropped quotient nuclearEnergy
+  nuclear-costs e f g a t = rw (e, f, g, a, t) refl

@@ -1,0 +1,51 @@
+-- The profile at an hour, as the loop over the requests finds it.
+use mathlib.Core.Path.{_≡_, refl}
+use mathlib.Core.Bool.{Bool, true, false, cond, _&&_, not, false≢true}
+use mathlib.Core.List.{List}
+use Prim.Native.Nat.{ℕ, zero, suc, _+_, _≤_}
+use native.Mathlib.Nat.{pos-of-ne-zero}
+use native.Mathlib.Numerals.{add-one}
+use native.Mathlib.Omega.{arith}
+use lib.Dec.{leb, ltb, eqb}
+use lib.ListN.{length}
+use borrow.Author.Tests.{eqb-false}
+use Rattle.lists.specs.Lists.{Each}
+use Rattle.fields.specs.Numbers.{number}
+use Rattle.records.specs.Table.{table, rowOf, fieldOf, RQ}
+use Rattle.records.specs.Record.{offsetIn, offset, read, value, fault}
+use Rattle.station.specs.Current.{current, present}
+use Rattle.station.specs.Parameters.{parameters, requested, firstHour, lastHour}
+use Rattle.station.proofs.Parameters.{says-high}
+use Rattle.reference.specs.Levels.{covers, profileOf}
+
+-- what one request says of the profile, read of its record
+pub after-request : (l : List (List ℕ)) (h n p : ℕ) {r : List ℕ} {asked first last : ℕ} → r ≡ current RQ n l → asked ≡ number 15 1 r → first ≡ number 7 4 r → last ≡ number 11 4 r
+    → (t : Bool) → ltb 0 (length r) && not (eqb asked 0) && leb first h && leb h last ≡ t → cond t asked p ≡ cond (covers (parameters l) h n) (requested (parameters l) n) p
+unfolding covers parameters present value read offset offsetIn fieldOf rowOf table
+after-request l h n p e a b c t f = rw (← f, a, b, c, e) refl
+
+pub profile-next : (l : List (List ℕ)) (h n : ℕ) {p q : ℕ} → p ≡ profileOf (parameters l) h n → q ≡ cond (covers (parameters l) h (n + 1)) (requested (parameters l) (n + 1)) p → q ≡ profileOf (parameters l) h (n + 1)
+unfolding profileOf
+profile-next l h n e f = rw (add-one n) (rw (add-one n, e) at f)
+
+covered : (s : ℕ) (a b c : Bool) → a && not (eqb s 0) && b && c ≡ true → 1 ≤ s
+covered s true b c e = go (eqb s 0) refl e
+  where
+    go : (x : Bool) → eqb s 0 ≡ x → not x && b && c ≡ true → 1 ≤ s
+    go true p q = absurd (false≢true q)
+    go false p q = pos-of-ne-zero (eqb-false s 0 p)
+covered s false b c e = absurd (false≢true e)
+
+asked-high : {l : List (List ℕ)} → Each (λ r. fault r ≡ 0) l → (n : ℕ) → requested (parameters l) n ≤ 4
+unfolding fieldOf rowOf table
+asked-high e n = says-high e RQ n 3
+
+pub profile-range : {l : List (List ℕ)} → Each (λ r. fault r ≡ 0) l → (h n : ℕ) → (1 ≤ profileOf (parameters l) h n) × (profileOf (parameters l) h n ≤ 4)
+unfolding profileOf covers
+profile-range e h zero = (omega arith, omega arith)
+profile-range {l} e h (suc n) = go (covers (parameters l) h (suc n)) refl (profile-range e h n)
+  where
+    go : (t : Bool) → covers (parameters l) h (suc n) ≡ t → (1 ≤ profileOf (parameters l) h n) × (profileOf (parameters l) h n ≤ 4)
+        → (1 ≤ cond t (requested (parameters l) (suc n)) (profileOf (parameters l) h n)) × (cond t (requested (parameters l) (suc n)) (profileOf (parameters l) h n) ≤ 4)
+    go true p q = (covered (requested (parameters l) (suc n)) (parameters l .has RQ (suc n)) (leb (firstHour (parameters l) (suc n)) h) (leb h (lastHour (parameters l) (suc n))) p, asked-high e (suc n))
+    go false p q = q

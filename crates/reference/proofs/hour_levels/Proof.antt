@@ -1,0 +1,59 @@
+use borrow.Author.Needs.{needs}
+use mathlib.Core.Path.{_≡_, sym, _∙_}
+use native.Mathlib.Omega.{arith}
+use Rattle.records.specs.Dossier.{records}
+use Rattle.station.specs.Parameters.{parameters, technology}
+use Rattle.acceptance.proofs.Sound.{accepted-sound}
+use Rattle.reference.proofs.Accepted.{technology-low, hours-fit}
+use Rattle.reference.proofs.Packed.{levels-packed}
+use Rattle.reference.proofs.hour_levels.Statement.{statement}
+use Rattle.reference.proofs.hour_levels.Tie as tie
+
+profile-requires : tie.Need-profile-requires
+profile-requires c κs = search needs
+
+technology-requires : tie.Need-technology-requires
+technology-requires c κs = search needs
+
+thermal-levels-requires : tie.Need-thermal-levels-requires
+thermal-levels-requires c κs =
+    let t = c .before in
+    let p = t .before in
+    (p .before .before .before .pre .1, p .profile .ensures .1, p .profile .ensures .2, sym (t .technology .ensures .0) ∙ c .if1 .taken)
+
+returns : tie.Need-returns
+returns c = levels-packed _ _ (c .before .before .before .profile .ensures .0) (c .thermal-levels .ensures)
+
+nuclear-levels-requires : tie.Need-nuclear-levels-requires
+nuclear-levels-requires c κs =
+    let t = c .before .before in
+    let p = t .before in
+    (p .before .before .before .pre .1, p .profile .ensures .1, p .profile .ensures .2, sym (t .technology .ensures .0) ∙ c .if2 .taken)
+
+returns-2 : tie.Need-returns-2
+returns-2 c = levels-packed _ _ (c .before .before .before .before .profile .ensures .0) (c .nuclear-levels .ensures)
+
+storage-levels-requires : tie.Need-storage-levels-requires
+storage-levels-requires c κs =
+    let t = c .before .before in
+    let p = t .before in
+    let a = p .before .before .before in
+    let s = accepted-sound (a .args .d .now) (a .pre .0) .1 in
+    let e : technology (parameters (records (a .args .d .now))) ≡ 3 = omega (arith, technology-low s, t .technology .ensures .0, t .technology .ensures .1, c .if2 .left, c .before .if1 .left) in
+    (a .pre .1, p .profile .ensures .1, p .profile .ensures .2, e, hours-fit s e)
+
+returns-3 : tie.Need-returns-3
+returns-3 c = levels-packed _ _ (c .before .before .before .before .profile .ensures .0) (c .storage-levels .ensures)
+
+pub hour-levels-spec : {M : Type 1} → statement M
+hour-levels-spec =
+    tie.close
+    (tie.spec
+    profile-requires
+    technology-requires
+    thermal-levels-requires
+    returns
+    nuclear-levels-requires
+    returns-2
+    storage-levels-requires
+    returns-3)

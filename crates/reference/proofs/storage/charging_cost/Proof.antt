@@ -1,0 +1,37 @@
+use borrow.Author.Needs.{needs}
+use mathlib.Core.Path.{ap, ap₂, _∙_}
+use Prim.Native.Nat.{ℕ, _*_, _-_}
+use native.Mathlib.Omega.{arith}
+use Rattle.reference.specs.Exact.{quotient, dropped}
+use Rattle.reference.specs.Levels.{chargingSum, chargingCost}
+use Rattle.reference.proofs.Exact.{quotient-le}
+use Rattle.reference.proofs.storage.charging_cost.Statement.{statement}
+use Rattle.reference.proofs.storage.charging_cost.Tie as tie
+
+intervals-requires : tie.Need-intervals-requires
+intervals-requires c κs = search needs
+
+mul-less : tie.Need-mul-less
+mul-less c = omega arith
+
+less-requires : tie.Need-less-requires
+less-requires c κs = search needs
+
+mul-share : tie.Need-mul-share
+mul-share c = omega (arith, c .less .ensures)
+
+share-requires : tie.Need-share-requires
+share-requires c κs = search needs
+
+returns : tie.Need-returns
+unfolding dropped chargingCost chargingSum
+returns c =
+    let e = c .before .before .before .intervals .ensures in
+    let x = c .before .less .result in
+    let y = c .before .before .before .intervals .result .energy in (
+      c .share .ensures .0 ∙ ap₂ quotient (ap (λ (z : ℕ). z * 10000) (c .before .less .ensures ∙ ap₂ (λ (a b : ℕ). a - 2147483648 * b) (e .0) (e .1))) (e .1),
+      omega (arith, c .share .ensures .0, quotient-le (x * 10000) y 2000000000 (omega (arith, c .before .less .ensures))),
+    )
+
+pub charging-cost-spec : {M : Type 1} → statement M
+charging-cost-spec = tie.close (tie.spec intervals-requires mul-less less-requires mul-share share-requires returns)

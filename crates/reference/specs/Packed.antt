@@ -1,0 +1,97 @@
+-- The levels as code hands them over: numbers in arrays of 20, without their formulas. `unpacked` reads them as lines again.
+use mathlib.Core.Bool.{cond}
+use mathlib.Core.List.{List, [], _∷_, _++_, map}
+use Prim.Native.Nat.{ℕ, zero, suc, _+_}
+use lib.Dec.{eqb}
+use lib.ListN.{length, getD, replicate}
+use Rattle.records.specs.Answers.{isAccepted}
+use Rattle.station.specs.Parameters.{technology}
+use Rattle.acceptance.specs.Fit.{energy, start, noLoad, reserve, holds}
+use Rattle.acceptance.specs.Answer.{answer}
+use Rattle.reference.specs.declared.HourLevels.{HourLevels}
+use Rattle.reference.specs.declared.LevelsAnswer.{LevelsAnswer}
+use Rattle.reference.specs.Levels.{parametersIn, profile, Line, amount, levels}
+
+-- what a line shows: all but its formula
+pub record Shown : Type 0 where
+  pub level : ℕ
+  pub lamination : ℕ
+  pub from : ℕ
+  pub to : ℕ
+  pub cents : ℕ
+
+abbrev pub row : ℕ → ℕ → ℕ → ℕ → ℕ → Shown
+row v i a b x = record { level = v; lamination = i; from = a; to = b; cents = x }
+
+abbrev pub shown : Line → Shown
+shown x = row (x .level) (x .lamination) (x .from) (x .to) (amount x)
+
+-- ---- from the arrays to lines
+
+-- the lamination at place i of the arrays, from 0
+abbrev pub laminationAt : HourLevels → ℕ → Shown
+laminationAt r i = row energy (suc i) (getD (r .from) i 0) (getD (r .to) i 0) (getD (r .cents) i 0)
+
+-- n laminations from place i on
+unfoldable pub laminationsFrom : HourLevels → ℕ → ℕ → List Shown
+laminationsFrom r i zero = []
+laminationsFrom r i (suc n) = laminationAt r i ∷ laminationsFrom r (suc i) n
+
+-- a level without laminations, where the technology holds it
+unfoldable pub singleOf : ℕ → ℕ → ℕ → List Shown
+singleOf t v x = cond (holds t v) (row v 0 0 0 x ∷ []) []
+
+-- all lines that an answer shows
+unfoldable pub unpacked : HourLevels → List Shown
+unpacked r =
+    laminationsFrom r 0 (r .count)
+    ++ singleOf (r .technology) start (r .start)
+    ++ singleOf (r .technology) noLoad (r .noload)
+    ++ singleOf (r .technology) reserve (r .reserve)
+
+-- ---- from lines to the arrays
+
+-- the energy lines of some
+unfoldable pub energyLines : List Line → List Line
+energyLines [] = []
+energyLines (x ∷ l) = cond (eqb (x .level) energy) (x ∷ energyLines l) (energyLines l)
+
+-- a level's amount among some lines, 0 where none has it
+unfoldable pub amountOf : ℕ → List Line → ℕ
+amountOf v [] = 0
+amountOf v (x ∷ l) = cond (eqb (x .level) v) (amount x) (amountOf v l)
+
+-- n numbers of a list, 0 past its end
+unfoldable pub padded : ℕ → List ℕ → List ℕ
+padded zero l = []
+padded (suc n) [] = 0 ∷ padded n []
+padded (suc n) (x ∷ l) = x ∷ padded n l
+
+-- all fields at once, in the order of `HourLevels`
+abbrev pub hourLevels : ℕ → ℕ → ℕ → List ℕ → List ℕ → List ℕ → ℕ → ℕ → ℕ → HourLevels
+hourLevels t p n a b x s z r =
+    record { technology = t; profile = p; count = n; from = a; to = b; cents = x; start = s; noload = z; reserve = r }
+
+-- the levels l of technology t and profile p, packed
+unfoldable pub packed : ℕ → ℕ → List Line → HourLevels
+packed t p l =
+    hourLevels t p (length (energyLines l))
+    (padded 20 (map (λ x. x .from) (energyLines l)))
+    (padded 20 (map (λ x. x .to) (energyLines l)))
+    (padded 20 (map (λ x. amount x) (energyLines l)))
+    (amountOf start l)
+    (amountOf noLoad l)
+    (amountOf reserve l)
+
+-- ---- the answer to a dossier, with its levels at an hour
+
+-- a refused call shows no level
+abbrev pub noLevels : HourLevels
+noLevels = hourLevels 0 0 0 (replicate 20 0) (replicate 20 0) (replicate 20 0) 0 0 0
+
+unfoldable pub levelsAnswer : List ℕ → ℕ → LevelsAnswer
+levelsAnswer d h =
+    record {
+      answer = answer d;
+      levels = cond (isAccepted (answer d)) (packed (technology (parametersIn d)) (profile (parametersIn d) h) (levels d h)) noLevels;
+    }

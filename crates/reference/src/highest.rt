@@ -1,0 +1,62 @@
+// The sum of the highest of some prices, by the price that parts them from the others: it is found by halving the range.
+ghost use mathlib.Core.Path.{_≡_};
+ghost use Prim.Native.Nat.{_+_, _*_, _≤_};
+ghost use lib.ListN.{length};
+ghost use Rattle.lists.specs.Lists.{Each};
+ghost use Rattle.reference.specs.Sums.{sumHighest};
+ghost use Rattle.reference.specs.Highest.{above, atLeast, excess, Threshold, PriceIn};
+use crate::formulas::less;
+
+// How many are above v.
+fn above(s: &[u32], v: u32) -> usize
+    ensures { λ r. ⌜ r ≡ above v (now (s .entry)) ⌝ }
+{
+    let mut n = 0;
+    let mut k = 0;
+    while k < s.len() {
+        n += (v < s[k]) as usize;
+        k += 1;
+    }
+    n
+}
+
+// What those above v have above it.
+fn excess(s: &[u32], v: u32) -> u64
+    requires { ⌜ length (now s) ≤ 168 ⌝ }
+    ensures { λ r. ⌜ (r ≡ excess v (now (s .entry))) × (r ≤ 168 * 4294967295) ⌝ }
+{
+    let mut sum = 0;
+    let mut k = 0;
+    while k < s.len() {
+        sum += less(s[k] as u64, v as u64);
+        k += 1;
+    }
+    sum
+}
+
+// The threshold of the n highest, between two that lie on either side of it.
+fn threshold(s: &[u32], n: usize, low: u32, high: u32) -> u32
+    requires { ⌜ (low ≤ high) × (n ≤ atLeast low (now s)) × (above high (now s) ≤ n) ⌝ }
+    ensures { λ r. ⌜ Threshold n r (now (s .entry)) ⌝ }
+{
+    let mut lo = low;
+    let mut hi = high;
+    while lo < hi {
+        let mid = lo + (hi - lo) / 2;
+        if above(s, mid) < n {
+            hi = mid;
+        } else {
+            lo = mid + 1;
+        }
+    }
+    lo
+}
+
+// The sum of the n highest.
+pub fn highest(s: &[u32], n: usize) -> u64
+    requires { ⌜ (n ≤ length (now s)) × (length (now s) ≤ 168) × Each PriceIn (now s) ⌝ }
+    ensures { λ r. ⌜ (r ≡ sumHighest n (now (s .entry))) × (r ≤ 336 * 4294967295) ⌝ }
+{
+    let v = threshold(s, n, 2147283648, 2147683648);
+    excess(s, v) + (n as u64) * (v as u64)
+}

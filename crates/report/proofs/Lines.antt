@@ -1,0 +1,50 @@
+-- How long the report's lines are, and that each fits a fixed number of bytes.
+use mathlib.Core.Path.{_≡_}
+use mathlib.Core.Bool.{Bool, true, false, cond}
+use mathlib.Core.List.{List, _++_, append-assoc}
+use Prim.Native.Nat.{ℕ, _+_, _-_, _/_, _≤_}
+use native.Mathlib.Omega.{arith}
+use lib.ListN.{length, take, drop, length-append}
+use Rattle.text.specs.Text.{decimal, tenths, hundredths, newline}
+use Rattle.text.proofs.Decimal.{decimal-within}
+use Rattle.text.proofs.Lengths.{tenths-length, hundredths-length}
+use Rattle.text.proofs.Over.{Wrote, then}
+use Rattle.report.specs.Report.{profileLine, energyLine, amountLine}
+
+pub profile-length : (p : ℕ) → length (profileLine p) ≡ length (decimal p) + 9
+unfolding profileLine
+profile-length p = simp length-append (omega arith)
+
+pub energy-length : (i a b x : ℕ) → length (energyLine i a b x) ≡ length (decimal i) + length (tenths a) + length (tenths b) + length (hundredths x) + 11
+unfolding energyLine
+energy-length i a b x = simp length-append (omega arith)
+
+pub amount-length : (word : List ℕ) (x : ℕ) → length (amountLine word x) ≡ length word + length (hundredths x) + 1
+unfolding amountLine
+amount-length word x = simp length-append (omega arith)
+
+pub tenths-within : (n : ℕ) → length (tenths n) ≤ 22
+tenths-within n = omega (arith, tenths-length n, decimal-within (n / 10))
+
+pub hundredths-within : (n : ℕ) → length (hundredths n) ≤ 23
+hundredths-within n = omega (arith, hundredths-length n, tenths-within (n / 10))
+
+pub energy-within : (i a b x : ℕ) → length (energyLine i a b x) ≤ 98
+energy-within i a b x = omega (arith, energy-length i a b x, decimal-within i, tenths-within a, tenths-within b, hundredths-within x)
+
+-- of two lists of at most n elements one
+pub either : {A : Type 0} (n : ℕ) (b : Bool) (l k : List A) → length l ≤ n → length k ≤ n → length (cond b l k) ≤ n
+either n true l k p q = p
+either n false l k p q = q
+
+pub amount-within : (word : List ℕ) (x : ℕ) → length word ≤ 8 → length (amountLine word x) ≤ 98
+amount-within word x h = omega (arith, amount-length word x, hundredths-within x)
+
+-- a text, and then a line with a word and a level in the rest of the buffer
+pub then-amount : (t e word : List ℕ) (x : ℕ) {at r : ℕ} {b b′ : List ℕ} → Wrote t e at b
+    → Wrote (amountLine word x) (take (length b - at) (drop at b)) r b′
+    → Wrote (t ++ word ++ hundredths x ++ newline) e (at + r) (take at b ++ (b′ ++ drop (length b - at) (drop at b)))
+unfolding amountLine
+then-amount t e word x p q =
+    let k : t ++ word ++ hundredths x ++ newline ≡ t ++ (word ++ hundredths x ++ newline) = simp append-assoc in
+    rw k (then t (word ++ hundredths x ++ newline) e p q)

@@ -1,0 +1,152 @@
+-- What the program prints: it has a room that is enough for every input, and hangs on the first 60,005 bytes alone.
+use mathlib.Core.Path.{_≡_, refl, sym, ap, _∙_, subst}
+use mathlib.Core.Bool.{Bool}
+use mathlib.Core.List.{List, map}
+use Prim.Native.Nat.{ℕ, zero, suc, _+_, _-_, _<_, _≤_}
+use native.Mathlib.Omega.{arith}
+use borrow.Author.Tests.{lt-ltb, le-ltb, ltb-true, ltb-false}
+use lib.Dec.{ltb, eqb}
+use lib.ListN.{length, take, drop, length-drop, length-map}
+use lib.Seq.{take-all, length-take-le}
+use Rattle.lists.specs.Tests.{countTo}
+use Rattle.lists.proofs.Tests.{split}
+use Rattle.fields.specs.Numbers.{number}
+use Rattle.records.specs.declared.Answer.{Answer}
+use Rattle.records.specs.declared.Answer.the-variants.{Accepted, Refused as Turned}
+use Rattle.records.specs.Answers.{orElse, refuseIf, isAccepted}
+use Rattle.records.proofs.Answers.{orElse-none}
+use Rattle.records.specs.Table.{thermal, nuclear, storage, HP}
+use Rattle.records.specs.Dossier.{records}
+use Rattle.index.proofs.Turn.{tail}
+use Rattle.station.specs.Current.{readable}
+use Rattle.station.specs.Parameters.{Parameters, Amounts, parameters, amounts, technology}
+use Rattle.acceptance.specs.Answer.{answer}
+use Rattle.acceptance.specs.Curve.{points}
+use Rattle.reference.specs.Levels.{Line, profile, laminations, linesOf, lines, levels}
+use Rattle.reference.specs.Packed.{shown}
+use Rattle.text.specs.Text.{refusalLine}
+use Rattle.text.proofs.Decimal.{decimal-within}
+use Rattle.text.proofs.Lengths.{refusal-length}
+use Rattle.text.proofs.Over.{Wrote}
+use Rattle.report.specs.declared.Written.{Written}
+use Rattle.report.specs.declared.Written.the-variants.{Bytes, Refused}
+use Rattle.report.specs.Report.{report, bufferWith, written, reportAnswer, bufferAfter, printed, prints}
+use Rattle.report.proofs.Buffer.{long-enough, Told}
+use Rattle.report.proofs.Lines.{either}
+use Rattle.report.proofs.Levels.{text-within}
+
+-- ---- room
+
+count-within : (n : ℕ) (f : ℕ → Bool) → countTo n f ≤ n
+unfolding countTo
+count-within zero f = omega arith
+count-within (suc n) f = split (f (suc n)) (λ e. rw e (omega (arith, count-within n f))) (λ e. rw e (omega (arith, count-within n f)))
+
+laminations-length : (s : Parameters) (m : Amounts) (p i n : ℕ) (others : List Line) → length (laminations s m p i n others) ≡ n + length others
+unfolding laminations
+laminations-length s m p i zero others = omega arith
+laminations-length s m p i (suc n) others = omega (arith, laminations-length s m p (i + 1) n others)
+
+laminations-within : (s : Parameters) (m : Amounts) (p n : ℕ) (others : List Line) → n ≤ 20 → length others ≤ 3 → length (laminations s m p 1 n others) ≤ 23
+laminations-within s m p n others h k = omega (arith, laminations-length s m p 1 n others)
+
+-- at most 20 laminations and three other levels
+lines-count : (s : Parameters) (m : Amounts) (p : ℕ) → length (linesOf s m p) ≤ 23
+unfolding linesOf points
+lines-count s m p =
+    either 23 (eqb (technology s) thermal) _ _ (laminations-within s m p (points s - 1) _ (omega (arith, count-within 21 (s .has HP))) (omega arith))
+    (either 23 (eqb (technology s) nuclear) _ _ (omega arith) (either 23 (eqb (technology s) storage) _ _ (omega arith) (omega arith)))
+
+-- every report has at most 2,283 bytes
+pub report-fits : (d : List ℕ) (h : ℕ) → length (report d h) ≤ 2283
+unfolding report levels lines
+report-fits d h =
+    let s = parameters (records d) in
+    omega (arith, text-within (profile s h) (map shown (levels d h)), length-map (levels d h) shown, lines-count s (amounts (records d)) (profile s h))
+
+printed-fits : (a : Answer) (text : List ℕ) → length text ≤ 2283 → length (printed a text) ≤ 2283
+unfolding printed
+printed-fits Accepted text h = h
+printed-fits (Turned n p) text h = omega (arith, refusal-length n p, decimal-within n, decimal-within p)
+
+-- and so has all that the program prints
+pub prints-fits : (i : List ℕ) → length (prints i) ≤ 2283
+unfolding prints
+prints-fits i = printed-fits _ _ (report-fits (drop 4 i) (number 0 4 i))
+
+-- ---- the input
+
+no-hour : (n : ℕ) (a : Answer) → n < 4 → orElse (refuseIf (ltb n 4) 16 0) a ≡ Turned 16 0
+unfolding orElse refuseIf
+no-hour n a h = rw (lt-ltb n 4 h)
+
+hour-there : (n : ℕ) (a : Answer) → 4 ≤ n → orElse (refuseIf (ltb n 4) 16 0) a ≡ a
+unfolding orElse refuseIf
+hour-there n a h = rw (le-ltb n 4 h)
+
+pub prints-short : (i : List ℕ) → length i < 4 → prints i ≡ refusalLine 16 0
+unfolding prints printed
+prints-short i h = ap (λ (a : Answer). printed a (report (drop 4 i) (number 0 4 i))) (no-hour (length i) (answer (drop 4 i)) h)
+
+-- an hour is there: the dossier's refusal, or its report
+prints-answer : (i : List ℕ) (a : Answer) → 4 ≤ length i → answer (drop 4 i) ≡ a → prints i ≡ printed a (report (drop 4 i) (number 0 4 i))
+unfolding prints
+prints-answer i a h e = ap (λ (a : Answer). printed a (report (drop 4 i) (number 0 4 i))) (hour-there (length i) (answer (drop 4 i)) h ∙ e)
+
+prints-too-long : (i : List ℕ) → 60004 < length i → prints i ≡ refusalLine 13 0
+unfolding answer readable orElse refuseIf printed
+prints-too-long i h =
+    let k : 60000 < length (drop 4 i) = simp length-drop (omega arith) in
+    prints-answer i (Turned 13 0) (omega arith) (rw (lt-ltb 60000 (length (drop 4 i)) k))
+
+-- 4 hour bytes, 60,000 of a dossier, and one more to tell that it is too long: what comes after them changes nothing
+pub prints-cut : (i : List ℕ) → prints (take 60005 i) ≡ prints i
+prints-cut i =
+    split (ltb 60005 (length i)) (λ e. long (ltb-true 60005 (length i) e)) (λ e. ap prints (take-all 60005 i (ltb-false 60005 (length i) e)))
+  where
+    long : 60005 < length i → prints (take 60005 i) ≡ prints i
+    long h =
+        let n : length (take 60005 i) ≡ 60005 = length-take-le 60005 i (omega arith) in
+        prints-too-long (take 60005 i) (omega arith) ∙ sym (prints-too-long i (omega arith))
+
+-- ---- the function that prints: a report in a buffer where every report fits
+
+with-room : (d : List ℕ) (h : ℕ) (e : List ℕ) → 2283 ≤ length e → reportAnswer d h (length e) ≡ answer d
+unfolding reportAnswer
+with-room d h e k = rw (long-enough (report d h) (length e) (omega (arith, report-fits d h))) (orElse-none (answer d))
+
+-- the report that the function calls sees the input after the hour as a part
+pub after-hour : (i e : List ℕ) {h : ℕ} {w : Written} {b : List ℕ} → h ≡ number 0 4 i → Told (take (length i - 4) (drop 4 i)) h e w b → Told (drop 4 i) (number 0 4 i) e w b
+after-hour i e {h} {w} {b} q t =
+    subst (λ (d : List ℕ). Told d (number 0 4 i) e w b) (tail i 4)
+    (subst (λ (h : ℕ). Told (take (length i - 4) (drop 4 i)) h e w b) q t)
+
+module _ (i e : List ℕ) (room : 2283 ≤ length e) (four : 4 ≤ length i) where
+  -- what is told stands on the dossier's answer alone
+  told-answer : {w : Written} {b : List ℕ} (a : Answer) → answer (drop 4 i) ≡ a → Told (drop 4 i) (number 0 4 i) e w b
+      → (w ≡ written a (length (report (drop 4 i) (number 0 4 i)))) × (b ≡ bufferWith a (report (drop 4 i) (number 0 4 i)) e)
+  unfolding bufferAfter
+  told-answer a p t = rw (with-room (drop 4 i) (number 0 4 i) e room, p) at t
+
+  -- bytes that are told are all that is printed
+  pub print-report : (n : ℕ) {b : List ℕ} → Told (drop 4 i) (number 0 4 i) e (Bytes n) b → Wrote (prints i) e n b
+  unfolding printed bufferWith written isAccepted
+  print-report n {b} t = go (answer (drop 4 i)) refl
+    where
+      go : (a : Answer) → answer (drop 4 i) ≡ a → Wrote (prints i) e n b
+      go Accepted p =
+          let l : n ≡ length (report (drop 4 i) (number 0 4 i)) = cc (told-answer Accepted p t .0) in
+          rw (prints-answer i Accepted four p) (l, told-answer Accepted p t .1)
+      go (Turned k q) p = let z : _≡_ {A = ℕ} 0 1 = cc (told-answer (Turned k q) p t .0) in absurd (omega arith)
+
+  -- a refusal that is told is what is printed, and the buffer is as it was
+  pub print-refusal : (k q : ℕ) {b : List ℕ} → Told (drop 4 i) (number 0 4 i) e (Refused k q) b → (prints i ≡ refusalLine k q) × (b ≡ e)
+  unfolding printed bufferWith written isAccepted
+  print-refusal k q {b} t = go (answer (drop 4 i)) refl
+    where
+      go : (a : Answer) → answer (drop 4 i) ≡ a → (prints i ≡ refusalLine k q) × (b ≡ e)
+      go Accepted p = let z : _≡_ {A = ℕ} 0 1 = cc (told-answer Accepted p t .0) in absurd (omega arith)
+      go (Turned k′ q′) p =
+          let f : k ≡ k′ = cc (told-answer (Turned k′ q′) p t .0) in
+          let g : q ≡ q′ = cc (told-answer (Turned k′ q′) p t .0) in
+          rw (f, g) (prints-answer i (Turned k′ q′) four p, told-answer (Turned k′ q′) p t .1)

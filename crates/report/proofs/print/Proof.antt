@@ -1,0 +1,112 @@
+-- `report::print` meets its contract.
+use mathlib.Core.Path.{_≡_, sym, ap, _∙_}
+use mathlib.Core.List.{List}
+use Prim.Native.Nat.{ℕ}
+use native.Mathlib.Omega.{arith}
+use borrow.Author.Needs.{needs}
+use lib.ListN.{length, drop}
+use Rattle.fields.specs.Numbers.{number}
+use Rattle.text.specs.Text.{over, refusalLine}
+use Rattle.report.specs.declared.Written.{Written}
+use Rattle.report.specs.Report.{prints}
+use Rattle.report.proofs.Buffer.{Told}
+use Rattle.report.proofs.Program.{prints-fits, prints-short, after-hour, print-report, print-refusal}
+use Rattle.report.proofs.print.Statement.{statement}
+use Rattle.report.proofs.print.Tie as tie
+
+abbrev input : tie.Start → List ℕ
+input c = c .args .input .now
+
+-- from behind the report, back to the function's entry
+abbrev start : tie.After-slice-known3 → tie.Start
+start c = c .before .before .before .before .before .before .before .before .before
+
+-- what the report told, of the input after the hour
+told : (c : tie.After-slice-known3) {w : Written} → c .before .before .report .result ≡ w
+    → Told (drop 4 (input (start c))) (number 0 4 (input (start c))) (start c .args .out .now) w (c .before .before .report .last .1 .1 .0)
+told c e =
+    let r = c .before .before in
+    after-hour (input (start c)) (start c .args .out .now) (r .before .before .u32-at .ensures) (sym e ∙ r .report .ensures .0, r .report .ensures .1)
+
+-- a refusal that it told
+refused : (c : tie.After-known-told2)
+    → (prints (input (start (c .before .before .before))) ≡ refusalLine (c .before .number .given .0 .0) (c .before .number .given .0 .1 .0))
+    × (c .before .before .before .before .before .report .last .1 .1 .0 ≡ start (c .before .before .before) .args .out .now)
+refused c =
+    let r = c .before .before .before in
+    print-refusal (input (start r)) (start r .args .out .now) (start r .pre) (r .before .before .before .before .before .before .if1 .left) _ _ (told r (c .before .number .given .1))
+
+put-refusal-requires : tie.Need-put-refusal-requires
+put-refusal-requires c κs =
+    let i = input (c .before .before .before .before) in omega (arith, prints-fits i, ap length (prints-short i (c .before .if1 .taken)))
+
+same-length : tie.Need-same-length
+same-length c = search needs
+
+returns : tie.Need-returns
+returns c =
+    let s = c .before .before .before .before .before .before .before in
+    rw (prints-short (input s) (c .before .before .before .before .if1 .taken)) (c .before .before .put-refusal .ensures)
+
+sub-report : tie.Need-sub-report
+sub-report c = search needs
+
+part-report-start : tie.Need-part-report-start
+part-report-start c = search needs
+
+part-report-end : tie.Need-part-report-end
+part-report-end c = search needs
+
+u32-at-requires : tie.Need-u32-at-requires
+u32-at-requires c κs = search needs
+
+report-requires : tie.Need-report-requires
+report-requires c κs = search needs
+
+enum-known-len : tie.Need-enum-known-len
+enum-known-len c = search needs
+
+enum-known-number : tie.Need-enum-known-number
+enum-known-number c = search needs
+
+put-refusal-requires-2 : tie.Need-put-refusal-requires-2
+put-refusal-requires-2 c κs =
+    omega (arith, prints-fits (input (start (c .before .before .before .before))), ap length (refused (c .before) .0))
+
+same-length-2 : tie.Need-same-length-2
+same-length-2 c = search needs
+
+returns-2 : tie.Need-returns-2
+returns-2 c =
+    let r = c .before .before .before in
+    print-report (input (start r)) (start r .args .out .now) (start r .pre) (r .before .before .before .before .before .before .if1 .left) _ (told r (c .before .len .given .1))
+
+same-length-3 : tie.Need-same-length-3
+same-length-3 c = search needs
+
+returns-3 : tie.Need-returns-3
+returns-3 c =
+    let put = c .before .before .put-refusal2 .ensures in
+    let k = c .before .before .before .before in
+    let n = k .before .number .given .0 in
+    rw (refused k .0) (put .0, put .1 ∙ ap (over (refusalLine (n .0) (n .1 .0))) (refused k .1))
+
+pub print-spec : {M : Type 1} → statement M
+print-spec =
+    tie.close
+    (tie.spec
+    put-refusal-requires
+    same-length
+    returns
+    sub-report
+    part-report-start
+    part-report-end
+    u32-at-requires
+    report-requires
+    enum-known-len
+    enum-known-number
+    put-refusal-requires-2
+    same-length-2
+    returns-2
+    same-length-3
+    returns-3)

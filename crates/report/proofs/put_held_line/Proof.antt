@@ -1,0 +1,26 @@
+-- `report::put_held_line` meets its contract.
+use mathlib.Core.Path.{refl}
+use borrow.Author.Needs.{needs}
+use Rattle.report.proofs.put_held_line.Statement.{statement}
+use Rattle.report.proofs.put_held_line.Tie as tie
+
+put-amount-line-requires : tie.Need-put-amount-line-requires
+put-amount-line-requires c κs = rw (c .before .if1 .taken) at (c .before .before .before .before .pre)
+
+same-length : tie.Need-same-length
+same-length c = search needs
+
+returns : tie.Need-returns
+returns c = rw (c .before .before .before .before .if1 .taken) (c .before .before .put-amount-line .ensures)
+
+returns-2 : tie.Need-returns-2
+returns-2 c = rw (c .if1 .left) (refl, refl)
+
+pub put-held-line-spec : {M : Type 1} → statement M
+put-held-line-spec =
+    tie.close
+    (tie.spec
+    put-amount-line-requires
+    same-length
+    returns
+    returns-2)

@@ -1,0 +1,24 @@
+-- The report in the parts that code writes, from the levels as code hands them over. The laws `report-is` and `packed-is` tie it to `report`.
+use mathlib.Core.Bool.{Bool, cond}
+use mathlib.Core.List.{List, [], _++_}
+use Prim.Native.Nat.{ℕ}
+use Rattle.acceptance.specs.Fit.{start, noLoad, reserve}
+use Rattle.reference.specs.declared.HourLevels.{HourLevels}
+use Rattle.reference.specs.Packed.{laminationsFrom, singleOf, unpacked}
+use Rattle.report.specs.Report.{amountLine, levelLines, reportText}
+
+-- the whole
+unfoldable pub packedReport : HourLevels → List ℕ
+packedReport r = reportText (r .profile) (unpacked r)
+
+-- the first n energy lines
+abbrev pub laminationLines : HourLevels → ℕ → List ℕ
+laminationLines r n = levelLines (laminationsFrom r 0 n)
+
+-- a line with a word and a level that may be held or not
+abbrev pub heldLine : Bool → List ℕ → ℕ → List ℕ
+heldLine held word x = cond held (amountLine word x) []
+
+-- the start, no-load and reserve lines that technology t holds
+unfoldable pub otherLines : ℕ → ℕ → ℕ → ℕ → List ℕ
+otherLines t x y z = levelLines (singleOf t start x) ++ levelLines (singleOf t noLoad y) ++ levelLines (singleOf t reserve z)

@@ -1,0 +1,5 @@
+pub mod Root
+pub mod Tree
+pub mod Seen
+pub mod Way
+pub mod Loop

@@ -1,0 +1,30 @@
+use borrow.Author.Needs.{needs}
+use native.Mathlib.Nat.{mod-lt}
+use native.Mathlib.Omega.{arith}
+use mathlib.Core.Path.{refl}
+use Rattle.twins.specs.Tree.{root}
+use Rattle.twins.proofs.Root.{sum-fits, product-fits}
+use Rattle.twins.proofs.root_of.Statement.{statement}
+use Rattle.twins.proofs.root_of.Tie as tie
+
+mul-m : tie.Need-mul-m
+mul-m c = search needs
+
+mul-m-2 : tie.Need-mul-m-2
+mul-m-2 c = search needs
+
+add-m : tie.Need-add-m
+add-m c = record { fits = sum-fits (c .args .x) (c .fits .x .fits) }
+
+mul-result : tie.Need-mul-result
+mul-result c = record { fits = product-fits (mod-lt _ (omega arith)) (mod-lt _ (omega arith)) }
+
+mul-result-2 : tie.Need-mul-result-2
+mul-result-2 c = record { fits = product-fits (mod-lt _ (omega arith)) (omega arith) }
+
+returns : tie.Need-returns
+unfolding root
+returns c = refl
+
+pub root-of-spec : {M : Type 1} → statement M
+root-of-spec = tie.close (tie.spec mul-m mul-m-2 add-m mul-result mul-result-2 returns)

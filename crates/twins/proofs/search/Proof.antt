@@ -1,0 +1,171 @@
+-- The invariant: at most a record for each 11 bytes, and what is known at `at`. The measure: what is left of the dossier.
+use borrow.Author.Needs.{needs}
+use native.Mathlib.Omega.{arith}
+use mathlib.Core.Path.{_≡_, refl, ap}
+use mathlib.Core.List.{List}
+use Prim.Native.Nat.{ℕ, _≤_, _<_, _-_, _+_, _*_}
+use lib.ListN.{length, drop, take}
+use Rattle.records.specs.declared.Found.the-variants.{Record}
+use Rattle.records.specs.Record.{mark}
+use Rattle.records.specs.Walk.{found}
+use Rattle.index.specs.Slots.{slotAt}
+use Rattle.index.proofs.Turn.{bounds, below, long}
+use Rattle.index.specs.declared.Entry.{Entry}
+use Rattle.twins.proofs.Loop.{Known, start, not-short, twin-there, none-there, clean-found, finish}
+use Rattle.twins.proofs.search.Statement.{statement}
+use Rattle.twins.proofs.search.Tie as tie
+
+abbrev Inv-loop : tie.InvT-loop
+Inv-loop d links₀ ids₀ roots at₀ count₀ links ids at count = (at ≤ length d) × (11 * count ≤ at) × (length links ≡ length links₀) × (length ids ≡ length ids₀) × Known roots d links ids at count
+
+abbrev μ-loop : tie.MeasureT-loop
+μ-loop d links₀ ids₀ roots at₀ count₀ links ids at count = length d - at
+
+-- a turn's dossier and place, and the record that stands there
+abbrev Turn : Type 0
+Turn = tie.After-entry-at Inv-loop μ-loop
+
+abbrev In : Turn → tie.In-loop Inv-loop μ-loop
+In c = c .before .before .before
+
+abbrev At : Turn → tie.At-loop Inv-loop μ-loop
+At c = In c .before
+
+abbrev St : Turn → tie.Start Inv-loop μ-loop
+St c = At c .before .before .before .before
+
+abbrev d-of : Turn → List ℕ
+d-of c = St c .args .d .now
+
+abbrev at-of : Turn → ℕ
+at-of c = At c .loop .at
+
+abbrev rest-of : Turn → List ℕ
+rest-of c = take (length (d-of c) - at-of c) (drop (at-of c) (d-of c))
+
+abbrev len-of : Turn → ℕ
+len-of c = c .entry-at .result .len
+
+its-slot : (c : Turn) → c .entry-at .result .slot ≡ slotAt (mark (rest-of c)) (rest-of c)
+its-slot c = ap (λ (s : Entry). s .slot) (c .entry-at .ensures)
+
+its-found : (c : Turn) → found (drop (at-of c) (d-of c)) ≡ Record (mark (rest-of c)) (len-of c)
+its-found c = clean-found (d-of c) (at-of c) (In c .loop-test .taken) (At c .loop .inv .4) refl (ap (λ (s : Entry). s .len) (c .entry-at .ensures))
+
+slot-fits : (c : Turn) → c .entry-at .result .slot < 2350
+slot-fits c = below (d-of c) (at-of c) _ _ (its-found c) (its-slot c)
+
+-- it is within the dossier, and there is room for it
+its : (c : Turn) → (11 ≤ len-of c) × (len-of c ≤ length (d-of c) - at-of c) × (11 * At c .loop .count ≤ at-of c) × (length (d-of c) + 11 < 11 * length (At c .loop .ids)) × (length (At c .loop .ids) ≤ 65535)
+its c = (
+  long (drop (at-of c) (d-of c)) _ _ (its-found c),
+  bounds (d-of c) (at-of c) _ _ (its-found c) .1,
+  At c .loop .inv .1,
+  omega (arith, St c .pre .0 .room, At c .loop .inv .3),
+  omega (arith, St c .pre .0 .narrow, At c .loop .inv .3),
+)
+
+loop-holds : tie.Need-loop-holds Inv-loop μ-loop
+loop-holds c = (search needs, search needs, refl, refl, start _ _ _ _ (c .before .before .before .pre .0) (c .before .before .before .pre .1))
+
+sub-rest : tie.Need-sub-rest Inv-loop μ-loop
+sub-rest c = search needs
+
+part-rest-start : tie.Need-part-rest-start Inv-loop μ-loop
+part-rest-start c = search needs
+
+part-rest-end : tie.Need-part-rest-end Inv-loop μ-loop
+part-rest-end c = search needs
+
+same-length : tie.Need-same-length Inv-loop μ-loop
+same-length c = search needs
+
+same-length-2 : tie.Need-same-length-2 Inv-loop μ-loop
+same-length-2 c = search needs
+
+returns : tie.Need-returns Inv-loop μ-loop
+returns c = absurd (not-short (c .before .before .before .before .before .before .before .args .d .now) (c .before .before .before .loop .at) (c .before .before .loop-test .taken) (c .before .before .before .loop .inv .4) (c .if1 .taken))
+
+entry-at-requires : tie.Need-entry-at-requires Inv-loop μ-loop
+entry-at-requires c κs = search needs
+
+add-next : tie.Need-add-next Inv-loop μ-loop
+add-next c = omega (arith, its (c .before))
+
+mul-x : tie.Need-mul-x Inv-loop μ-loop
+mul-x c = omega (arith, slot-fits (c .before))
+
+u32-at-requires : tie.Need-u32-at-requires Inv-loop μ-loop
+u32-at-requires c κs = search needs
+
+cast-x : tie.Need-cast-x Inv-loop μ-loop
+cast-x c = search needs
+
+add-x : tie.Need-add-x Inv-loop μ-loop
+add-x c = omega (arith, slot-fits (c .before .before), c .u32-at .ok)
+
+enter-requires : tie.Need-enter-requires Inv-loop μ-loop
+enter-requires c κs = At (c .before .before .before .before) .loop .inv .4 .shape
+
+same-length-3 : tie.Need-same-length-3 Inv-loop μ-loop
+same-length-3 c = search needs
+
+same-length-4 : tie.Need-same-length-4 Inv-loop μ-loop
+same-length-4 c = search needs
+
+returns-2 : tie.Need-returns-2 Inv-loop μ-loop
+returns-2 c =
+    let u = c .before .before .before .before .before .before .before .before in
+    let t = u .before .before in
+    twin-there (d-of t) (at-of t) _ (len-of t) (In t .loop-test .taken) (its-found t) (At t .loop .inv .4) (its-slot t) (u .u32-at .ensures) (u .u32-at .ok) (c .before .before .before .before .before .enter .ensures) (c .if2 .taken)
+
+add-count : tie.Need-add-count Inv-loop μ-loop
+add-count c = omega (arith, its (c .before .before .before .before .before .before .before .before .before .before))
+
+loop-less : tie.Need-loop-less Inv-loop μ-loop
+loop-less c = omega (arith, its (c .before .before .before .before .before .before .before .before .before .before))
+
+loop-again : tie.Need-loop-again Inv-loop μ-loop
+loop-again c =
+    let u = c .before .before .before .before .before .before .before .before in
+    let t = u .before .before in
+    (omega (arith, its t), omega (arith, its t), search needs, search needs, none-there (d-of t) (at-of t) _ (len-of t) (In t .loop-test .taken) (its-found t) (At t .loop .inv .4) (its-slot t) (u .u32-at .ensures) (u .u32-at .ok) (c .before .before .before .before .before .enter .ensures) (c .if2 .left) (omega (arith, its t)))
+
+same-length-5 : tie.Need-same-length-5 Inv-loop μ-loop
+same-length-5 c = search needs
+
+same-length-6 : tie.Need-same-length-6 Inv-loop μ-loop
+same-length-6 c = search needs
+
+returns-3 : tie.Need-returns-3 Inv-loop μ-loop
+returns-3 c = finish _ _ (c .loop-test .left) (c .before .loop .inv .4)
+
+pub search-spec : {M : Type 1} → statement M
+search-spec =
+    tie.close
+    (tie.spec
+    Inv-loop
+    μ-loop
+    loop-holds
+    sub-rest
+    part-rest-start
+    part-rest-end
+    same-length
+    same-length-2
+    returns
+    entry-at-requires
+    add-next
+    mul-x
+    u32-at-requires
+    cast-x
+    add-x
+    enter-requires
+    same-length-3
+    same-length-4
+    returns-2
+    add-count
+    loop-less
+    loop-again
+    same-length-5
+    same-length-6
+    returns-3)
