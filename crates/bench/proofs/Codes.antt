@@ -8,7 +8,7 @@ use Rattle.conduct.specs.declared.Verdict.{Verdict}
 use Rattle.conduct.specs.declared.Verdict.the-variants.{Passes, Fails, Refused}
 use Rattle.report.specs.declared.Written.{Written}
 use Rattle.report.specs.declared.Written.the-variants.{Bytes, Refused as Unwritten}
-use Rattle.bench.specs.Codes.{coded, answerCode, partCode, verdictCode, writtenCode}
+use Rattle.bench.specs.Codes.{coded, answerCode, partCode, wordsCode, verdictCode, writtenCode}
 
 pub accepted-code : {a : Answer} → a ≡ Accepted → 0 ≡ answerCode a
 unfolding answerCode
@@ -21,6 +21,14 @@ refused-code c e = rw e c
 pub part-code : {p q : Part} {r : ℕ} → r ≡ coded 0 (p .start) (p .length) → p ≡ q → r ≡ partCode q
 unfolding partCode
 part-code c e = rw (← e) c
+
+pub words-code : {a : Answer} → a ≡ Accepted → 66 ≡ wordsCode a
+unfolding wordsCode
+words-code e = rw e refl
+
+pub wordless-code : {a : Answer} {n p r : ℕ} → r ≡ coded 2 n p → a ≡ Turned n p → r ≡ wordsCode a
+unfolding wordsCode
+wordless-code c e = rw e c
 
 pub passes-code : {v : Verdict} → v ≡ Passes → 0 ≡ verdictCode v
 unfolding verdictCode

@@ -21,6 +21,11 @@ answerCode (Turned n p) = coded 2 n p
 unfoldable pub partCode : Part → ℕ
 partCode p = coded 0 (p .start) (p .length)
 
+-- class 0 with the 66 words written; class 2 refused
+unfoldable pub wordsCode : Answer → ℕ
+wordsCode Accepted = 66
+wordsCode (Turned n p) = coded 2 n p
+
 -- class 0 passes; class 1 fails, pair a, lamination b; class 2 refused
 unfoldable pub verdictCode : Verdict → ℕ
 verdictCode Passes = 0

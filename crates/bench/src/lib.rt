@@ -8,7 +8,8 @@ ghost use Rattle.lookup.specs.Parts.{lookupPart};
 ghost use Rattle.acceptance.specs.Answer.{answer};
 ghost use Rattle.conduct.specs.Verdict.{onOffer, onPrice};
 ghost use Rattle.report.specs.Report.{written, report, reportAnswer, bufferAfter};
-ghost use Rattle.bench.specs.Codes.{coded, answerCode, partCode, verdictCode, writtenCode};
+ghost use Rattle.words.specs.Words.{wordsAnswer, wordsAfter};
+ghost use Rattle.bench.specs.Codes.{coded, answerCode, partCode, wordsCode, verdictCode, writtenCode};
 use conduct::Verdict;
 use records::Answer;
 use report::Written;
@@ -41,6 +42,18 @@ pub extern "C" fn bench_current(dossier: &[u8], letters: u16, key: u32) -> u64
     let start = part.start;
     let length = part.length;
     code(0, start, length)
+}
+
+// The levels at an hour, as words in a lent list; class 0 with 66.
+#[no_mangle]
+pub extern "C" fn bench_levels(dossier: &[u8], hour: u32, words: &mut [u64]) -> u64
+    ensures answer { λ r. ⌜ r ≡ wordsCode (wordsAnswer (now (dossier .entry)) hour (length (now (words .entry)))) ⌝ }
+    ensures words { λ r. ⌜ now (words .exit) ≡ wordsAfter (now (dossier .entry)) hour (now (words .entry)) ⌝ }
+{
+    match words::levels_words(dossier, hour, words) {
+        Answer::Accepted => 66,
+        Answer::Refused { number, place } => code(2, number as usize, place),
+    }
 }
 
 // The conduct test of an energy offer.

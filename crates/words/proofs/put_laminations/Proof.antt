@@ -1,0 +1,136 @@
+-- `words::put_laminations` meets its contract. The loop's invariant: the words of the places passed stand. The measure is how many
+-- places are left.
+use Prim.Native.Nat.{_+_, _*_, _-_, _≤_}
+use mathlib.Core.Path.{_≡_}
+use native.Mathlib.Omega.{arith}
+use borrow.Author.Needs.{needs}
+use lib.ListN.{length, set}
+use Rattle.text.proofs.Over.{Wrote}
+use Rattle.words.specs.Words.{wordsTo}
+use Rattle.words.proofs.Stores.{within, first-words, next-words, wrote-length, all-places}
+use Rattle.words.proofs.put_laminations.Statement.{statement}
+use Rattle.words.proofs.put_laminations.Tie as tie
+
+abbrev Inv-loop : tie.InvT-loop
+Inv-loop words₀ lv i₀ words i = (i ≤ 20) × Wrote (wordsTo lv i) words₀ (3 * i + 2) words
+
+abbrev μ-loop : tie.MeasureT-loop
+μ-loop words₀ lv i₀ words i = 20 - i
+
+slice-write-words : tie.Need-slice-write-words Inv-loop μ-loop
+slice-write-words c = search needs
+
+slice-write-words-2 : tie.Need-slice-write-words-2 Inv-loop μ-loop
+slice-write-words-2 c = within (c .args .words .now) 0 (c .args .t1 .profile) (omega arith)
+
+loop-holds : tie.Need-loop-holds Inv-loop μ-loop
+loop-holds c = (omega arith, first-words (c .args .t1) (c .args .words .now) (c .pre))
+
+abbrev At : Type 0
+At = tie.At-loop Inv-loop μ-loop
+
+-- a turn leaves the list as long as it was
+words-long : (c : At) → length (c .loop .words) ≡ length (c .before .args .words .now)
+words-long c =
+    wrote-length (c .before .args .t1) (c .before .args .words .now) (c .loop .i) (c .loop .inv .0) (c .before .pre) (c .loop .inv .1)
+
+mul-at : tie.Need-mul-at Inv-loop μ-loop
+mul-at c = search needs
+
+add-at : tie.Need-add-at Inv-loop μ-loop
+add-at c = search needs
+
+mul-words : tie.Need-mul-words Inv-loop μ-loop
+mul-words c = search needs
+
+element-copy-out-words : tie.Need-element-copy-out-words Inv-loop μ-loop
+element-copy-out-words c = search needs
+
+mul-words-2 : tie.Need-mul-words-2 Inv-loop μ-loop
+mul-words-2 c = search needs
+
+slice-write-words-3 : tie.Need-slice-write-words-3 Inv-loop μ-loop
+slice-write-words-3 c = omega (arith, words-long (c .before .before))
+
+mul-words-3 : tie.Need-mul-words-3 Inv-loop μ-loop
+mul-words-3 c = search needs
+
+element-copy-out-words-2 : tie.Need-element-copy-out-words-2 Inv-loop μ-loop
+element-copy-out-words-2 c = search needs
+
+add-words : tie.Need-add-words Inv-loop μ-loop
+add-words c = search needs
+
+mul-words-4 : tie.Need-mul-words-4 Inv-loop μ-loop
+mul-words-4 c = search needs
+
+slice-write-words-4 : tie.Need-slice-write-words-4 Inv-loop μ-loop
+slice-write-words-4 c =
+    let l = c .before .before .before in
+    within (l .loop .words) (3 * l .loop .i + 2) _ (omega (arith, words-long l))
+
+mul-words-5 : tie.Need-mul-words-5 Inv-loop μ-loop
+mul-words-5 c = search needs
+
+element-copy-out-words-3 : tie.Need-element-copy-out-words-3 Inv-loop μ-loop
+element-copy-out-words-3 c = search needs
+
+add-words-2 : tie.Need-add-words-2 Inv-loop μ-loop
+add-words-2 c = search needs
+
+mul-words-6 : tie.Need-mul-words-6 Inv-loop μ-loop
+mul-words-6 c = search needs
+
+slice-write-words-5 : tie.Need-slice-write-words-5 Inv-loop μ-loop
+slice-write-words-5 c =
+    let l = c .before .before .before .before in
+    let i = 3 * l .loop .i + 2 in
+    within (set (l .loop .words) i _) (i + 1) _ (within (l .loop .words) i _ (omega (arith, words-long l)))
+
+add-i : tie.Need-add-i Inv-loop μ-loop
+add-i c = search needs
+
+loop-less : tie.Need-loop-less Inv-loop μ-loop
+loop-less c = search needs
+
+loop-again : tie.Need-loop-again Inv-loop μ-loop
+loop-again c =
+    let l = c .before .before .before .before in
+    (omega arith, next-words (l .before .args .t1) (l .before .args .words .now) (l .loop .i) (omega arith) (l .before .pre) (l .loop .inv .1))
+
+same-length : tie.Need-same-length Inv-loop μ-loop
+same-length c = omega (arith, words-long (c .before))
+
+returns : tie.Need-returns Inv-loop μ-loop
+returns c = all-places (c .before .before .args .t1) (c .before .before .args .words .now) (omega arith) (c .before .loop .inv .1)
+
+pub put-laminations-spec : {M : Type 1} → statement M
+put-laminations-spec =
+    tie.close
+    (tie.spec
+    Inv-loop
+    μ-loop
+    slice-write-words
+    slice-write-words-2
+    loop-holds
+    mul-at
+    add-at
+    mul-words
+    element-copy-out-words
+    mul-words-2
+    slice-write-words-3
+    mul-words-3
+    element-copy-out-words-2
+    add-words
+    mul-words-4
+    slice-write-words-4
+    mul-words-5
+    element-copy-out-words-3
+    add-words-2
+    mul-words-6
+    slice-write-words-5
+    add-i
+    loop-less
+    loop-again
+    same-length
+    returns)

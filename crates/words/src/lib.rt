@@ -1,0 +1,74 @@
+// The levels at an hour as 66 numbers in a lent list, for callers in other languages. The definitions are in specs/, their
+// laws in proofs/.
+ghost use mathlib.Core.Path.{_≡_};
+ghost use mathlib.Core.List.{_++_};
+ghost use Prim.Native.Nat.{_≤_};
+ghost use lib.ListN.{length, drop};
+ghost use Rattle.words.specs.Words.{heldBits, wordsTo, wordsOf, wordsAnswer, wordsAfter};
+use records::Answer;
+use reference::HourLevels;
+
+// The levels that a technology holds, a bit each.
+fn held_bits(technology: u8) -> u64
+    ensures { λ r. ⌜ r ≡ heldBits technology ⌝ }
+{
+    if technology == 1 {
+        return 15;
+    }
+    if technology == 2 {
+        return 1;
+    }
+    if technology == 3 {
+        return 9;
+    }
+    0
+}
+
+// The profile, the number of laminations, and from, to and level of each place.
+fn put_laminations(lv: HourLevels, words: &mut [u64])
+    requires { ⌜ 62 ≤ length (now words) ⌝ }
+    ensures { λ r. ⌜ now (words .exit) ≡ wordsTo lv 20 ++ drop 62 (now (words .entry)) ⌝ }
+{
+    words[0] = lv.profile as u64;
+    words[1] = lv.count as u64;
+    let mut i = 0;
+    while i < 20 {
+        let at = 3 * i + 2;
+        words[at] = lv.from[i];
+        words[at + 1] = lv.to[i];
+        words[at + 2] = lv.cents[i];
+        i += 1;
+    }
+}
+
+// All 66 words.
+fn put_words(lv: HourLevels, words: &mut [u64])
+    requires { ⌜ 66 ≤ length (now words) ⌝ }
+    ensures { λ r. ⌜ now (words .exit) ≡ wordsOf lv ++ drop 66 (now (words .entry)) ⌝ }
+{
+    put_laminations(lv, words);
+    words[62] = held_bits(lv.technology);
+    words[63] = lv.start;
+    words[64] = lv.noload;
+    words[65] = lv.reserve;
+}
+
+// The levels of a dossier at an hour, as words in a lent list.
+pub fn levels_words(d: &[u8], hour: u32, words: &mut [u64]) -> Answer
+    ensures { λ r. ⌜ (r ≡ wordsAnswer (now (d .entry)) hour (length (now (words .entry)))) × (now (words .exit) ≡ wordsAfter (now (d .entry)) hour (now (words .entry))) ⌝ }
+{
+    let mut index = [0u64; 2350];
+    match acceptance::judge(d, &mut index) {
+        Answer::Accepted => {
+            if words.len() < 66 {
+                return Answer::Refused {
+                    number: 15,
+                    place: 0,
+                };
+            }
+            put_words(reference::hour_levels(d, &index, hour), words);
+            Answer::Accepted
+        }
+        Answer::Refused { number, place } => Answer::Refused { number, place },
+    }
+}
