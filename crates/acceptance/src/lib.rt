@@ -141,7 +141,7 @@ fn choose(b: bool, x: usize, y: usize) -> usize
 }
 
 // Whether a slot of the index is empty or its record fits.
-fn slot_fits(d: &[u8], index: &[u64], t: u8, j: usize) -> bool
+fn slot_fits(d: &[u8], index: &[u16], t: u8, j: usize) -> bool
     requires { ⌜ Known t × (j < length (now index)) ⌝ }
     ensures { λ r. ⌜ r ≡ slotFits t (now (d .entry)) (now (index .entry)) j ⌝ }
 {
@@ -158,7 +158,7 @@ fn slot_fits(d: &[u8], index: &[u64], t: u8, j: usize) -> bool
 }
 
 // The same of n slots from slot j on.
-fn slots_fit(d: &[u8], index: &[u64], t: u8, j: usize, n: usize) -> bool
+fn slots_fit(d: &[u8], index: &[u16], t: u8, j: usize, n: usize) -> bool
     requires { ⌜ Known t × (j + n ≤ length (now index)) ⌝ }
     ensures { λ r. ⌜ r ≡ slotsFit t (now (d .entry)) (now (index .entry)) j n ⌝ }
 {
@@ -173,7 +173,7 @@ fn slots_fit(d: &[u8], index: &[u64], t: u8, j: usize, n: usize) -> bool
 }
 
 // Whether n slots from slot j on are empty.
-fn slots_empty(index: &[u64], j: usize, n: usize) -> bool
+fn slots_empty(index: &[u16], j: usize, n: usize) -> bool
     requires { ⌜ j + n ≤ length (now index) ⌝ }
     ensures { λ r. ⌜ r ≡ slotsEmpty (now (index .entry)) j n ⌝ }
 {
@@ -187,7 +187,7 @@ fn slots_empty(index: &[u64], j: usize, n: usize) -> bool
 }
 
 // Whether the index shows that every current record fits.
-fn all_fit(d: &[u8], index: &[u64], t: u8) -> bool
+fn all_fit(d: &[u8], index: &[u16], t: u8) -> bool
     requires { ⌜ Known t × (length (now index) ≡ 2350) ⌝ }
     ensures { λ r. ⌜ r ≡ allFit t (now (d .entry)) (now (index .entry)) ⌝ }
 {
@@ -202,7 +202,7 @@ fn all_fit(d: &[u8], index: &[u64], t: u8) -> bool
 }
 
 // Whether the record at the front of s is current and does not fit.
-fn not_fit(d: &[u8], index: &[u64], s: &[u8], fits: bool) -> bool
+fn not_fit(d: &[u8], index: &[u16], s: &[u8], fits: bool) -> bool
     requires { ⌜ (slotAt (mark (now s)) (now s) < length (now index)) × (size (mark (now s)) < 65536) ⌝ }
     ensures { λ r. ⌜ r ≡ notFit (now (d .entry)) (now (index .entry)) (now (s .entry)) fits ⌝ }
 {
@@ -215,7 +215,7 @@ fn not_fit(d: &[u8], index: &[u64], s: &[u8], fits: bool) -> bool
 }
 
 // The first record that is current and does not fit.
-fn first_unfit(d: &[u8], index: &[u64], t: u8) -> Answer
+fn first_unfit(d: &[u8], index: &[u16], t: u8) -> Answer
     requires { ⌜ Indexed (now d) (now index) × Known t ⌝ }
     ensures { λ r. ⌜ r ≡ unfit t (records (now (d .entry))) ⌝ }
 {
@@ -235,7 +235,7 @@ fn first_unfit(d: &[u8], index: &[u64], t: u8) -> Answer
 }
 
 // 6. Most dossiers have no unfit record, which the index tells; a short one is gone through sooner than the index.
-fn unfit_of(d: &[u8], index: &[u64], t: u8) -> Answer
+fn unfit_of(d: &[u8], index: &[u16], t: u8) -> Answer
     requires { ⌜ Indexed (now d) (now index) × (readable (now d) ≡ Accepted) × Known t × (t ≡ technology (parameters (records (now d)))) ⌝ }
     ensures { λ r. ⌜ r ≡ unfit t (records (now (d .entry))) ⌝ }
 {
@@ -248,7 +248,7 @@ fn unfit_of(d: &[u8], index: &[u64], t: u8) -> Answer
 // ---- 7
 
 // How many points there are.
-fn points_of(d: &[u8], index: &[u64]) -> usize
+fn points_of(d: &[u8], index: &[u16]) -> usize
     requires { ⌜ Indexed (now d) (now index) ⌝ }
     ensures { λ r. ⌜ (r ≤ 21) × (r ≡ points (parameters (records (now (d .entry))))) ⌝ }
 {
@@ -280,7 +280,7 @@ fn product(h: u32, w: u16) -> u64
 }
 
 // The curve of n points, from each point to the next.
-fn curve_holds(d: &[u8], index: &[u64], n: usize) -> bool
+fn curve_holds(d: &[u8], index: &[u16], n: usize) -> bool
     requires { ⌜ Indexed (now d) (now index) × (2 ≤ n) × (n ≤ 21) ⌝ }
     ensures { λ r. ⌜ r ≡ curveHolds (parameters (records (now (d .entry)))) n ⌝ }
 {
@@ -308,7 +308,7 @@ fn curve_holds(d: &[u8], index: &[u64], n: usize) -> bool
 }
 
 // What 7 asks.
-fn curve_fits(d: &[u8], index: &[u64]) -> bool
+fn curve_fits(d: &[u8], index: &[u16]) -> bool
     requires { ⌜ Indexed (now d) (now index) ⌝ }
     ensures { λ r. ⌜ r ≡ curveFits (parameters (records (now (d .entry)))) ⌝ }
 {
@@ -325,7 +325,7 @@ fn curve_fits(d: &[u8], index: &[u64]) -> bool
 // ---- 8
 
 // Whether a request is absent or withdrawn, or its profile has an FU.
-fn request_fuelled(d: &[u8], index: &[u64], n: usize) -> bool
+fn request_fuelled(d: &[u8], index: &[u16], n: usize) -> bool
     requires { ⌜ Indexed (now d) (now index) × (1 ≤ n) × (n ≤ 16) ⌝ }
     ensures { λ r. ⌜ r ≡ fuelled (parameters (records (now (d .entry)))) n ⌝ }
 {
@@ -337,7 +337,7 @@ fn request_fuelled(d: &[u8], index: &[u64], n: usize) -> bool
 }
 
 // What 8 asks.
-fn fuel_holds(d: &[u8], index: &[u64]) -> bool
+fn fuel_holds(d: &[u8], index: &[u16]) -> bool
     requires { ⌜ Indexed (now d) (now index) ⌝ }
     ensures { λ r. ⌜ r ≡ fuelHolds (parameters (records (now (d .entry)))) ⌝ }
 {
@@ -354,7 +354,7 @@ fn fuel_holds(d: &[u8], index: &[u64]) -> bool
 // ---- 9
 
 // Whether hours 1 to n of the window are there.
-fn hours_there(d: &[u8], index: &[u64], n: usize) -> bool
+fn hours_there(d: &[u8], index: &[u16], n: usize) -> bool
     requires { ⌜ Indexed (now d) (now index) × (n ≤ 168) ⌝ }
     ensures { λ r. ⌜ r ≡ allTo n (parameters (records (now (d .entry))) .has HR) ⌝ }
 {
@@ -368,7 +368,7 @@ fn hours_there(d: &[u8], index: &[u64], n: usize) -> bool
 }
 
 // What 9 asks.
-fn window_fits(d: &[u8], index: &[u64]) -> bool
+fn window_fits(d: &[u8], index: &[u16]) -> bool
     requires { ⌜ Indexed (now d) (now index) × (parameters (records (now d)) .has RS 0 ≡ true) ⌝ }
     ensures { λ r. ⌜ r ≡ windowFits (parameters (records (now (d .entry)))) ⌝ }
 {
@@ -384,7 +384,7 @@ fn window_fits(d: &[u8], index: &[u64]) -> bool
 // ---- the whole
 
 // 7, 8 and 9.
-fn unsupported_of(d: &[u8], index: &[u64]) -> Answer
+fn unsupported_of(d: &[u8], index: &[u16]) -> Answer
     requires { ⌜ Indexed (now d) (now index) × (parameters (records (now d)) .has RS 0 ≡ true) ⌝ }
     ensures { λ r. ⌜ r ≡ unsupported (parameters (records (now (d .entry)))) (length (now (d .entry))) ⌝ }
 {
@@ -402,7 +402,7 @@ fn unsupported_of(d: &[u8], index: &[u64]) -> Answer
 }
 
 // 5 to 9, of a dossier that draws none before them.
-fn beyond_reading(d: &[u8], index: &[u64]) -> Answer
+fn beyond_reading(d: &[u8], index: &[u16]) -> Answer
     requires { ⌜ Indexed (now d) (now index) × (readable (now d) ≡ Accepted) ⌝ }
     ensures { λ r. ⌜ r ≡ answer (now (d .entry)) ⌝ }
 {
@@ -420,7 +420,7 @@ fn beyond_reading(d: &[u8], index: &[u64]) -> Answer
 }
 
 // The answer to a dossier, and its index where it is accepted.
-pub fn judge(d: &[u8], index: &mut [u64]) -> Answer
+pub fn judge(d: &[u8], index: &mut [u16]) -> Answer
     requires { ⌜ now index ≡ replicate 2350 0 ⌝ }
     ensures { λ r. ⌜ (r ≡ answer (now (d .entry))) × (r ≡ Accepted → Indexed (now (d .entry)) (now (index .exit))) ⌝ }
 {
@@ -434,6 +434,6 @@ pub fn judge(d: &[u8], index: &mut [u64]) -> Answer
 pub fn accept(d: &[u8]) -> Answer
     ensures { λ r. ⌜ r ≡ answer (now (d .entry)) ⌝ }
 {
-    let mut index = [0u64; 2350];
+    let mut index = [0u16; 2350];
     judge(d, &mut index)
 }

@@ -143,7 +143,7 @@ fn malformed(offer: &[u8]) -> Answer
 }
 
 // 11 at the first pair whose quantity is above the capacity.
-fn above_capacity(d: &[u8], index: &[u64], offer: &[u8]) -> Answer
+fn above_capacity(d: &[u8], index: &[u16], offer: &[u8]) -> Answer
     requires { ⌜ Indexed (now d) (now index) × (length (now offer) ≤ 120) ⌝ }
     ensures { λ r. ⌜ r ≡ aboveCapacity (parameters (records (now (d .entry)))) (now (offer .entry)) 0 (length (now (offer .entry)) / 6) ⌝ }
 {
@@ -187,7 +187,7 @@ fn level_held(technology: u8, level: u8) -> bool
 }
 
 // 12, put to the single-price test.
-fn level_refusal(d: &[u8], index: &[u64], level: u8) -> Answer
+fn level_refusal(d: &[u8], index: &[u16], level: u8) -> Answer
     requires { ⌜ Indexed (now d) (now index) ⌝ }
     ensures { λ r. ⌜ r ≡ levelRefusal (parameters (records (now (d .entry)))) level ⌝ }
 {
@@ -203,7 +203,7 @@ fn level_refusal(d: &[u8], index: &[u64], level: u8) -> Answer
 }
 
 // 14, of a level from 1 to 4.
-fn condition_refusal(d: &[u8], index: &[u64], level: usize, condition: usize) -> Answer
+fn condition_refusal(d: &[u8], index: &[u16], level: usize, condition: usize) -> Answer
     requires { ⌜ Indexed (now d) (now index) × (1 ≤ level) × (level ≤ 4) ⌝ }
     ensures { λ r. ⌜ r ≡ conditionRefusal (parameters (records (now (d .entry)))) level condition ⌝ }
 {
@@ -220,7 +220,7 @@ fn condition_refusal(d: &[u8], index: &[u64], level: usize, condition: usize) ->
 }
 
 // The refusals of an energy offer, in their order.
-fn offer_refusal(d: &[u8], index: &[u64], condition: usize, offer: &[u8]) -> Answer
+fn offer_refusal(d: &[u8], index: &[u16], condition: usize, offer: &[u8]) -> Answer
     requires { ⌜ Indexed (now d) (now index) ⌝ }
     ensures { λ r. ⌜ r ≡ offerRefusal (parameters (records (now (d .entry)))) condition (now (offer .entry)) ⌝ }
 {
@@ -237,7 +237,7 @@ fn offer_refusal(d: &[u8], index: &[u64], condition: usize, offer: &[u8]) -> Ans
 }
 
 // The refusals of a single price, in their order.
-fn price_refusal(d: &[u8], index: &[u64], level: u8, condition: usize) -> Answer
+fn price_refusal(d: &[u8], index: &[u16], level: u8, condition: usize) -> Answer
     requires { ⌜ Indexed (now d) (now index) ⌝ }
     ensures { λ r. ⌜ r ≡ priceRefusal (parameters (records (now (d .entry)))) level condition ⌝ }
 {
@@ -248,7 +248,7 @@ fn price_refusal(d: &[u8], index: &[u64], level: u8, condition: usize) -> Answer
 }
 
 // What the TH of a condition and level says.
-fn threshold_of(d: &[u8], index: &[u64], condition: usize, level: usize) -> Threshold
+fn threshold_of(d: &[u8], index: &[u16], condition: usize, level: usize) -> Threshold
     requires { ⌜ Indexed (now d) (now index) × (1 ≤ condition) × (condition ≤ 3) × (1 ≤ level) × (level ≤ 4) ⌝ }
     ensures { λ r. ⌜ r ≡ thresholdOf (parameters (records (now (d .entry)))) condition level ⌝ }
 {
@@ -379,7 +379,7 @@ fn single_test(lv: HourLevels, t: Threshold, level: u8, price: u64) -> Verdict
 }
 
 // The verdict on an energy offer, of an accepted dossier. The levels are worked out once no refusal is drawn.
-fn offer_verdict(d: &[u8], index: &[u64], hour: u32, condition: u8, offer: &[u8]) -> Verdict
+fn offer_verdict(d: &[u8], index: &[u16], hour: u32, condition: u8, offer: &[u8]) -> Verdict
     requires { ⌜ Indexed (now d) (now index) × IsAccepted (now d) ⌝ }
     ensures { λ r. ⌜ r ≡ offerVerdict (parameters (records (now (d .entry)))) condition (levels (now (d .entry)) hour) (now (offer .entry)) ⌝ }
 {
@@ -397,7 +397,7 @@ fn offer_verdict(d: &[u8], index: &[u64], hour: u32, condition: u8, offer: &[u8]
 // The verdict on a single price, held plus 2^31, of an accepted dossier.
 fn price_verdict(
     d: &[u8],
-    index: &[u64],
+    index: &[u16],
     hour: u32,
     level: u8,
     condition: u8,
@@ -421,7 +421,7 @@ fn price_verdict(
 pub fn energy_test(d: &[u8], hour: u32, condition: u8, offer: &[u8]) -> Verdict
     ensures { λ r. ⌜ r ≡ onOffer (now (d .entry)) hour condition (now (offer .entry)) ⌝ }
 {
-    let mut index = [0u64; 2350];
+    let mut index = [0u16; 2350];
     match acceptance::judge(d, &mut index) {
         Answer::Refused { number, place } => Verdict::Refused { number, place },
         Answer::Accepted => offer_verdict(d, &index, hour, condition, offer),
@@ -432,7 +432,7 @@ pub fn energy_test(d: &[u8], hour: u32, condition: u8, offer: &[u8]) -> Verdict
 pub fn price_test(d: &[u8], hour: u32, level: u8, condition: u8, price: i32) -> Verdict
     ensures { λ r. ⌜ r ≡ onPrice (now (d .entry)) hour level condition price ⌝ }
 {
-    let mut index = [0u64; 2350];
+    let mut index = [0u16; 2350];
     match acceptance::judge(d, &mut index) {
         Answer::Refused { number, place } => Verdict::Refused { number, place },
         Answer::Accepted => price_verdict(d, &index, hour, level, condition, biased(price)),

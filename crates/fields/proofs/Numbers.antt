@@ -7,7 +7,8 @@ use native.Mathlib.Nat.{pow-suc, add-zero, zero-add, add-suc, suc-add, add-assoc
 use native.Mathlib.Omega.{arith}
 use lib.Dec.{ltb}
 use lib.IntN.{pos, negsuc, _+ℤ_}
-use lib.ListN.{getD}
+use lib.ListN.{getD, drop}
+use lib.Seq.{getD-drop}
 use borrow.Author.Tests.{ltb-true, ltb-false, le-ltb}
 use Rattle.lists.specs.Lists.{Each, done, also}
 use Rattle.fields.specs.Numbers.{number, bytesOnto, bytesOf, bias, biased, biasedOf, signed}
@@ -18,6 +19,12 @@ unfolding number
 number-same o zero r s h = refl
 number-same o (suc w) r s h =
     rw (number-same o w r s (λ i a b. h i a (omega arith)), h (o + w) (omega arith) (omega arith)) refl
+
+-- what is behind the first n bytes, read in place
+pub number-drop : (n o w : ℕ) (r : List ℕ) → number o w (drop n r) ≡ number (n + o) w r
+unfolding number
+number-drop n o zero r = refl
+number-drop n o (suc w) r = rw (number-drop n o w r, getD-drop n r (o + w) 0, add-assoc n o w) refl
 
 pub number-nil : (o w : ℕ) → number o w [] ≡ 0
 unfolding number

@@ -15,7 +15,7 @@ use Rattle.records.specs.Walk.{found}
 use Rattle.records.proofs.Record.{mark-take, size-ge, key-ends, faultless}
 use Rattle.records.proofs.Walk.{found-record, found-within, Rest, next}
 use Rattle.records.proofs.Read.{number-take}
-use Rattle.index.specs.Slots.{slotAt, slot, larger, kept, keepStep}
+use Rattle.index.specs.Slots.{slotAt, slot, heldIssue, newer, kept, keepStep}
 use Rattle.index.proofs.Slots.{mark-lt, size-11, in-key, slot-lt}
 
 pub tail : (d : List ℕ) (at : ℕ) → take (length d - at) (drop at d) ≡ drop at d
@@ -55,19 +55,19 @@ module _ (s : List ℕ) (k n : ℕ) (e : found s ≡ Record k n) where
   pub slot-below : slotAt k s < 2350
   slot-below = rw (← its-slot) (slot-lt (mark (take n s)) (keyOf (take n s)) (in-key (take n s) its-fault))
 
-  step-is : (ix : List ℕ) (b : Bool) (p : ℕ) → keepStep (kept ix b) p (take n s) ≡ kept (set ix (slotAt k s) (larger (getD ix (slotAt k s) 0) ((number 2 4 s + 1) * 65536 + p))) (b && ltb (getD ix (slotAt k s) 0) ((number 2 4 s + 1) * 65536))
+  step-is : (d ix : List ℕ) (b : Bool) (p : ℕ) → keepStep d (kept ix b) p (take n s) ≡ kept (set ix (slotAt k s) (newer (heldIssue d (getD ix (slotAt k s) 0)) (number 2 4 s + 1) (getD ix (slotAt k s) 0) (p + 1))) (b && ltb (heldIssue d (getD ix (slotAt k s) 0)) (number 2 4 s + 1))
   unfolding keepStep
-  step-is ix b p = rw (its-slot, its-issue) refl
+  step-is d ix b p = rw (its-slot, its-issue) refl
 
-pub turn : (d ix₀ ix : List ℕ) (at k n : ℕ) (b : Bool) {j w g : ℕ} → at < length d → Rest keepStep (kept ix₀ true) d at (kept ix b) → found (drop at d) ≡ Record k n
-    → j ≡ slotAt k (take (length d - at) (drop at d)) → w ≡ number 2 4 (take (length d - at) (drop at d)) → g ≡ larger (getD ix j 0) ((w + 1) * 65536 + at)
-    → Rest keepStep (kept ix₀ true) d (at + n) (kept (set ix j g) (b && ltb (getD ix j 0) ((w + 1) * 65536)))
-turn d ix₀ ix at k n b h r e ej ew eg =
+pub turn : (d ix₀ ix : List ℕ) (at k n : ℕ) (b : Bool) {j w a g : ℕ} → at < length d → Rest (keepStep d) (kept ix₀ true) d at (kept ix b) → found (drop at d) ≡ Record k n
+    → j ≡ slotAt k (take (length d - at) (drop at d)) → w ≡ number 2 4 (take (length d - at) (drop at d)) → a ≡ heldIssue d (getD ix j 0) → g ≡ newer a (w + 1) (getD ix j 0) (at + 1)
+    → Rest (keepStep d) (kept ix₀ true) d (at + n) (kept (set ix j g) (b && ltb a (w + 1)))
+turn d ix₀ ix at k n b h r e ej ew ea eg =
     let ej′ = ej ∙ ap (slotAt k) (tail d at) in
     let ew′ = ew ∙ ap (number 2 4) (tail d at) in
-    rw (eg, ej′, ew′)
-    (subst (Rest keepStep (kept ix₀ true) d (at + n)) (step-is (drop at d) k n e ix b at)
-    (next keepStep (kept ix₀ true) d at (kept ix b) k n h r e))
+    rw (eg, ea, ej′, ew′)
+    (subst (Rest (keepStep d) (kept ix₀ true) d (at + n)) (step-is (drop at d) k n e d ix b at)
+    (next (keepStep d) (kept ix₀ true) d at (kept ix b) k n h r e))
 
 pub below : (d : List ℕ) (at k n : ℕ) {j : ℕ} → found (drop at d) ≡ Record k n → j ≡ slotAt k (take (length d - at) (drop at d)) → j < 2350
 below d at k n e ej = rw (ej, tail d at) (slot-below (drop at d) k n e)

@@ -13,6 +13,7 @@ use Rattle.index.specs.declared.Reading.{Reading}
 use Rattle.index.specs.declared.Reading.the-variants.{Whole, Fault}
 use Rattle.index.specs.Slots.{slotAt}
 
+-- a length and a slot
 abbrev pub entry : ℕ → ℕ → Entry
 entry n j = record { len = n; slot = j }
 

@@ -1,9 +1,9 @@
 -- The index: a slot for each mark and key, which holds the current record so far.
-use mathlib.Core.Bool.{Bool, cond, _&&_}
+use mathlib.Core.Bool.{Bool, cond, _&&_, _||_}
 use mathlib.Core.List.{List}
 use Prim.Native.Nat.{ℕ, zero, suc, _+_, _*_, _/_, _%_}
-use lib.Dec.{ltb}
-use lib.ListN.{getD, set}
+use lib.Dec.{leb, ltb, eqb}
+use lib.ListN.{length, getD, set}
 use Rattle.fields.specs.Numbers.{number}
 use Rattle.records.specs.Record.{head, mark, issue, keyWidth, keyOf}
 use Rattle.records.specs.Walk.{Step, Walked, ended, stopped}
@@ -29,32 +29,38 @@ slot (suc (suc (suc (suc (suc (suc (suc (suc (suc k))))))))) n = 2333 + n / 256 
 unfoldable pub slotAt : ℕ → List ℕ → ℕ
 slotAt k s = slot k (number head (keyWidth k) s)
 
--- ---- what a slot holds: issue + 1 and the place of the current record so far, 0 for none
+-- ---- what a slot holds: the place of the current record so far, plus 1; 0 for none
 
-abbrev pub stamp : List ℕ → ℕ
-stamp r = (issue r + 1) * 65536
+-- the issue of the record that a slot of value v holds in dossier d, plus 1; 0 where it holds none that the dossier could have
+unfoldable pub heldIssue : List ℕ → ℕ → ℕ
+heldIssue d v = cond (eqb v 0 || ltb (length d) (v + 5)) 0 (number (v + 1) 4 d + 1)
 
-abbrev pub larger : ℕ → ℕ → ℕ
-larger a b = cond (ltb a b) b a
+-- of a slot's value v and the next w, the next if its issue b is not below the issue a that is held
+abbrev pub newer : ℕ → ℕ → ℕ → ℕ → ℕ
+newer a b v w = cond (leb a b) w v
 
 -- the index, and whether every issue so far was above all earlier ones of its mark and key
 pub record Kept : Type 0 where
   pub slots : List ℕ
   pub rising : Bool
 
+-- both at once
 abbrev pub kept : List ℕ → Bool → Kept
 kept l b = record { slots = l; rising = b }
 
-unfoldable pub keepStep : Step Kept
-keepStep x p r =
+-- a record r at place p of dossier d goes into the slot of its mark and key, unless a higher issue is there
+unfoldable pub keepStep : List ℕ → Step Kept
+keepStep d x p r =
     let j = slot (mark r) (keyOf r) in
-    kept (set (x .slots) j (larger (getD (x .slots) j 0) (stamp r + p))) (x .rising && ltb (getD (x .slots) j 0) (stamp r))
+    let v = getD (x .slots) j 0 in
+    kept (set (x .slots) j (newer (heldIssue d v) (issue r + 1) v (p + 1))) (x .rising && ltb (heldIssue d v) (issue r + 1))
 
--- what the pass answers, and what it leaves
+-- what the pass answers
 unfoldable pub passOf : Walked Kept → Passed
 passOf (ended x) = Ended (x .rising)
 passOf (stopped n p) = Stopped n p
 
+-- and the index that it leaves, l where it stopped
 unfoldable pub slotsOf : List ℕ → Walked Kept → List ℕ
 slotsOf l (ended x) = x .slots
 slotsOf l (stopped n p) = l

@@ -5,7 +5,7 @@ ghost use Prim.Native.Nat.{_+_, _*_, _<_, _≤_};
 ghost use lib.ListN.{length};
 ghost use Rattle.records.specs.Record.{mark};
 ghost use Rattle.records.specs.Walk.{walk};
-ghost use Rattle.index.specs.Slots.{slot, larger, kept, keepStep, passOf, slotsOf};
+ghost use Rattle.index.specs.Slots.{slot, heldIssue, newer, kept, keepStep, passOf, slotsOf};
 ghost use Rattle.index.specs.Entries.{entryAs, readingAs, readingOf};
 use records::MARKS;
 
@@ -369,16 +369,29 @@ pub fn entry_at(rest: &[u8]) -> Entry
     }
 }
 
-pub fn greater(a: u64, b: u64) -> u64
-    ensures { λ r. ⌜ r ≡ larger a b ⌝ }
+// The issue of the record that a slot of value v holds, plus 1; 0 if it holds none.
+fn issue_held(d: &[u8], v: u16) -> u64
+    requires { ⌜ length (now d) ≤ 60000 ⌝ }
+    ensures { λ r. ⌜ r ≡ heldIssue (now (d .entry)) v ⌝ }
 {
-    if a < b { b } else { a }
+    let q = v as usize;
+    if (q == 0) | (d.len() < q + 5) {
+        return 0;
+    }
+    (fields::u32_at(d, q + 1) as u64) + 1
 }
 
-// A slot holds (issue + 1) * 65536 + place, 0 for none. Places rise, so that the greater value is the later record if its issue is not lower.
-pub fn pass(d: &[u8], index: &mut [u64]) -> Passed
+// Of a slot's value and the next one, the next if its issue is not below the one that is held.
+fn newer_of(held: u64, issue: u64, v: u16, next: u16) -> u16
+    ensures { λ r. ⌜ r ≡ newer held issue v next ⌝ }
+{
+    if held <= issue { next } else { v }
+}
+
+// A slot holds the place of its record plus 1, 0 for none: two bytes, so that an empty index is soon made. The issue is read where the record lies.
+pub fn pass(d: &[u8], index: &mut [u16]) -> Passed
     requires { ⌜ (length (now d) ≤ 60000) × (length (now index) ≡ 2350) ⌝ }
-    ensures { λ r. ⌜ (r ≡ passOf (walk keepStep (kept (now (index .entry)) true) (now (d .entry)))) × (now (index .exit) ≡ slotsOf (now (index .exit)) (walk keepStep (kept (now (index .entry)) true) (now (d .entry)))) ⌝ }
+    ensures { λ r. ⌜ (r ≡ passOf (walk (keepStep (now (d .entry))) (kept (now (index .entry)) true) (now (d .entry)))) × (now (index .exit) ≡ slotsOf (now (index .exit)) (walk (keepStep (now (d .entry))) (kept (now (index .entry)) true) (now (d .entry)))) ⌝ }
 {
     let mut at = 0;
     let mut rising = true;
@@ -387,10 +400,11 @@ pub fn pass(d: &[u8], index: &mut [u64]) -> Passed
         match read(rest) {
             Reading::Whole(entry) => {
                 let j = entry.slot;
-                let stamp = ((fields::u32_at(rest, 2) as u64) + 1) * 65536;
-                let old = index[j];
-                rising = rising & (old < stamp);
-                index[j] = greater(old, stamp + (at as u64));
+                let issue = (fields::u32_at(rest, 2) as u64) + 1;
+                let v = index[j];
+                let held = issue_held(d, v);
+                rising = rising & (held < issue);
+                index[j] = newer_of(held, issue, v, (at as u16) + 1);
                 at += entry.len;
             }
             Reading::Fault(number) => {

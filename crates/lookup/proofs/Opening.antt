@@ -6,7 +6,8 @@ use Prim.Native.Nat.{ℕ, _≤_, _<_}
 use native.Mathlib.Omega.{arith}
 use lib.Dec.{ltb}
 use lib.ListN.{length, replicate, length-replicate}
-use borrow.Author.Tests.{lt-ltb, le-ltb, ltb-false}
+use borrow.Author.Tests.{lt-ltb, le-ltb, ltb-true, ltb-false}
+use Rattle.lists.proofs.Tests.{split}
 use Rattle.records.specs.declared.Answer.{Answer}
 use Rattle.records.specs.declared.Answer.the-variants.{Accepted, Refused}
 use Rattle.records.specs.Answers.{orElse, refuseIf}
@@ -15,12 +16,13 @@ use Rattle.records.specs.Walk.{folded, walk}
 use Rattle.records.proofs.Answers.{orElse-parts, not-refuseIf}
 use Rattle.records.proofs.Walk.{walk-is-fold, outcome}
 use Rattle.station.specs.Current.{readable, twins}
+use Rattle.index.specs.declared.Passed.{Passed}
 use Rattle.index.specs.declared.Passed.the-variants.{Ended, Stopped}
 use Rattle.index.specs.Slots.{Kept, kept, keepStep, passOf, slotsOf}
 use Rattle.index.proofs.Holds.{rising-twins}
-use Rattle.lookup.specs.Parts.{indexOf, Indexed}
+use Rattle.lookup.specs.Parts.{scanned, indexOf, Indexed}
 
-pub too-long : (d : List ℕ) → 60000 < length d → Refused 13 0 ≡ readable d
+too-long : (d : List ℕ) → 60000 < length d → Refused 13 0 ≡ readable d
 unfolding readable refuseIf orElse
 too-long d h = rw (lt-ltb 60000 (length d) h) refl
 
@@ -28,19 +30,48 @@ after : (d : List ℕ) → length d ≤ 60000 → readable d ≡ orElse (scan 0 
 unfolding readable refuseIf orElse
 after d h = rw (le-ltb 60000 (length d) h) refl
 
-pub clean-answer : (d : List ℕ) → length d ≤ 60000 → scan 0 (records d) ≡ Accepted → readable d ≡ twins 0 [] (records d)
+clean-answer : (d : List ℕ) → length d ≤ 60000 → scan 0 (records d) ≡ Accepted → readable d ≡ twins 0 [] (records d)
 unfolding orElse
 clean-answer d h e = after d h ∙ rw e refl
 
-module _ (d ix : List ℕ) where
+-- ---- what the scan says
+
+abbrev none : List ℕ
+none = replicate 2350 0
+
+pub not-ended : {n p : ℕ} {b : Bool} → Stopped n p ≡ Ended b → ⊥
+not-ended e = let z : _≡_ {A = ℕ} 0 1 = ap (λ x. elim x [ Ended c ↦ 1 | Stopped i j ↦ 0 ]) e in omega arith
+
+module _ (d : List ℕ) where
+  pub scan-long : 60000 < length d → Stopped 13 0 ≡ scanned d
+  unfolding scanned
+  scan-long h = rw (lt-ltb 60000 (length d) h) refl
+
+  scan-pass : length d ≤ 60000 → scanned d ≡ passOf (walk (keepStep d) (kept none true) d)
+  unfolding scanned
+  scan-pass h = rw (le-ltb 60000 (length d) h) refl
+
+  pub scan-short : {ix : List ℕ} {r : Passed} → ix ≡ none → length d ≤ 60000 → r ≡ passOf (walk (keepStep d) (kept ix true) d) → r ≡ scanned d
+  scan-short z h e = e ∙ rw z (sym (scan-pass h))
+
   fold : Kept
-  fold = folded keepStep 0 (kept ix true) (records d)
+  fold = folded (keepStep d) 0 (kept none true) (records d)
 
-  way : (a : Answer) → scan 0 (records d) ≡ a → walk keepStep (kept ix true) d ≡ outcome a fold
+  way : (a : Answer) → scan 0 (records d) ≡ a → walk (keepStep d) (kept none true) d ≡ outcome a fold
   unfolding fold
-  way a e = walk-is-fold keepStep (kept ix true) d ∙ ap (λ (x : Answer). outcome x (folded keepStep 0 (kept ix true) (records d))) e
+  way a e = walk-is-fold (keepStep d) (kept none true) d ∙ ap (λ (x : Answer). outcome x (folded (keepStep d) 0 (kept none true) (records d))) e
 
-  pub pass-stopped : (n p : ℕ) → length d ≤ 60000 → Stopped n p ≡ passOf (walk keepStep (kept ix true) d) → Refused n p ≡ readable d
+  -- the pass ended: nothing was drawn
+  pass-ended : {b : Bool} → Ended b ≡ passOf (walk (keepStep d) (kept none true) d) → (scan 0 (records d) ≡ Accepted) × (b ≡ fold .rising)
+  unfolding passOf outcome
+  pass-ended {b} e = go (scan 0 (records d)) refl
+    where
+      go : (a : Answer) → scan 0 (records d) ≡ a → (scan 0 (records d) ≡ Accepted) × (b ≡ fold .rising)
+      go Accepted s = (s, ap (λ x. elim x [ Ended c ↦ c | Stopped i j ↦ b ]) (e ∙ ap passOf (way Accepted s)))
+      go (Refused m q) s = absurd (let z : _≡_ {A = ℕ} 1 0 = ap (λ x. elim x [ Ended c ↦ 1 | Stopped i j ↦ 0 ]) (e ∙ ap passOf (way (Refused m q) s)) in omega arith)
+
+  -- the pass stopped: at what is drawn first
+  pass-stopped : (n p : ℕ) → length d ≤ 60000 → Stopped n p ≡ passOf (walk (keepStep d) (kept none true) d) → Refused n p ≡ readable d
   unfolding passOf outcome orElse
   pass-stopped n p h e = go (scan 0 (records d)) refl
     where
@@ -50,25 +81,31 @@ module _ (d ix : List ℕ) where
           let z : Stopped n p ≡ Stopped m q = e ∙ ap passOf (way (Refused m q) s) in
           ap₂ (λ (x y : ℕ). Refused x y) (ap (λ x. elim x [ Ended b ↦ n | Stopped i j ↦ i ]) z) (ap (λ x. elim x [ Ended b ↦ p | Stopped i j ↦ j ]) z) ∙ sym (after d h ∙ rw s refl)
 
-  pub pass-ended : (b : Bool) → Ended b ≡ passOf (walk keepStep (kept ix true) d) → (scan 0 (records d) ≡ Accepted) × (b ≡ folded keepStep 0 (kept ix true) (records d) .rising)
-  unfolding passOf outcome fold
-  pass-ended b e = go (scan 0 (records d)) refl
-    where
-      go : (a : Answer) → scan 0 (records d) ≡ a → (scan 0 (records d) ≡ Accepted) × (b ≡ folded keepStep 0 (kept ix true) (records d) .rising)
-      go Accepted s = (s, ap (λ x. elim x [ Ended c ↦ c | Stopped i j ↦ b ]) (e ∙ ap passOf (way Accepted s)))
-      go (Refused m q) s = absurd (let z : _≡_ {A = ℕ} 1 0 = ap (λ x. elim x [ Ended c ↦ 1 | Stopped i j ↦ 0 ]) (e ∙ ap passOf (way (Refused m q) s)) in omega arith)
+  -- the index that the pass leaves
+  pub pass-indexed : {ix x : List ℕ} {b : Bool} → ix ≡ none → length d ≤ 60000 → Ended b ≡ passOf (walk (keepStep d) (kept ix true) d) → x ≡ slotsOf x (walk (keepStep d) (kept ix true) d) → Indexed d x
+  unfolding slotsOf outcome indexOf fold
+  pass-indexed {x = x} z h e i =
+      let s = pass-ended (rw z at e) .0 in
+      record { short = h; clean = s; here = (rw z at i) ∙ ap (slotsOf x) (way Accepted s) }
 
-  pub pass-index : (x : List ℕ) → scan 0 (records d) ≡ Accepted → x ≡ slotsOf x (walk keepStep (kept ix true) d) → x ≡ folded keepStep 0 (kept ix true) (records d) .slots
-  unfolding slotsOf outcome fold
-  pass-index x s e = e ∙ ap (slotsOf x) (way Accepted s)
+  -- ---- from the scan to the answer
 
-pub indexed : (d ix x : List ℕ) → ix ≡ replicate 2350 0 → length d ≤ 60000 → scan 0 (records d) ≡ Accepted → x ≡ slotsOf x (walk keepStep (kept ix true) d) → Indexed d x
-unfolding indexOf
-indexed d ix x z h s e =
-    record { short = h; clean = s; here = pass-index d ix x s e ∙ ap (λ (l : List ℕ). folded keepStep 0 (kept l true) (records d) .slots) z }
+  pub scan-stopped : {n p : ℕ} → Stopped n p ≡ scanned d → Refused n p ≡ readable d
+  unfolding scanned
+  scan-stopped {n} {p} e =
+      split (ltb 60000 (length d))
+      (λ t.
+      let z : Stopped n p ≡ Stopped 13 0 = e ∙ rw t refl in
+      ap₂ (λ (x y : ℕ). Refused x y) (ap (λ x. elim x [ Ended b ↦ n | Stopped i j ↦ i ]) z) (ap (λ x. elim x [ Ended b ↦ p | Stopped i j ↦ j ]) z) ∙ too-long d (ltb-true 60000 (length d) t))
+      (λ f. pass-stopped n p (ltb-false 60000 (length d) f) (e ∙ rw f refl))
 
-pub rising-accepted : (d ix : List ℕ) → ix ≡ replicate 2350 0 → length d ≤ 60000 → scan 0 (records d) ≡ Accepted → true ≡ folded keepStep 0 (kept ix true) (records d) .rising → Accepted ≡ readable d
-rising-accepted d ix z h s e = sym (clean-answer d h s ∙ rising-twins d ix s (ap length z ∙ length-replicate {A = ℕ} 2350 0) (sym e))
+  pub scan-rising : Ended true ≡ scanned d → {x : List ℕ} → Indexed d x → Accepted ≡ readable d
+  unfolding fold
+  scan-rising e h =
+      sym (clean-answer d (h .short) (h .clean) ∙ rising-twins d none (h .clean) (length-replicate {A = ℕ} 2350 0) (sym (pass-ended (e ∙ scan-pass (h .short)) .1)))
+
+  pub scan-twins : {x : List ℕ} → Indexed d x → readable d ≡ twins 0 [] (records d)
+  scan-twins h = clean-answer d (h .short) (h .clean)
 
 -- a dossier that draws none of 13 and 1 to 4 has its index
 pub accepted-indexed : (d : List ℕ) → Accepted ≡ readable d → Indexed d (indexOf d)

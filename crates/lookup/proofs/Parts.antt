@@ -31,11 +31,11 @@ cut d p = ap (λ (n : ℕ). take n (drop (p .start) d)) (add-sub-cancel-left (p 
 
 pub place-ends : (e : ℕ) (ix : List ℕ) (j n : ℕ) {p : Part} → p ≡ placeAt e ix j n → p .start + p .length ≤ e
 unfolding placeAt
-place-ends e ix j n q = rw q (go (eqb (getD ix j 0) 0 || ltb e (getD ix j 0 % 65536 + n)) refl)
+place-ends e ix j n q = rw q (go (eqb (getD ix j 0) 0 || ltb e (getD ix j 0 - 1 + n)) refl)
   where
-    go : (b : Bool) → eqb (getD ix j 0) 0 || ltb e (getD ix j 0 % 65536 + n) ≡ b → cond b (part 0 0) (part (getD ix j 0 % 65536) n) .start + cond b (part 0 0) (part (getD ix j 0 % 65536) n) .length ≤ e
+    go : (b : Bool) → eqb (getD ix j 0) 0 || ltb e (getD ix j 0 - 1 + n) ≡ b → cond b (part 0 0) (part (getD ix j 0 - 1) n) .start + cond b (part 0 0) (part (getD ix j 0 - 1) n) .length ≤ e
     go true x = omega arith
-    go false x = ltb-false e (getD ix j 0 % 65536 + n) (or-false-right (eqb (getD ix j 0) 0) (ltb e (getD ix j 0 % 65536 + n)) x)
+    go false x = ltb-false e (getD ix j 0 - 1 + n) (or-false-right (eqb (getD ix j 0) 0) (ltb e (getD ix j 0 - 1 + n)) x)
 
 -- ---- what a slot holds
 
@@ -44,7 +44,7 @@ module _ (len : ℕ) (d : List ℕ) (v : ℕ) (c : List ℕ) (q : ℕ) where
   unfolding placeAt
   held-place ix j i h (absent e z y) = rw (i, e, y, z) refl
   held-place ix j i h (there e w l g) =
-      let m : v % 65536 ≡ q = omega (arith, e, w, h) in
+      let m : v - 1 ≡ q = omega (arith, e) in
       rw (i, m, ne-eqb v 0 (λ z. omega (arith, e, z)), le-ltb (length d) (q + len) (omega (arith, w, l)), l) refl
 
   held-bytes : Holds len d (length d) v c q → bytesOf d (part q (length c)) ≡ c
@@ -64,7 +64,7 @@ all-zero j = split (ltb j 2350) (λ e. getD-replicate 2350 j 0 0 (ltb-true j 235
 
 pub index-length : (d ix : List ℕ) → Indexed d ix → length ix ≡ 2350
 unfolding indexOf
-index-length d ix h = ap length (h .here) ∙ folded-length 0 (kept none true) (records d) ∙ length-replicate {A = ℕ} 2350 0
+index-length d ix h = ap length (h .here) ∙ folded-length d 0 (kept none true) (records d) ∙ length-replicate {A = ℕ} 2350 0
 
 module _ (d ix : List ℕ) (h : Indexed d ix) where
   -- ---- a key: at its slot stands the current record
@@ -74,7 +74,7 @@ module _ (d ix : List ℕ) (h : Indexed d ix) where
     unfolding indexOf
     holds =
         rw (h .here)
-        (index-holds d none (h .clean) (omega (arith, h .short)) (length-replicate {A = ℕ} 2350 0) all-zero k n i)
+        (index-holds d none (h .clean) (length-replicate {A = ℕ} 2350 0) all-zero k n i)
 
     pub place-current : {j len : ℕ} → j ≡ slot k n → len ≡ size k → placeAt (length d) ix j len ≡ currentPart k n (records d)
     unfolding currentPart

@@ -2,17 +2,20 @@
 use mathlib.Core.Bool.{true, cond, _||_}
 use mathlib.Core.List.{List}
 use mathlib.Core.Path.{_≡_}
-use Prim.Native.Nat.{ℕ, _+_, _%_, _≤_}
+use Prim.Native.Nat.{ℕ, _+_, _-_, _≤_}
 use lib.Dec.{ltb, eqb}
 use lib.ListN.{length, getD, take, drop, replicate}
 use Rattle.records.specs.declared.Answer.the-variants.{Accepted}
 use Rattle.records.specs.Answers.{isAccepted}
 use Rattle.records.specs.Dossier.{records, scan}
-use Rattle.records.specs.Walk.{folded}
-use Rattle.station.specs.Current.{current, startOf, readable}
-use Rattle.index.specs.Slots.{kept, keepStep}
+use Rattle.records.specs.Walk.{folded, walk}
+use Rattle.station.specs.Current.{current, startOf, longest, readable}
+use Rattle.index.specs.declared.Passed.{Passed}
+use Rattle.index.specs.declared.Passed.the-variants.{Stopped}
+use Rattle.index.specs.Slots.{kept, keepStep, passOf}
 use Rattle.lookup.specs.declared.Part.{Part}
 
+-- a part by its start and its length
 abbrev pub part : ℕ → ℕ → Part
 part a n = record { start = a; length = n }
 
@@ -32,11 +35,19 @@ lookupPart d k n = cond (isAccepted (readable d)) (currentPart k n (records d)) 
 
 -- the index of a dossier
 unfoldable pub indexOf : List ℕ → List ℕ
-indexOf d = folded keepStep 0 (kept (replicate 2350 0) true) (records d) .slots
+indexOf d = folded (keepStep d) 0 (kept (replicate 2350 0) true) (records d) .slots
 
--- where the record of a slot stands in a dossier of e bytes, n being its length; nowhere if there is none
+-- "13; records in turn with 1, 2, 3": the refusal, or whether every issue was above all earlier ones of its mark and key
+unfoldable pub scanned : List ℕ → Passed
+scanned d = cond (ltb longest (length d)) (Stopped 13 0) (passOf (walk (keepStep d) (kept (replicate 2350 0) true) d))
+
+-- where the record of a slot of value v stands in a dossier of e bytes, n being its length; nowhere if there is none
+abbrev pub placeOf : ℕ → ℕ → ℕ → Part
+placeOf e v n = cond (eqb v 0 || ltb e (v - 1 + n)) (part 0 0) (part (v - 1) n)
+
+-- the same of slot j
 unfoldable pub placeAt : ℕ → List ℕ → ℕ → ℕ → Part
-placeAt e ix j n = cond (eqb (getD ix j 0) 0 || ltb e (getD ix j 0 % 65536 + n)) (part 0 0) (part (getD ix j 0 % 65536) n)
+placeAt e ix j n = placeOf e (getD ix j 0) n
 
 -- the part of the dossier where it stands
 unfoldable pub partAt : List ℕ → List ℕ → ℕ → ℕ → List ℕ

@@ -1,5 +1,6 @@
 // The current records of a dossier: it is read once, for 13 and 1 to 4, and its index then gives each current record as a part of its bytes.
 ghost use mathlib.Core.Path.{_≡_};
+ghost use mathlib.Core.Bool.{Bool};
 ghost use mathlib.Core.List.{[], _∷_};
 ghost use Prim.Native.Nat.{_+_, _*_, _/_, _%_, _<_, _≤_};
 ghost use lib.ListN.{length, replicate};
@@ -8,8 +9,9 @@ ghost use Rattle.records.specs.declared.Answer.the-variants.{Accepted};
 ghost use Rattle.records.specs.Record.{mark};
 ghost use Rattle.records.specs.Dossier.{records, scan};
 ghost use Rattle.station.specs.Current.{current, twins, readable, lookupBytes};
+ghost use Rattle.index.specs.declared.Passed.the-variants.{Ended};
 ghost use Rattle.index.specs.Slots.{slot};
-ghost use Rattle.lookup.specs.Parts.{placeAt, bytesOf, partAt, currentPart, lookupPart, Indexed};
+ghost use Rattle.lookup.specs.Parts.{scanned, placeOf, placeAt, bytesOf, partAt, currentPart, lookupPart, Indexed};
 use index::Passed;
 use records::Answer;
 use records::MARKS;
@@ -20,18 +22,27 @@ pub struct Part {
     pub length: usize,
 }
 
-// A dossier is read: 13, 1 to 4, and its index.
-pub fn open(d: &[u8], index: &mut [u64]) -> Answer
+// The first part of it: 13, 1 to 3, and the index.
+pub fn scan(d: &[u8], index: &mut [u16]) -> Passed
     requires { ⌜ now index ≡ replicate 2350 0 ⌝ }
-    ensures { λ r. ⌜ (r ≡ readable (now (d .entry))) × (r ≡ Accepted → Indexed (now (d .entry)) (now (index .exit))) ⌝ }
+    ensures { λ r. ⌜ (r ≡ scanned (now (d .entry))) × ((b : Bool) → r ≡ Ended b → Indexed (now (d .entry)) (now (index .exit))) ⌝ }
 {
     if 60000 < d.len() {
-        return Answer::Refused {
+        return Passed::Stopped {
             number: 13,
             place: 0,
         };
     }
-    match index::pass(d, index) {
+    index::pass(d, index)
+}
+
+// A dossier is read: 13, 1 to 4, and its index. `judge` does the same by itself: the search for twins, called from two functions, keeps
+// a frame of its own, and its tables cost nothing where every issue rose.
+pub fn open(d: &[u8], index: &mut [u16]) -> Answer
+    requires { ⌜ now index ≡ replicate 2350 0 ⌝ }
+    ensures { λ r. ⌜ (r ≡ readable (now (d .entry))) × (r ≡ Accepted → Indexed (now (d .entry)) (now (index .exit))) ⌝ }
+{
+    match scan(d, index) {
         Passed::Ended { rising } => {
             if rising {
                 Answer::Accepted
@@ -43,20 +54,31 @@ pub fn open(d: &[u8], index: &mut [u64]) -> Answer
     }
 }
 
-// Where the record of a slot stands in a dossier of `end` bytes, nowhere if there is none.
-pub fn place_at(end: usize, index: &[u64], j: usize, len: usize) -> Part
+// Where the record of a slot of value v stands in a dossier of `end` bytes, nowhere if there is none.
+fn place_in(end: usize, v: u16, len: usize) -> Part
+    requires { ⌜ len < 65536 ⌝ }
+    ensures { λ r. ⌜ r ≡ placeOf end v len ⌝ }
+{
+    let none = Part {
+        start: 0,
+        length: 0,
+    };
+    if v == 0 {
+        return none;
+    }
+    let start = (v as usize) - 1;
+    if end < start + len {
+        return none;
+    }
+    Part { start, length: len }
+}
+
+// The same of slot j.
+pub fn place_at(end: usize, index: &[u16], j: usize, len: usize) -> Part
     requires { ⌜ (j < length (now index)) × (len < 65536) ⌝ }
     ensures { λ r. ⌜ r ≡ placeAt end (now (index .entry)) j len ⌝ }
 {
-    let v = index[j];
-    let start = (v % 65536) as usize;
-    if (v == 0) | (end < start + len) {
-        return Part {
-            start: 0,
-            length: 0,
-        };
-    }
-    Part { start, length: len }
+    place_in(end, index[j], len)
 }
 
 // The bytes of a part.
@@ -70,7 +92,7 @@ pub fn bytes_of(d: &[u8], part: Part) -> &[u8]
 }
 
 // The part of the dossier where the record of a slot stands, empty if there is none.
-pub fn part_at<'a>(d: &'a [u8], index: &[u64], j: usize, len: usize) -> &'a [u8]
+pub fn part_at<'a>(d: &'a [u8], index: &[u16], j: usize, len: usize) -> &'a [u8]
     requires { ⌜ (j < length (now index)) × (len < 65536) ⌝ }
     ensures { λ r. ⌜ now r ≡ partAt (now (d .entry)) (now (index .entry)) j len ⌝ }
 {
@@ -78,7 +100,7 @@ pub fn part_at<'a>(d: &'a [u8], index: &[u64], j: usize, len: usize) -> &'a [u8]
 }
 
 // The current RS.
-pub fn rs<'a>(d: &'a [u8], index: &[u64]) -> &'a [u8]
+pub fn rs<'a>(d: &'a [u8], index: &[u16]) -> &'a [u8]
     requires { ⌜ Indexed (now d) (now index) ⌝ }
     ensures { λ r. ⌜ now r ≡ current 1 0 (records (now (d .entry))) ⌝ }
 {
@@ -86,7 +108,7 @@ pub fn rs<'a>(d: &'a [u8], index: &[u64]) -> &'a [u8]
 }
 
 // The current HP of a point.
-pub fn hp<'a>(d: &'a [u8], index: &[u64], n: usize) -> &'a [u8]
+pub fn hp<'a>(d: &'a [u8], index: &[u16], n: usize) -> &'a [u8]
     requires { ⌜ Indexed (now d) (now index) × (1 ≤ n) × (n ≤ 21) ⌝ }
     ensures { λ r. ⌜ now r ≡ current 2 n (records (now (d .entry))) ⌝ }
 {
@@ -94,7 +116,7 @@ pub fn hp<'a>(d: &'a [u8], index: &[u64], n: usize) -> &'a [u8]
 }
 
 // The current FU of a profile.
-pub fn fu<'a>(d: &'a [u8], index: &[u64], p: usize) -> &'a [u8]
+pub fn fu<'a>(d: &'a [u8], index: &[u16], p: usize) -> &'a [u8]
     requires { ⌜ Indexed (now d) (now index) × (1 ≤ p) × (p ≤ 4) ⌝ }
     ensures { λ r. ⌜ now r ≡ current 3 p (records (now (d .entry))) ⌝ }
 {
@@ -102,7 +124,7 @@ pub fn fu<'a>(d: &'a [u8], index: &[u64], p: usize) -> &'a [u8]
 }
 
 // The current AD of a profile, cost and level.
-pub fn ad<'a>(d: &'a [u8], index: &[u64], p: usize, c: usize, v: usize) -> &'a [u8]
+pub fn ad<'a>(d: &'a [u8], index: &[u16], p: usize, c: usize, v: usize) -> &'a [u8]
     requires { ⌜ Indexed (now d) (now index) × (1 ≤ p) × (p ≤ 4) × (1 ≤ c) × (c ≤ 5) × (1 ≤ v) × (v ≤ 4) ⌝ }
     ensures { λ r. ⌜ now r ≡ current 4 (p * 65536 + c * 256 + v) (records (now (d .entry))) ⌝ }
 {
@@ -110,7 +132,7 @@ pub fn ad<'a>(d: &'a [u8], index: &[u64], p: usize, c: usize, v: usize) -> &'a [
 }
 
 // The current MM of a profile and item.
-pub fn mm<'a>(d: &'a [u8], index: &[u64], p: usize, j: usize) -> &'a [u8]
+pub fn mm<'a>(d: &'a [u8], index: &[u16], p: usize, j: usize) -> &'a [u8]
     requires { ⌜ Indexed (now d) (now index) × (1 ≤ p) × (p ≤ 4) × (1 ≤ j) × (j ≤ 8) ⌝ }
     ensures { λ r. ⌜ now r ≡ current 5 (p * 256 + j) (records (now (d .entry))) ⌝ }
 {
@@ -118,7 +140,7 @@ pub fn mm<'a>(d: &'a [u8], index: &[u64], p: usize, j: usize) -> &'a [u8]
 }
 
 // The current RQ of a request.
-pub fn rq<'a>(d: &'a [u8], index: &[u64], n: usize) -> &'a [u8]
+pub fn rq<'a>(d: &'a [u8], index: &[u16], n: usize) -> &'a [u8]
     requires { ⌜ Indexed (now d) (now index) × (1 ≤ n) × (n ≤ 16) ⌝ }
     ensures { λ r. ⌜ now r ≡ current 6 n (records (now (d .entry))) ⌝ }
 {
@@ -126,7 +148,7 @@ pub fn rq<'a>(d: &'a [u8], index: &[u64], n: usize) -> &'a [u8]
 }
 
 // The current HR of an hour of the window.
-pub fn hr<'a>(d: &'a [u8], index: &[u64], n: usize) -> &'a [u8]
+pub fn hr<'a>(d: &'a [u8], index: &[u16], n: usize) -> &'a [u8]
     requires { ⌜ Indexed (now d) (now index) × (1 ≤ n) × (n ≤ 168) ⌝ }
     ensures { λ r. ⌜ now r ≡ current 7 n (records (now (d .entry))) ⌝ }
 {
@@ -134,7 +156,7 @@ pub fn hr<'a>(d: &'a [u8], index: &[u64], n: usize) -> &'a [u8]
 }
 
 // The current CH of an interval.
-pub fn ch<'a>(d: &'a [u8], index: &[u64], n: usize) -> &'a [u8]
+pub fn ch<'a>(d: &'a [u8], index: &[u16], n: usize) -> &'a [u8]
     requires { ⌜ Indexed (now d) (now index) × (1 ≤ n) × (n ≤ 2016) ⌝ }
     ensures { λ r. ⌜ now r ≡ current 8 n (records (now (d .entry))) ⌝ }
 {
@@ -142,7 +164,7 @@ pub fn ch<'a>(d: &'a [u8], index: &[u64], n: usize) -> &'a [u8]
 }
 
 // The current TH of a condition and level.
-pub fn th<'a>(d: &'a [u8], index: &[u64], c: usize, v: usize) -> &'a [u8]
+pub fn th<'a>(d: &'a [u8], index: &[u16], c: usize, v: usize) -> &'a [u8]
     requires { ⌜ Indexed (now d) (now index) × (1 ≤ c) × (c ≤ 3) × (1 ≤ v) × (v ≤ 4) ⌝ }
     ensures { λ r. ⌜ now r ≡ current 9 (c * 256 + v) (records (now (d .entry))) ⌝ }
 {
@@ -182,7 +204,7 @@ pub fn slot_of(kind: usize, n: usize) -> usize
 }
 
 // Where the current record of a mark and key stands; a number that is no key has none.
-pub fn place_of(d: &[u8], index: &[u64], kind: usize, n: usize) -> Part
+pub fn place_of(d: &[u8], index: &[u16], kind: usize, n: usize) -> Part
     requires { ⌜ Indexed (now d) (now index) × (kind < 10) ⌝ }
     ensures { λ r. ⌜ r ≡ currentPart kind n (records (now (d .entry))) ⌝ }
 {
@@ -197,7 +219,7 @@ pub fn place_of(d: &[u8], index: &[u64], kind: usize, n: usize) -> Part
 }
 
 // The part of the dossier that holds the current record of a mark and key, empty if there is none.
-pub fn current_of<'a>(d: &'a [u8], index: &[u64], kind: usize, n: usize) -> &'a [u8]
+pub fn current_of<'a>(d: &'a [u8], index: &[u16], kind: usize, n: usize) -> &'a [u8]
     requires { ⌜ Indexed (now d) (now index) × (n < 16777216) × (kind < 10) ⌝ }
     ensures { λ r. ⌜ now r ≡ current kind n (records (now (d .entry))) ⌝ }
 {
@@ -209,7 +231,7 @@ pub fn lookup_part(d: &[u8], kind: usize, n: usize) -> Part
     requires { ⌜ kind < 10 ⌝ }
     ensures { λ r. ⌜ r ≡ lookupPart (now (d .entry)) kind n ⌝ }
 {
-    let mut slots = [0u64; 2350];
+    let mut slots = [0u16; 2350];
     match open(d, &mut slots) {
         Answer::Accepted => place_of(d, &slots, kind, n),
         Answer::Refused {

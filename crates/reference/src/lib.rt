@@ -92,7 +92,7 @@ fn one_lamination(
 }
 
 // The levels of a profile, by technology.
-fn thermal_levels(d: &[u8], index: &[u64], p: usize) -> HourLevels
+fn thermal_levels(d: &[u8], index: &[u16], p: usize) -> HourLevels
     requires { ⌜ Indexed (now d) (now index) × (1 ≤ p) × (p ≤ 4) × (technology (parametersIn (now d)) ≡ 1) ⌝ }
     ensures { λ r. ⌜ r ≡ packed (technology (parametersIn (now (d .entry)))) p (linesOf (parametersIn (now (d .entry))) (amountsIn (now (d .entry))) p) ⌝ }
 {
@@ -117,7 +117,7 @@ fn thermal_levels(d: &[u8], index: &[u64], p: usize) -> HourLevels
     }
 }
 
-fn nuclear_levels(d: &[u8], index: &[u64], p: usize) -> HourLevels
+fn nuclear_levels(d: &[u8], index: &[u16], p: usize) -> HourLevels
     requires { ⌜ Indexed (now d) (now index) × (1 ≤ p) × (p ≤ 4) × (technology (parametersIn (now d)) ≡ 2) ⌝ }
     ensures { λ r. ⌜ r ≡ packed (technology (parametersIn (now (d .entry)))) p (linesOf (parametersIn (now (d .entry))) (amountsIn (now (d .entry))) p) ⌝ }
 {
@@ -125,7 +125,7 @@ fn nuclear_levels(d: &[u8], index: &[u64], p: usize) -> HourLevels
     one_lamination(2, p, parameters::capacity(d, index), energy.cents, 0)
 }
 
-fn storage_levels(d: &[u8], index: &[u64], p: usize) -> HourLevels
+fn storage_levels(d: &[u8], index: &[u16], p: usize) -> HourLevels
     requires { ⌜ Indexed (now d) (now index) × (1 ≤ p) × (p ≤ 4) × (technology (parametersIn (now d)) ≡ 3) × (fullHours (parametersIn (now d)) ≤ window (parametersIn (now d))) ⌝ }
     ensures { λ r. ⌜ r ≡ packed (technology (parametersIn (now (d .entry)))) p (linesOf (parametersIn (now (d .entry))) (amountsIn (now (d .entry))) p) ⌝ }
 {
@@ -141,7 +141,7 @@ fn storage_levels(d: &[u8], index: &[u64], p: usize) -> HourLevels
 }
 
 // The levels of an accepted dossier at an hour.
-pub fn hour_levels(d: &[u8], index: &[u64], hour: u32) -> HourLevels
+pub fn hour_levels(d: &[u8], index: &[u16], hour: u32) -> HourLevels
     requires { ⌜ IsAccepted (now d) × Indexed (now d) (now index) ⌝ }
     ensures { λ r. ⌜ r ≡ packed (technology (parametersIn (now (d .entry)))) (profile (parametersIn (now (d .entry))) hour) (levels (now (d .entry)) hour) ⌝ }
 {
@@ -180,7 +180,7 @@ fn no_levels() -> HourLevels
 pub fn levels(d: &[u8], hour: u32) -> LevelsAnswer
     ensures { λ r. ⌜ r ≡ levelsAnswer (now (d .entry)) hour ⌝ }
 {
-    let mut index = [0u64; 2350];
+    let mut index = [0u16; 2350];
     match acceptance::judge(d, &mut index) {
         Answer::Accepted => {
             let answer = Answer::Accepted;

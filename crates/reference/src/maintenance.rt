@@ -9,7 +9,7 @@ use crate::formulas::share;
 use crate::parameters;
 
 // The adders of a level.
-pub fn adders(d: &[u8], index: &[u64], p: usize, v: usize) -> u64
+pub fn adders(d: &[u8], index: &[u16], p: usize, v: usize) -> u64
     requires { ⌜ Indexed (now d) (now index) × (1 ≤ p) × (p ≤ 4) × (1 ≤ v) × (v ≤ 4) ⌝ }
     ensures { λ r. ⌜ (r ≡ dropped (adders (amountsIn (now (d .entry))) p v)) × (r ≤ 5000000000000) ⌝ }
 {
@@ -23,7 +23,7 @@ pub fn adders(d: &[u8], index: &[u64], p: usize, v: usize) -> u64
 }
 
 // What item j adds to energy.
-fn item(d: &[u8], index: &[u64], p: usize, j: usize) -> u64
+fn item(d: &[u8], index: &[u16], p: usize, j: usize) -> u64
     requires { ⌜ Indexed (now d) (now index) × (1 ≤ p) × (p ≤ 4) × (1 ≤ j) × (j ≤ 8) ⌝ }
     ensures { λ r. ⌜ (r ≡ quotient (costC (amountsIn (now (d .entry))) p j * 100000) (outputW (parametersIn (now (d .entry))) p j * intervalT (parametersIn (now (d .entry))) p j)) × (r ≤ 10000000000000000) ⌝ }
 {
@@ -35,7 +35,7 @@ fn item(d: &[u8], index: &[u64], p: usize, j: usize) -> u64
 }
 
 // What it adds to a start.
-fn start_item(d: &[u8], index: &[u64], p: usize, j: usize) -> u64
+fn start_item(d: &[u8], index: &[u16], p: usize, j: usize) -> u64
     requires { ⌜ Indexed (now d) (now index) × (1 ≤ p) × (p ≤ 4) × (1 ≤ j) × (j ≤ 8) ⌝ }
     ensures { λ r. ⌜ (r ≡ quotient (costC (amountsIn (now (d .entry))) p j * hoursPerStartS (parametersIn (now (d .entry))) p j * 1000) (intervalT (parametersIn (now (d .entry))) p j)) × (r ≤ 1000000000000000000) ⌝ }
 {
@@ -47,7 +47,7 @@ fn start_item(d: &[u8], index: &[u64], p: usize, j: usize) -> u64
 }
 
 // Maintenance in an energy level.
-pub fn maintenance(d: &[u8], index: &[u64], p: usize) -> u64
+pub fn maintenance(d: &[u8], index: &[u16], p: usize) -> u64
     requires { ⌜ Indexed (now d) (now index) × (1 ≤ p) × (p ≤ 4) ⌝ }
     ensures { λ r. ⌜ (r ≡ dropped (maintenance (parametersIn (now (d .entry))) (amountsIn (now (d .entry))) p)) × (r ≤ 80000000000000000) ⌝ }
 {
@@ -61,7 +61,7 @@ pub fn maintenance(d: &[u8], index: &[u64], p: usize) -> u64
 }
 
 // Maintenance in a start level.
-pub fn start_maintenance(d: &[u8], index: &[u64], p: usize) -> u64
+pub fn start_maintenance(d: &[u8], index: &[u16], p: usize) -> u64
     requires { ⌜ Indexed (now d) (now index) × (1 ≤ p) × (p ≤ 4) ⌝ }
     ensures { λ r. ⌜ (r ≡ dropped (startMaintenance (parametersIn (now (d .entry))) (amountsIn (now (d .entry))) p)) × (r ≤ 8000000000000000000) ⌝ }
 {

@@ -9,7 +9,7 @@ use crate::maintenance::maintenance;
 use crate::parameters;
 
 // The sum of its one lamination.
-pub fn nuclear_energy(d: &[u8], index: &[u64], p: usize) -> u64
+pub fn nuclear_energy(d: &[u8], index: &[u16], p: usize) -> u64
     requires { ⌜ Indexed (now d) (now index) × (1 ≤ p) × (p ≤ 4) ⌝ }
     ensures { λ r. ⌜ r ≡ dropped (nuclearEnergy (parametersIn (now (d .entry))) (amountsIn (now (d .entry))) p) ⌝ }
 {

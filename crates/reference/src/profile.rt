@@ -7,7 +7,7 @@ ghost use Rattle.lookup.specs.Parts.{Indexed};
 ghost use Rattle.reference.specs.Levels.{parametersIn, covers, profile};
 
 // The profile once request n is looked at, p before it.
-fn after(d: &[u8], index: &[u64], hour: u32, n: usize, p: usize) -> usize
+fn after(d: &[u8], index: &[u16], hour: u32, n: usize, p: usize) -> usize
     requires { ⌜ Indexed (now d) (now index) × (1 ≤ n) × (n ≤ 16) ⌝ }
     ensures { λ r. ⌜ r ≡ cond (covers (parametersIn (now (d .entry))) hour n) (requested (parametersIn (now (d .entry))) n) p ⌝ }
 {
@@ -23,7 +23,7 @@ fn after(d: &[u8], index: &[u64], hour: u32, n: usize, p: usize) -> usize
 }
 
 // The highest request that covers the hour decides; with none it is profile 1.
-pub fn profile(d: &[u8], index: &[u64], hour: u32) -> usize
+pub fn profile(d: &[u8], index: &[u16], hour: u32) -> usize
     requires { ⌜ Indexed (now d) (now index) ⌝ }
     ensures { λ r. ⌜ (r ≡ profile (parametersIn (now (d .entry))) hour) × (1 ≤ r) × (r ≤ 4) ⌝ }
 {

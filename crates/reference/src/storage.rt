@@ -24,7 +24,7 @@ pub struct Charging {
 }
 
 // Interval n.
-fn interval(d: &[u8], index: &[u64], n: usize) -> Charging
+fn interval(d: &[u8], index: &[u16], n: usize) -> Charging
     requires { ⌜ Indexed (now d) (now index) × (1 ≤ n) × (n ≤ 2016) ⌝ }
     ensures { λ r. ⌜ (r .cost ≡ chargePrice (amountsIn (now (d .entry))) n * chargeEnergy (parametersIn (now (d .entry))) n) × (r .energy ≡ chargeEnergy (parametersIn (now (d .entry))) n) × (r .cost ≤ 2147683648 * r .energy) × (r .energy ≤ 1000000) ⌝ }
 {
@@ -38,7 +38,7 @@ fn interval(d: &[u8], index: &[u64], n: usize) -> Charging
 }
 
 // All intervals.
-fn intervals(d: &[u8], index: &[u64]) -> Charging
+fn intervals(d: &[u8], index: &[u16]) -> Charging
     requires { ⌜ Indexed (now d) (now index) ⌝ }
     ensures { λ r. ⌜ (r .cost ≡ sumTo 2016 (λ n. chargePrice (amountsIn (now (d .entry))) n * chargeEnergy (parametersIn (now (d .entry))) n)) × (r .energy ≡ totalEnergy (parametersIn (now (d .entry)))) × (r .cost ≤ 2147683648 * r .energy) × (r .energy ≤ 2016000000) ⌝ }
 {
@@ -55,7 +55,7 @@ fn intervals(d: &[u8], index: &[u64]) -> Charging
 }
 
 // The charging cost.
-fn charging_cost(d: &[u8], index: &[u64]) -> u64
+fn charging_cost(d: &[u8], index: &[u16]) -> u64
     requires { ⌜ Indexed (now d) (now index) ⌝ }
     ensures { λ r. ⌜ (r ≡ dropped (chargingCost (parametersIn (now (d .entry))) (amountsIn (now (d .entry))))) × (r ≤ 2000000000) ⌝ }
 {
@@ -65,7 +65,7 @@ fn charging_cost(d: &[u8], index: &[u64]) -> u64
 }
 
 // The short-run cost.
-fn short_run_cost(d: &[u8], index: &[u64], p: usize) -> u64
+fn short_run_cost(d: &[u8], index: &[u16], p: usize) -> u64
     requires { ⌜ Indexed (now d) (now index) × (1 ≤ p) × (p ≤ 4) ⌝ }
     ensures { λ r. ⌜ r ≡ dropped (shortRunCost (parametersIn (now (d .entry))) (amountsIn (now (d .entry))) p) ⌝ }
 {
@@ -75,7 +75,7 @@ fn short_run_cost(d: &[u8], index: &[u64], p: usize) -> u64
 }
 
 // The prices of hours 1 to the window, into the last places of an array, hour 1 the very last.
-fn prices(d: &[u8], index: &[u64], window: usize, prices: &mut [u32])
+fn prices(d: &[u8], index: &[u16], window: usize, prices: &mut [u32])
     requires { ⌜ Indexed (now d) (now index) × (window ≤ 168) × (length (now prices) ≡ 168) ⌝ }
     ensures { λ r. ⌜ drop (168 - window) (now (prices .exit)) ≡ listTo window (hourPrice (amountsIn (now (d .entry)))) ⌝ }
 {
@@ -87,7 +87,7 @@ fn prices(d: &[u8], index: &[u64], window: usize, prices: &mut [u32])
 }
 
 // The sum of the highest prices of the window.
-fn highest_sum(d: &[u8], index: &[u64], hours: usize, window: usize) -> u64
+fn highest_sum(d: &[u8], index: &[u16], hours: usize, window: usize) -> u64
     requires { ⌜ Indexed (now d) (now index) × (window ≤ 168) × (hours ≤ window) ⌝ }
     ensures { λ r. ⌜ (r ≡ sumHighest hours (listTo window (hourPrice (amountsIn (now (d .entry)))))) × (r ≤ 336 * 4294967295) ⌝ }
 {
@@ -98,7 +98,7 @@ fn highest_sum(d: &[u8], index: &[u64], hours: usize, window: usize) -> u64
 }
 
 // The opportunity cost.
-fn opportunity_cost(d: &[u8], index: &[u64]) -> u64
+fn opportunity_cost(d: &[u8], index: &[u16]) -> u64
     requires { ⌜ Indexed (now d) (now index) × (fullHours (parametersIn (now d)) ≤ window (parametersIn (now d))) ⌝ }
     ensures { λ r. ⌜ r ≡ dropped (opportunityCost (parametersIn (now (d .entry))) (amountsIn (now (d .entry)))) ⌝ }
 {
@@ -112,7 +112,7 @@ fn opportunity_cost(d: &[u8], index: &[u64]) -> u64
 }
 
 // The greater is taken.
-pub fn storage_energy(d: &[u8], index: &[u64], p: usize) -> u64
+pub fn storage_energy(d: &[u8], index: &[u16], p: usize) -> u64
     requires { ⌜ Indexed (now d) (now index) × (1 ≤ p) × (p ≤ 4) × (fullHours (parametersIn (now d)) ≤ window (parametersIn (now d))) ⌝ }
     ensures { λ r. ⌜ r ≡ dropped (storageEnergy (parametersIn (now (d .entry))) (amountsIn (now (d .entry))) p) ⌝ }
 {

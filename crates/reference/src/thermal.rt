@@ -21,7 +21,7 @@ use crate::maintenance::start_maintenance;
 use crate::parameters;
 
 // How many points there are.
-fn points(d: &[u8], index: &[u64]) -> usize
+fn points(d: &[u8], index: &[u16]) -> usize
     requires { ⌜ Indexed (now d) (now index) ⌝ }
     ensures { λ r. ⌜ (r ≡ points (parametersIn (now (d .entry)))) × (r ≤ 21) ⌝ }
 {
@@ -36,7 +36,7 @@ fn points(d: &[u8], index: &[u64]) -> usize
 }
 
 // How many laminations lie between them.
-pub fn lamination_count(d: &[u8], index: &[u64]) -> usize
+pub fn lamination_count(d: &[u8], index: &[u16]) -> usize
     requires { ⌜ Indexed (now d) (now index) ⌝ }
     ensures { λ r. ⌜ (r ≡ points (parametersIn (now (d .entry))) - 1) × (r ≤ 20) ⌝ }
 {
@@ -45,7 +45,7 @@ pub fn lamination_count(d: &[u8], index: &[u64]) -> usize
 }
 
 // Where lamination i begins: the first at 0.
-fn bottom(d: &[u8], index: &[u64], i: usize) -> u64
+fn bottom(d: &[u8], index: &[u16], i: usize) -> u64
     requires { ⌜ Indexed (now d) (now index) × (1 ≤ i) × (i ≤ 21) ⌝ }
     ensures { λ r. ⌜ r ≡ cond (eqb i 1) 0 (output (parametersIn (now (d .entry))) i) ⌝ }
 {
@@ -57,7 +57,7 @@ fn bottom(d: &[u8], index: &[u64], i: usize) -> u64
 }
 
 // The rise of heat in lamination i.
-fn heat_rise(d: &[u8], index: &[u64], i: usize) -> u64
+fn heat_rise(d: &[u8], index: &[u16], i: usize) -> u64
     requires { ⌜ Indexed (now d) (now index) × (1 ≤ i) × (i ≤ 20) ⌝ }
     ensures { λ r. ⌜ (r ≡ rise (heat (parametersIn (now (d .entry)))) i) × (r ≤ 20000000) ⌝ }
 {
@@ -68,7 +68,7 @@ fn heat_rise(d: &[u8], index: &[u64], i: usize) -> u64
 }
 
 // The rise of output in lamination i.
-fn output_rise(d: &[u8], index: &[u64], i: usize) -> u64
+fn output_rise(d: &[u8], index: &[u16], i: usize) -> u64
     requires { ⌜ Indexed (now d) (now index) × (1 ≤ i) × (i ≤ 20) ⌝ }
     ensures { λ r. ⌜ (r ≡ rise (output (parametersIn (now (d .entry)))) i) × (r ≤ 20000) ⌝ }
 {
@@ -79,7 +79,7 @@ fn output_rise(d: &[u8], index: &[u64], i: usize) -> u64
 }
 
 // The level of lamination i in cents, given its adders and maintenance together.
-fn lamination(d: &[u8], index: &[u64], p: usize, i: usize, more: u64) -> u64
+fn lamination(d: &[u8], index: &[u16], p: usize, i: usize, more: u64) -> u64
     requires { ⌜ Indexed (now d) (now index) × (1 ≤ p) × (p ≤ 4) × (1 ≤ i) × (i ≤ 20) × (more ≡ dropped (adders (amountsIn (now d)) p 1) + dropped (maintenance (parametersIn (now d)) (amountsIn (now d)) p)) × (more ≤ 80005000000000000) ⌝ }
     ensures { λ r. ⌜ r ≡ cents (dropped (thermalEnergy (parametersIn (now (d .entry))) (amountsIn (now (d .entry))) p i)) ⌝ }
 {
@@ -95,7 +95,7 @@ fn lamination(d: &[u8], index: &[u64], p: usize, i: usize, more: u64) -> u64
 // The n laminations: from, to and level of each.
 pub fn laminations(
     d: &[u8],
-    index: &[u64],
+    index: &[u16],
     p: usize,
     n: usize,
     from: &mut [u64],
@@ -116,7 +116,7 @@ pub fn laminations(
 }
 
 // What a heat costs.
-fn heat_sum(d: &[u8], index: &[u64], p: usize, heat: u64) -> u64
+fn heat_sum(d: &[u8], index: &[u16], p: usize, heat: u64) -> u64
     requires { ⌜ Indexed (now d) (now index) × (1 ≤ p) × (p ≤ 4) × (heat ≤ 20000000) ⌝ }
     ensures { λ r. ⌜ (r ≡ dropped (heatCost (parametersIn (now (d .entry))) (amountsIn (now (d .entry))) p heat)) × (r ≤ 24000000000000) ⌝ }
 {
@@ -126,7 +126,7 @@ fn heat_sum(d: &[u8], index: &[u64], p: usize, heat: u64) -> u64
 }
 
 // A start.
-pub fn start_cost(d: &[u8], index: &[u64], p: usize) -> u64
+pub fn start_cost(d: &[u8], index: &[u16], p: usize) -> u64
     requires { ⌜ Indexed (now d) (now index) × (1 ≤ p) × (p ≤ 4) ⌝ }
     ensures { λ r. ⌜ r ≡ dropped (startCost (parametersIn (now (d .entry))) (amountsIn (now (d .entry))) p) ⌝ }
 {
@@ -136,7 +136,7 @@ pub fn start_cost(d: &[u8], index: &[u64], p: usize) -> u64
 }
 
 // An hour without load.
-pub fn no_load_cost(d: &[u8], index: &[u64], p: usize) -> u64
+pub fn no_load_cost(d: &[u8], index: &[u16], p: usize) -> u64
     requires { ⌜ Indexed (now d) (now index) × (1 ≤ p) × (p ≤ 4) ⌝ }
     ensures { λ r. ⌜ r ≡ dropped (noLoadCost (parametersIn (now (d .entry))) (amountsIn (now (d .entry))) p) ⌝ }
 {

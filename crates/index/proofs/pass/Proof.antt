@@ -17,7 +17,7 @@ use Rattle.index.proofs.pass.Statement.{statement}
 use Rattle.index.proofs.pass.Tie as tie
 
 abbrev Inv-loop : tie.InvT-loop
-Inv-loop d index₀ at₀ rising₀ index at rising = (at ≤ length d) × (length index ≡ length index₀) × Rest keepStep (kept index₀ true) d at (kept index rising)
+Inv-loop d index₀ at₀ rising₀ index at rising = (at ≤ length d) × (length index ≡ length index₀) × Rest (keepStep d) (kept index₀ true) d at (kept index rising)
 
 abbrev μ-loop : tie.MeasureT-loop
 μ-loop d index₀ at₀ rising₀ index at rising = length d - at
@@ -73,45 +73,48 @@ slot-fits c = below (d-of (In c)) (at-of (In c)) _ _ (its-found c .1) (its-found
 u32-at-requires : tie.Need-u32-at-requires Inv-loop μ-loop
 u32-at-requires c κs = search needs
 
-cast-stamp : tie.Need-cast-stamp Inv-loop μ-loop
-cast-stamp c = search needs
+cast-issue : tie.Need-cast-issue Inv-loop μ-loop
+cast-issue c = search needs
 
-add-stamp : tie.Need-add-stamp Inv-loop μ-loop
-add-stamp c = search needs
+add-issue : tie.Need-add-issue Inv-loop μ-loop
+add-issue c = search needs
 
-mul-stamp : tie.Need-mul-stamp Inv-loop μ-loop
-mul-stamp c = search needs
+mul-v : tie.Need-mul-v Inv-loop μ-loop
+mul-v c = omega (arith, slot-fits (c .before))
 
-mul-old : tie.Need-mul-old Inv-loop μ-loop
-mul-old c = omega (arith, slot-fits (c .before))
+slice-read-v : tie.Need-slice-read-v Inv-loop μ-loop
+slice-read-v c = omega (arith, slot-fits (c .before .before))
 
-slice-read-old : tie.Need-slice-read-old Inv-loop μ-loop
-slice-read-old c = omega (arith, slot-fits (c .before .before))
+issue-held-requires : tie.Need-issue-held-requires Inv-loop μ-loop
+issue-held-requires c κs = search needs
 
-add-greater : tie.Need-add-greater Inv-loop μ-loop
-add-greater c = search needs
+cast-newer-of : tie.Need-cast-newer-of Inv-loop μ-loop
+cast-newer-of c = search needs
 
-greater-requires : tie.Need-greater-requires Inv-loop μ-loop
-greater-requires c κs = search needs
+add-newer-of : tie.Need-add-newer-of Inv-loop μ-loop
+add-newer-of c = search needs
+
+newer-of-requires : tie.Need-newer-of-requires Inv-loop μ-loop
+newer-of-requires c κs = search needs
 
 mul-index : tie.Need-mul-index Inv-loop μ-loop
-mul-index c = omega (arith, slot-fits (c .before .before .before))
+mul-index c = omega (arith, slot-fits (c .before .before .before .before))
 
 slice-write-index : tie.Need-slice-write-index Inv-loop μ-loop
-slice-write-index c = omega (arith, slot-fits (c .before .before .before))
+slice-write-index c = omega (arith, slot-fits (c .before .before .before .before))
 
 add-at : tie.Need-add-at Inv-loop μ-loop
-add-at c = omega (arith, its (c .before .before .before .before))
+add-at c = omega (arith, its (c .before .before .before .before .before))
 
 loop-less : tie.Need-loop-less Inv-loop μ-loop
-loop-less c = omega (arith, its (c .before .before .before .before))
+loop-less c = omega (arith, its (c .before .before .before .before .before))
 
 loop-again : tie.Need-loop-again Inv-loop μ-loop
 loop-again c =
-    let k = c .before .before .before .before in
+    let k = c .before .before .before .before .before in
     let i = In k in
     let l = i .before .loop in
-    (omega (arith, its k), simp length-set (l .inv .1), turn (d-of i) _ (l .index) (l .at) (its-found k .0) (len-of k) (l .rising) (i .loop-test .taken) (l .inv .2) (its-found k .1) (its-found k .2) (c .before .before .before .u32-at .ensures) (c .before .greater .ensures))
+    (omega (arith, its k), simp length-set (l .inv .1), turn (d-of i) _ (l .index) (l .at) (its-found k .0) (len-of k) (l .rising) (i .loop-test .taken) (l .inv .2) (its-found k .1) (its-found k .2) (c .before .before .before .before .u32-at .ensures) (c .before .before .issue-held .ensures) (c .before .newer-of .ensures))
 
 enum-known-number : tie.Need-enum-known-number Inv-loop μ-loop
 enum-known-number c = search needs
@@ -124,7 +127,7 @@ unfolding passOf slotsOf
 returns c =
     let r = c .before .before .before in
     let i = r .before .before in
-    let e = stop keepStep (kept (i .before .before .before .before .args .index .now) true) (d-of i) (at-of i) _ _ (i .loop-test .taken) (i .before .loop .inv .2) (fault-found (drop (at-of i) (d-of i)) _ (read-of r (c .before .number .given .1))) in
+    let e = stop (keepStep (d-of i)) (kept (i .before .before .before .before .args .index .now) true) (d-of i) (at-of i) _ _ (i .loop-test .taken) (i .before .loop .inv .2) (fault-found (drop (at-of i) (d-of i)) _ (read-of r (c .before .number .given .1))) in
     (sym (ap passOf e), sym (ap (slotsOf (i .before .loop .index)) e))
 
 same-length-2 : tie.Need-same-length-2 Inv-loop μ-loop
@@ -135,7 +138,7 @@ unfolding passOf slotsOf
 returns-2 c =
     let l = c .before .loop in
     let a = c .before .before .before .before .args in
-    let e = end keepStep (kept (a .index .now) true) (a .d .now) (l .at) (kept (l .index) (l .rising)) (c .loop-test .left) (l .inv .2) in
+    let e = end (keepStep (a .d .now)) (kept (a .index .now) true) (a .d .now) (l .at) (kept (l .index) (l .rising)) (c .loop-test .left) (l .inv .2) in
     (sym (ap passOf e), sym (ap (slotsOf (l .index)) e))
 
 pub pass-spec : {M : Type 1} → statement M
@@ -151,13 +154,14 @@ pass-spec =
     read-requires
     enum-known-entry
     u32-at-requires
-    cast-stamp
-    add-stamp
-    mul-stamp
-    mul-old
-    slice-read-old
-    add-greater
-    greater-requires
+    cast-issue
+    add-issue
+    mul-v
+    slice-read-v
+    issue-held-requires
+    cast-newer-of
+    add-newer-of
+    newer-of-requires
     mul-index
     slice-write-index
     add-at
