@@ -40,7 +40,7 @@ use Rattle.index.specs.Entries.{entryAs}
 use Rattle.lookup.specs.Parts.{part, bytesOf, placeAt, partAt, Indexed}
 use Rattle.lookup.proofs.Parts.{part-current}
 use Rattle.acceptance.specs.Fit.{holds, fieldFits, ruleFits, fits, isCurrent, unfit}
-use Rattle.acceptance.specs.Looked.{Known, slotFits, slotsFit, slotsEmpty, allFit, notFit}
+use Rattle.acceptance.specs.Looked.{Known, heldFits, slotFits, slotsFit, slotsEmpty, allFit, notFit}
 use Rattle.acceptance.proofs.ByMark.{and-true, fits-hp, fits-fu, fits-mm, fits-rq, fits-none, fits-hr, fits-ch}
 use Rattle.acceptance.proofs.Sound.{each-unfit}
 
@@ -109,11 +109,11 @@ each-member (a ∷ l) f = also (f a here) (each-member l (λ b m. f b (there m))
 
 -- ---- every slot fits
 
-part-there : (d ix : List ℕ) (j n : ℕ) (r : List ℕ) → (r ≡ [] → ⊥) → partAt d ix j n ≡ r → (eqb (getD ix j 0) 0 ≡ false) × (take n (drop (getD ix j 0 % 65536) d) ≡ r)
+part-there : (d ix : List ℕ) (j n : ℕ) (r : List ℕ) → (r ≡ [] → ⊥) → partAt d ix j n ≡ r → (eqb (getD ix j 0) 0 ≡ false) × (take n (drop (getD ix j 0 - 1) d) ≡ r)
 unfolding partAt bytesOf placeAt
-part-there d ix j n r z = go (eqb (getD ix j 0) 0) (ltb (length d) (getD ix j 0 % 65536 + n))
+part-there d ix j n r z = go (eqb (getD ix j 0) 0) (ltb (length d) (getD ix j 0 - 1 + n))
   where
-    go : (a b : Bool) → bytesOf d (cond (a || b) (part 0 0) (part (getD ix j 0 % 65536) n)) ≡ r → (a ≡ false) × (take n (drop (getD ix j 0 % 65536) d) ≡ r)
+    go : (a b : Bool) → bytesOf d (cond (a || b) (part 0 0) (part (getD ix j 0 - 1) n)) ≡ r → (a ≡ false) × (take n (drop (getD ix j 0 - 1) d) ≡ r)
     go true b e = absurd (z (sym e))
     go false true e = absurd (z (sym e))
     go false false e = (refl, e)
@@ -178,7 +178,7 @@ module _ (t : ℕ) (d ix : List ℕ) where
       unfolding slotFits
       slot-record r f c w =
           let j : ℕ = slot (mark r) (keyOf r) in
-          let s : List ℕ = drop (getD ix j 0 % 65536) d in
+          let s : List ℕ = drop (getD ix j 0 - 1) d in
           let z = part-there d ix j (size (mark r)) r (λ x. faultless r f .known (ap mark x ∙ mark-nil)) (part-current d ix h (mark r) (keyOf r) (in-key r f) refl refl ∙ c) in
           let m : mark s ≡ mark r = sym (mark-take (size (mark r)) s (omega (arith, size-ge (mark r)))) ∙ ap mark (z .1) in
           let g : fits t (mark s) s ≡ true = rw (z .0) at w in
@@ -198,24 +198,21 @@ module _ (t : ℕ) (d ix : List ℕ) where
 
 -- ---- the tests of slots
 
-module _ (t : ℕ) (d ix : List ℕ) (j : ℕ) where
-  pub slot-empty : getD ix j 0 ≡ 0 → true ≡ slotFits t d ix j
-  unfolding slotFits
-  slot-empty e = rw (eq-eqb (getD ix j 0) 0 e) refl
+module _ (t : ℕ) (d : List ℕ) (v : ℕ) where
+  pub held-empty : v ≡ 0 → true ≡ heldFits t d v
+  held-empty e = rw (eq-eqb v 0 e) refl
 
-  pub slot-past : Known t → length d < getD ix j 0 % 65536 → true ≡ slotFits t d ix j
-  unfolding slotFits
-  slot-past k h =
-      rw (drop-of-length-le d {i = getD ix j 0 % 65536} (omega arith), mark-nil, ← fits-none t [] k) (go (eqb (getD ix j 0) 0))
+  pub held-past : Known t → length d < v - 1 → true ≡ heldFits t d v
+  held-past k h = rw (drop-of-length-le d {i = v - 1} (omega arith), mark-nil, ← fits-none t [] k) (go (eqb v 0))
     where
       go : (b : Bool) → true ≡ b || true
       go true = refl
       go false = refl
 
-  pub slot-there : (getD ix j 0 ≡ 0 → ⊥) → {b : Bool} → b ≡ fits t (mark (take (length d - getD ix j 0 % 65536) (drop (getD ix j 0 % 65536) d))) (take (length d - getD ix j 0 % 65536) (drop (getD ix j 0 % 65536) d)) → b ≡ slotFits t d ix j
-  unfolding slotFits
-  slot-there z e = rw (ne-eqb (getD ix j 0) 0 z) (e ∙ ap (λ (s : List ℕ). fits t (mark s) s) (tail d (getD ix j 0 % 65536)))
+  pub held-there : (v ≡ 0 → ⊥) → {b : Bool} → b ≡ fits t (mark (take (length d - (v - 1)) (drop (v - 1) d))) (take (length d - (v - 1)) (drop (v - 1) d)) → b ≡ heldFits t d v
+  held-there z e = rw (ne-eqb v 0 z) (e ∙ ap (λ (s : List ℕ). fits t (mark s) s) (tail d (v - 1)))
 
+module _ (t : ℕ) (d ix : List ℕ) (j : ℕ) where
   pub slots-one-not : (n i : ℕ) → i < n → false ≡ slotFits t d ix (j + i) → false ≡ slotsFit t d ix j n
   unfolding slotsFit
   slots-one-not n i h e =

@@ -2,7 +2,7 @@
 -- for 7: along the curve once; for 8: request by request. No paper speaks of this; the laws `slots-accepted` and `legs-curve` tie it to `unfit` and `curveHolds`.
 use mathlib.Core.Bool.{Bool, cond, _&&_, _||_, not}
 use mathlib.Core.List.{List}
-use Prim.Native.Nat.{ℕ, _+_, _*_, _-_, _%_, _≤_}
+use Prim.Native.Nat.{ℕ, _+_, _*_, _-_, _≤_}
 use lib.Dec.{ltb, leb, eqb}
 use lib.ListN.{getD, drop}
 use Rattle.lists.specs.Tests.{allBelow}
@@ -24,9 +24,13 @@ Known t = (1 ≤ t) × (t ≤ 3)
 abbrev pub triedAs : ℕ → ℕ → List ℕ → Tried
 triedAs t k s = record { len = size k; fits = fits t k s }
 
--- the slot is empty, or the record that stands at its place fits
+-- a slot of value v is empty, or the record that stands at its place fits
+abbrev pub heldFits : ℕ → List ℕ → ℕ → Bool
+heldFits t d v = eqb v 0 || fits t (mark (drop (v - 1) d)) (drop (v - 1) d)
+
+-- the same of slot j
 unfoldable pub slotFits : ℕ → List ℕ → List ℕ → ℕ → Bool
-slotFits t d ix j = eqb (getD ix j 0) 0 || fits t (mark (drop (getD ix j 0 % 65536) d)) (drop (getD ix j 0 % 65536) d)
+slotFits t d ix j = heldFits t d (getD ix j 0)
 
 -- the same of n slots from slot j on
 unfoldable pub slotsFit : ℕ → List ℕ → List ℕ → ℕ → ℕ → Bool

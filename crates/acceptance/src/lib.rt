@@ -14,9 +14,10 @@ ghost use Rattle.station.specs.Current.{readable};
 ghost use Rattle.station.specs.Parameters.{parameters, technology};
 ghost use Rattle.lookup.specs.Parts.{Indexed};
 ghost use Rattle.acceptance.specs.Fit.{fits, holds, unfit};
-ghost use Rattle.acceptance.specs.Looked.{Known, triedAs, slotFits, slotsFit, slotsEmpty, allFit, notFit, fuelled};
+ghost use Rattle.acceptance.specs.Looked.{Known, triedAs, heldFits, slotsFit, slotsEmpty, allFit, notFit, fuelled};
 ghost use Rattle.acceptance.specs.Curve.{points, curveHolds, curveFits, fuelHolds, windowFits};
 ghost use Rattle.acceptance.specs.Answer.{unsupported, answer};
+use index::Passed;
 use records::Answer;
 
 // ---- 6: a record and the technology
@@ -140,16 +141,15 @@ fn choose(b: bool, x: usize, y: usize) -> usize
     if b { x } else { y }
 }
 
-// Whether a slot of the index is empty or its record fits.
-fn slot_fits(d: &[u8], index: &[u16], t: u8, j: usize) -> bool
-    requires { ⌜ Known t × (j < length (now index)) ⌝ }
-    ensures { λ r. ⌜ r ≡ slotFits t (now (d .entry)) (now (index .entry)) j ⌝ }
+// Whether a slot of value v is empty or its record fits.
+fn held_fits(d: &[u8], v: u16, t: u8) -> bool
+    requires { ⌜ Known t ⌝ }
+    ensures { λ r. ⌜ r ≡ heldFits t (now (d .entry)) v ⌝ }
 {
-    let v = index[j];
     if v == 0 {
         return true;
     }
-    let q = (v % 65536) as usize;
+    let q = (v as usize) - 1;
     if d.len() < q {
         return true;
     }
@@ -157,14 +157,14 @@ fn slot_fits(d: &[u8], index: &[u16], t: u8, j: usize) -> bool
     f.fits
 }
 
-// The same of n slots from slot j on.
+// The same of n slots of the index from slot j on.
 fn slots_fit(d: &[u8], index: &[u16], t: u8, j: usize, n: usize) -> bool
     requires { ⌜ Known t × (j + n ≤ length (now index)) ⌝ }
     ensures { λ r. ⌜ r ≡ slotsFit t (now (d .entry)) (now (index .entry)) j n ⌝ }
 {
     let mut i = 0;
     while i < n {
-        if !slot_fits(d, index, t, j + i) {
+        if !held_fits(d, index[j + i], t) {
             return false;
         }
         i += 1;
@@ -424,9 +424,17 @@ pub fn judge(d: &[u8], index: &mut [u16]) -> Answer
     requires { ⌜ now index ≡ replicate 2350 0 ⌝ }
     ensures { λ r. ⌜ (r ≡ answer (now (d .entry))) × (r ≡ Accepted → Indexed (now (d .entry)) (now (index .exit))) ⌝ }
 {
-    match lookup::open(d, index) {
-        Answer::Accepted => beyond_reading(d, index),
-        Answer::Refused { number, place } => Answer::Refused { number, place },
+    match lookup::scan(d, index) {
+        Passed::Ended { rising } => {
+            if rising {
+                return beyond_reading(d, index);
+            }
+            match twins::first_twin(d) {
+                Answer::Accepted => beyond_reading(d, index),
+                Answer::Refused { number, place } => Answer::Refused { number, place },
+            }
+        }
+        Passed::Stopped { number, place } => Answer::Refused { number, place },
     }
 }
 

@@ -1,43 +1,88 @@
-use Rattle.acceptance.proofs.Answers.{unreadable}
-use Rattle.records.proofs.Answers.{not-refused}
-use mathlib.Core.Path.{sym, _∙_}
+use mathlib.Core.Path.{_≡_, ap, sym, _∙_}
+use mathlib.Core.Bool.{true}
 use borrow.Author.Needs.{needs}
+use Rattle.records.specs.declared.Answer.the-variants.{Accepted}
+use Rattle.records.proofs.Answers.{not-refused}
+use Rattle.station.specs.Current.{readable}
+use Rattle.index.specs.declared.Passed.the-variants.{Ended}
+use Rattle.lookup.specs.Parts.{Indexed}
+use Rattle.lookup.proofs.Opening.{scan-stopped, scan-rising, scan-twins}
+use Rattle.acceptance.proofs.Answers.{unreadable}
 use Rattle.acceptance.proofs.judge.Statement.{statement}
 use Rattle.acceptance.proofs.judge.Tie as tie
 
-open-requires : tie.Need-open-requires
-open-requires c κs = search needs
+scan-requires : tie.Need-scan-requires
+scan-requires c κs = search needs
 
-enum-told : tie.Need-enum-told
-enum-told c = search needs
+enum-known-rising : tie.Need-enum-known-rising
+enum-known-rising c = search needs
+
+-- the scan ended: the dossier has its index, and is readable if every issue rose
+indexed : (k : tie.After-known-told) → Indexed (k .before .before .before .before .before .before .before .before .before .args .d .now) (k .before .before .before .before .before .scan .last .1 .0)
+indexed k = k .before .before .before .before .before .scan .ensures .1 _ (k .before .rising .given .1)
+
+risen : (k : tie.After-known-told) → k .before .rising .given .0 .0 ≡ true → readable (k .before .before .before .before .before .before .before .before .before .args .d .now) ≡ Accepted
+risen k e = sym (scan-rising _ (ap Ended (sym e) ∙ sym (k .before .rising .given .1) ∙ k .before .before .before .before .before .scan .ensures .0) (indexed k))
 
 beyond-reading-requires : tie.Need-beyond-reading-requires
-beyond-reading-requires c κs = (c .before .before .before .before .before .«open» .ensures .1 (c .before .enum-told .given .1), sym (c .before .before .before .before .before .«open» .ensures .0) ∙ c .before .enum-told .given .1)
-
-enum-known-number : tie.Need-enum-known-number
-enum-known-number c = search needs
+beyond-reading-requires c κs = (indexed (c .before .before), risen (c .before .before) (c .before .if1 .taken))
 
 same-length : tie.Need-same-length
 same-length c = search needs
 
 returns : tie.Need-returns
-returns c = (c .beyond-reading .ensures, λ _. c .before .before .before .before .before .before .«open» .ensures .1 (c .before .before .enum-told .given .1))
+returns c = (c .beyond-reading .ensures, λ _. indexed (c .before .before .before))
+
+first-twin-requires : tie.Need-first-twin-requires
+first-twin-requires c κs = (indexed (c .before) .short, indexed (c .before) .clean)
+
+enum-told : tie.Need-enum-told
+enum-told c = search needs
+
+beyond-reading-requires-2 : tie.Need-beyond-reading-requires-2
+beyond-reading-requires-2 c κs = (indexed (c .before .before .before .before .before), scan-twins _ (indexed (c .before .before .before .before .before)) ∙ sym (c .before .before .before .first-twin .ensures) ∙ c .before .enum-told .given .1)
+
+enum-known-number : tie.Need-enum-known-number
+enum-known-number c = search needs
+
+enum-known-number-2 : tie.Need-enum-known-number-2
+enum-known-number-2 c = search needs
 
 same-length-2 : tie.Need-same-length-2
 same-length-2 c = search needs
 
 returns-2 : tie.Need-returns-2
-returns-2 c = (unreadable (c .before .before .before .before .before .before .before .before .before .args .d .now) _ _ (sym (c .before .number .given .1) ∙ c .before .before .before .before .before .«open» .ensures .0), λ e. absurd (not-refused _ _ e))
+returns-2 c = (c .beyond-reading2 .ensures, λ _. indexed (c .before .before .before .before .before .before))
+
+same-length-3 : tie.Need-same-length-3
+same-length-3 c = search needs
+
+returns-3 : tie.Need-returns-3
+returns-3 c = (unreadable _ _ _ (sym (c .before .number .given .1) ∙ c .before .before .before .first-twin .ensures ∙ sym (scan-twins _ (indexed (c .before .before .before .before .before)))), λ e. absurd (not-refused _ _ e))
+
+same-length-4 : tie.Need-same-length-4
+same-length-4 c = search needs
+
+returns-4 : tie.Need-returns-4
+returns-4 c = (unreadable _ _ _ (scan-stopped _ (sym (c .before .number2 .given .1) ∙ c .before .before .before .before .before .scan .ensures .0)), λ e. absurd (not-refused _ _ e))
 
 pub judge-spec : {M : Type 1} → statement M
 judge-spec =
     tie.close
     (tie.spec
-    open-requires
-    enum-told
+    scan-requires
+    enum-known-rising
     beyond-reading-requires
-    enum-known-number
     same-length
     returns
+    first-twin-requires
+    enum-told
+    beyond-reading-requires-2
+    enum-known-number
+    enum-known-number-2
     same-length-2
-    returns-2)
+    returns-2
+    same-length-3
+    returns-3
+    same-length-4
+    returns-4)

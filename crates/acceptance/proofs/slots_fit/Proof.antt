@@ -4,7 +4,7 @@ use mathlib.Core.Bool.{true}
 use Prim.Native.Nat.{_≤_, _-_}
 use native.Mathlib.Omega.{arith}
 use Rattle.lists.specs.Tests.{allBelow}
-use Rattle.acceptance.specs.Looked.{slotsFit}
+use Rattle.acceptance.specs.Looked.{slotFits, slotsFit}
 use Rattle.acceptance.proofs.Unfit.{slots-one-not, slots-next}
 use Rattle.acceptance.proofs.slots_fit.Statement.{statement}
 use Rattle.acceptance.proofs.slots_fit.Tie as tie
@@ -18,14 +18,23 @@ abbrev μ-loop : tie.MeasureT-loop
 loop-holds : tie.Need-loop-holds Inv-loop μ-loop
 loop-holds c = (omega arith, unfold slotsFit allBelow in refl)
 
-add-slot-fits : tie.Need-add-slot-fits Inv-loop μ-loop
-add-slot-fits c = omega arith
+add-held-fits : tie.Need-add-held-fits Inv-loop μ-loop
+add-held-fits c = omega arith
 
-slot-fits-requires : tie.Need-slot-fits-requires Inv-loop μ-loop
-slot-fits-requires c κs = (c .before .before .before .before .pre .0, omega arith)
+mul-held-fits : tie.Need-mul-held-fits Inv-loop μ-loop
+mul-held-fits c = omega arith
+
+shared-slice-read-held-fits : tie.Need-shared-slice-read-held-fits Inv-loop μ-loop
+shared-slice-read-held-fits c = omega arith
+
+held-fits-requires : tie.Need-held-fits-requires Inv-loop μ-loop
+held-fits-requires c κs = c .before .before .before .before .before .pre .0
 
 returns : tie.Need-returns Inv-loop μ-loop
-returns c = slots-one-not (c .before .before .before .before .before .before .args .t) (c .before .before .before .before .before .before .args .d .now) (c .before .before .before .before .before .before .args .index .now) (c .before .before .before .before .before .before .args .j) (c .before .before .before .before .before .before .args .n) (c .before .before .before .loop .i) (c .before .before .loop-test .taken) (sym (not-true _ (c .if1 .taken)) ∙ c .before .slot-fits .ensures)
+unfolding slotFits
+returns c =
+    let a = c .before .before .before .before .before .before .before .args in
+    slots-one-not (a .t) (a .d .now) (a .index .now) (a .j) (a .n) (c .before .before .before .before .loop .i) (c .before .before .before .loop-test .taken) (sym (not-true _ (c .if1 .taken)) ∙ c .before .held-fits .ensures)
 
 add-i : tie.Need-add-i Inv-loop μ-loop
 add-i c = omega arith
@@ -34,7 +43,11 @@ loop-less : tie.Need-loop-less Inv-loop μ-loop
 loop-less c = omega arith
 
 loop-again : tie.Need-loop-again Inv-loop μ-loop
-loop-again c = (omega arith, slots-next (c .before .before .before .before .before .before .args .t) (c .before .before .before .before .before .before .args .d .now) (c .before .before .before .before .before .before .args .index .now) (c .before .before .before .before .before .before .args .j) (c .before .before .before .loop .i) (c .before .before .before .loop .inv .1) (sym (not-false _ (c .if1 .left)) ∙ c .before .slot-fits .ensures))
+unfolding slotFits
+loop-again c =
+    let a = c .before .before .before .before .before .before .before .args in
+    let l = c .before .before .before .before .loop in
+    (omega arith, slots-next (a .t) (a .d .now) (a .index .now) (a .j) (l .i) (l .inv .1) (sym (not-false _ (c .if1 .left)) ∙ c .before .held-fits .ensures))
 
 returns-2 : tie.Need-returns-2 Inv-loop μ-loop
 returns-2 c = sym (c .before .loop .inv .1) ∙ ap (slotsFit (c .before .before .before .before .args .t) (c .before .before .before .before .args .d .now) (c .before .before .before .before .args .index .now) (c .before .before .before .before .args .j)) (omega arith)
@@ -46,8 +59,10 @@ slots-fit-spec =
     Inv-loop
     μ-loop
     loop-holds
-    add-slot-fits
-    slot-fits-requires
+    add-held-fits
+    mul-held-fits
+    shared-slice-read-held-fits
+    held-fits-requires
     returns
     add-i
     loop-less
