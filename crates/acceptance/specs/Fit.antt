@@ -12,18 +12,25 @@ use Rattle.records.specs.Answers.{refuseIf}
 use Rattle.records.specs.Dossier.{firstDrawn}
 use Rattle.station.specs.Current.{current}
 
--- the levels by number
+-- ---- the levels by number
+
+-- "1 energy"
 abbrev pub energy : ℕ
 energy = 1
 
+-- "2 start"
 abbrev pub start : ℕ
 start = 2
 
+-- "3 no-load"
 abbrev pub noLoad : ℕ
 noLoad = 3
 
+-- "4 reserve"
 abbrev pub reserve : ℕ
 reserve = 4
+
+-- ---- what a technology may have
 
 -- "Thermal has all four levels, nuclear level 1 only, storage 1 and 4"
 unfoldable pub levelsOf : ℕ → List ℕ

@@ -38,9 +38,11 @@ failing v meets test k (x ∷ l) rest =
 
 -- ---- an energy offer: "pairs of quantity (2, 0.1 MW) and price s", counted here from 0
 
+-- the quantity of a pair
 unfoldable pub quantity : List ℕ → ℕ → ℕ
 quantity o k = number (6 * k) 2 o
 
+-- its price, held plus 2^31
 unfoldable pub priceAt : List ℕ → ℕ → ℕ
 priceAt o k = biased (number (6 * k + 2) 4 o)
 
@@ -61,5 +63,6 @@ offerFrom s c l o k (suc n) =
 
 -- ---- "Other levels take one signed 32-bit price in cents, of any value": it has no pair and no lamination, and names 0
 
+-- such a price against the level of its kind, tested where the level has a line
 unfoldable pub priceTest : Parameters → ℕ → ℕ → ℕ → List Line → Verdict
 priceTest s c v price l = failing v (λ a b. true) (failsUnder s c v price) 0 l Passes

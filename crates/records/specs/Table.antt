@@ -197,31 +197,41 @@ th =
 unfoldable pub table : List Row
 table = rs ∷ hp ∷ fu ∷ ad ∷ mm ∷ rq ∷ hr ∷ ch ∷ th ∷ []
 
--- a mark is named by its place in the table, from 1; 0 is an unknown mark
+-- ---- a mark is named by its place in the table, from 1; 0 is an unknown mark
+
+-- the station itself
 abbrev pub RS : ℕ
 RS = 1
 
+-- a point of the heat curve
 abbrev pub HP : ℕ
 HP = 2
 
+-- fuel and emission of a profile
 abbrev pub FU : ℕ
 FU = 3
 
+-- a cost that joins a level
 abbrev pub AD : ℕ
 AD = 4
 
+-- an item of major maintenance
 abbrev pub MM : ℕ
 MM = 5
 
+-- a request of a profile for some hours
 abbrev pub RQ : ℕ
 RQ = 6
 
+-- a price of the window
 abbrev pub HR : ℕ
 HR = 7
 
+-- an interval of charging
 abbrev pub CH : ℕ
 CH = 8
 
+-- a threshold of the test
 abbrev pub TH : ℕ
 TH = 9
 

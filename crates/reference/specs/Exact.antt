@@ -17,6 +17,7 @@ pub data Sum : Type 0 where
 
 -- ---- the level: "Each division drops its fraction, in micro-dollars."
 
+-- one division
 unfoldable pub quotient : ℕ → ℕ → ℕ
 quotient n d = n / d
 
@@ -35,13 +36,16 @@ cents s = (s + 5000) / 10000
 
 -- ---- the exact level: "It is one whole number over another, and distances to it are compared by multiplying across."
 
+-- one whole number over another
 pub record Fraction : Type 0 where
   pub num : ℕ
   pub den : ℕ
 
+-- n over d
 abbrev pub over : ℕ → ℕ → Fraction
 over n d = record { num = n; den = d }
 
+-- two fractions added, over the product of their divisors
 unfoldable pub plus : Fraction → Fraction → Fraction
 plus a b = over (a .num * b .den + b .num * a .den) (a .den * b .den)
 
@@ -50,6 +54,7 @@ unfoldable pub sumOver : ℕ → (ℕ → Fraction) → Fraction
 sumOver zero f = over 0 1
 sumOver (suc n) f = plus (sumOver n f) (f (suc n))
 
+-- the greater of two, the second where they are equal
 unfoldable pub greaterOf : Fraction → Fraction → Fraction
 greaterOf a b = cond (leb (a .num * b .den) (b .num * a .den)) b a
 

@@ -14,9 +14,11 @@ use Rattle.reference.specs.Exact.{Sum, whole, share, _⊕_, total, perTh
 
 -- ---- what a dossier's current records say
 
+-- without money
 abbrev pub parametersIn : List ℕ → Parameters
 parametersIn d = parameters (records d)
 
+-- the money
 abbrev pub amountsIn : List ℕ → Amounts
 amountsIn d = amounts (records d)
 
@@ -61,6 +63,7 @@ thermalEnergy s m p i =
 unfoldable pub heatCost : Parameters → Amounts → ℕ → ℕ → Sum
 heatCost s m p h = share (h * fuel m p * factor s) 1000000 ⊕ share (h * emission m p) 1000
 
+-- the start: its heat's cost, its adders and maintenance
 unfoldable pub startCost : Parameters → Amounts → ℕ → Sum
 startCost s m p = heatCost s m p (startHeat s) ⊕ adders m p start ⊕ startMaintenance s m p
 
@@ -110,6 +113,7 @@ pub record Line : Type 0 where
   pub to : ℕ
   pub sum : Sum
 
+-- a line of these, in the order of `Line`
 abbrev pub line : ℕ → ℕ → ℕ → ℕ → Sum → Line
 line v i a b x = record { level = v; lamination = i; from = a; to = b; sum = x }
 

@@ -12,7 +12,7 @@ use Rattle.reference.specs.declared.HourLevels.{HourLevels}
 use Rattle.reference.specs.declared.LevelsAnswer.{LevelsAnswer}
 use Rattle.reference.specs.Levels.{parametersIn, profile, Line, amount, levels}
 
--- what a line shows: all but its formula
+-- a line without its formula
 pub record Shown : Type 0 where
   pub level : ℕ
   pub lamination : ℕ
@@ -20,9 +20,11 @@ pub record Shown : Type 0 where
   pub to : ℕ
   pub cents : ℕ
 
+-- these at once, in the order of `Shown`
 abbrev pub row : ℕ → ℕ → ℕ → ℕ → ℕ → Shown
 row v i a b x = record { level = v; lamination = i; from = a; to = b; cents = x }
 
+-- what a line shows
 abbrev pub shown : Line → Shown
 shown x = row (x .level) (x .lamination) (x .from) (x .to) (amount x)
 
@@ -89,6 +91,7 @@ packed t p l =
 abbrev pub noLevels : HourLevels
 noLevels = hourLevels 0 0 0 (replicate 20 0) (replicate 20 0) (replicate 20 0) 0 0 0
 
+-- both: refused, or accepted with its levels
 unfoldable pub levelsAnswer : List ℕ → ℕ → LevelsAnswer
 levelsAnswer d h =
     record {

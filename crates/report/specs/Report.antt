@@ -20,6 +20,7 @@ use Rattle.text.specs.Text.{decimal, tenths, hundredths, refusalLine, profileWo
 
 -- ---- the lines, "each line ended by byte 10"
 
+-- the profile's line
 unfoldable pub profileLine : ℕ → List ℕ
 profileLine p = profileWord ++ decimal p ++ newline
 
@@ -31,6 +32,7 @@ energyLine i a b x = energyWord ++ decimal i ++ space ++ tenths a ++ space ++ te
 unfoldable pub amountLine : List ℕ → ℕ → List ℕ
 amountLine word x = word ++ hundredths x ++ newline
 
+-- the line of a level, by its kind
 unfoldable pub levelLine : Shown → List ℕ
 levelLine x =
     cond (eqb (x .level) energy) (energyLine (x .lamination) (x .from) (x .to) (x .cents))

@@ -1,3 +1,4 @@
+pub mod Worked
 pub mod Current
 pub mod Twins
 pub mod Parameters
