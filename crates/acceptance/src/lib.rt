@@ -173,7 +173,7 @@ fn slots_fit(d: &[u8], index: &[u16], t: u8, j: usize, n: usize) -> bool
 }
 
 // Whether n slots from slot j on are empty.
-fn slots_empty(index: &[u16], j: usize, n: usize) -> bool
+pub fn slots_empty(index: &[u16], j: usize, n: usize) -> bool
     requires { ⌜ j + n ≤ length (now index) ⌝ }
     ensures { λ r. ⌜ r ≡ slotsEmpty (now (index .entry)) j n ⌝ }
 {

@@ -39,6 +39,11 @@ place-ends e ix j n q = rw q (go (eqb (getD ix j 0) 0 || ltb e (getD ix j 0 - 1 
 
 -- ---- what a slot holds
 
+-- an empty slot has no part
+pub part-none : (d ix : List ℕ) (j n : ℕ) → getD ix j 0 ≡ 0 → partAt d ix j n ≡ []
+unfolding partAt placeAt bytesOf
+part-none d ix j n e = rw e refl
+
 module _ (len : ℕ) (d : List ℕ) (v : ℕ) (c : List ℕ) (q : ℕ) where
   held-place : (ix : List ℕ) (j : ℕ) → getD ix j 0 ≡ v → length d ≤ 60000 → Holds len d (length d) v c q → placeAt (length d) ix j len ≡ part q (length c)
   unfolding placeAt
@@ -165,6 +170,10 @@ pub three-field : (x y z : ℕ) → 1 ≤ x → x ≤ 4 → 1 ≤ y → y ≤ 5 
 unfolding Spans shapeOf shape rowOf table
 three-field x y z p q r s t u =
     record { known = lit≤ tt; low = lit< tt; spans = ((omega arith, omega arith), (omega arith, omega arith), (omega arith, omega arith)) }
+
+pub interval-key : (n : ℕ) → 1 ≤ n → n ≤ 2016 → InKey 8 n
+unfolding shapeOf shape rowOf table
+interval-key n a b = one-field 8 n (lit≤ tt) (lit< tt) refl a b
 
 -- ---- the slot by kind
 

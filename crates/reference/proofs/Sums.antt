@@ -2,7 +2,7 @@
 use mathlib.Core.Path.{_≡_, refl, ap, _∙_}
 use mathlib.Core.Bool.{Bool, true, false, cond}
 use mathlib.Core.List.{List, [], _∷_}
-use Prim.Native.Nat.{ℕ, zero, suc, _+_, _≤_, max, min}
+use Prim.Native.Nat.{ℕ, zero, suc, _+_, _≤_, _<_, max, min}
 use native.Mathlib.Nat.{le-refl, le-trans, add-le-add, add-comm, max-eq-left, max-eq-right, min-eq-left, min-eq-right}
 use native.Mathlib.Decide.{decLe}
 use native.Mathlib.Numerals.{add-one}
@@ -32,6 +32,16 @@ pub sumTo-mono : (n : ℕ) {f g : ℕ → ℕ} → ((k : ℕ) → f k ≤ g k) �
 unfolding sumTo
 sumTo-mono zero h = le-refl 0
 sumTo-mono (suc n) h = add-le-add (sumTo-mono n h) (h (suc n))
+
+-- parts that are 0 add nothing
+pub sumTo-zeros : (f : ℕ → ℕ) (n m : ℕ) → ((i : ℕ) → i < m → f (suc (n + i)) ≡ 0) → sumTo (n + m) f ≡ sumTo n f
+unfolding sumTo
+sumTo-zeros f n zero h =
+    let e : n + 0 ≡ n = omega arith in
+    rw e refl
+sumTo-zeros f n (suc m) h =
+    let e : n + suc m ≡ suc (n + m) = omega arith in
+    rw (e, h m (omega arith), sumTo-zeros f n m (λ i q. h i (omega arith))) (omega arith)
 
 -- one more turn of a loop that sums, and its end
 pub sum-more : (f : ℕ → ℕ) (n s x : ℕ) → s ≡ sumTo n f → x ≡ f (n + 1) → s + x ≡ sumTo (n + 1) f

@@ -1,6 +1,6 @@
 // The storage level: the greater of the short-run cost and the opportunity cost.
 ghost use mathlib.Core.Path.{_≡_};
-ghost use Prim.Native.Nat.{_*_, _-_, _≤_};
+ghost use Prim.Native.Nat.{_+_, _*_, _-_, _≤_};
 ghost use lib.ListN.{length, drop};
 ghost use Rattle.station.specs.Parameters.{window, hourPrice, chargePrice, chargeEnergy};
 ghost use Rattle.lookup.specs.Parts.{Indexed};
@@ -8,6 +8,7 @@ ghost use Rattle.acceptance.specs.Curve.{fullHours};
 ghost use Rattle.reference.specs.Sums.{sumTo, listTo, sumHighest};
 ghost use Rattle.reference.specs.Exact.{dropped};
 ghost use Rattle.reference.specs.Levels.{parametersIn, amountsIn, totalEnergy, chargingCost, shortRunCost, opportunityCost, storageEnergy};
+ghost use Rattle.reference.specs.Intervals.{Summed};
 use crate::formulas::biased;
 use crate::formulas::greater;
 use crate::formulas::less;
@@ -37,21 +38,46 @@ fn interval(d: &[u8], index: &[u16], n: usize) -> Charging
     }
 }
 
+// The sums over intervals 1 to n, with the 32 after them one by one.
+fn with_each(d: &[u8], index: &[u16], n: usize, before: Charging) -> Charging
+    requires { ⌜ Indexed (now d) (now index) × (n + 32 ≤ 2016) × Summed (now d) n (before .cost) (before .energy) ⌝ }
+    ensures { λ r. ⌜ Summed (now (d .entry)) (n + 32) (r .cost) (r .energy) ⌝ }
+{
+    let mut cost = before.cost;
+    let mut energy = before.energy;
+    let mut k = n;
+    while k < n + 32 {
+        let c = interval(d, index, k + 1);
+        cost += c.cost;
+        energy += c.energy;
+        k += 1;
+    }
+    Charging { cost, energy }
+}
+
+// The same, sooner where none of the 32 has a record: they are passed over at once.
+fn with_block(d: &[u8], index: &[u16], n: usize, before: Charging) -> Charging
+    requires { ⌜ Indexed (now d) (now index) × (n + 32 ≤ 2016) × Summed (now d) n (before .cost) (before .energy) ⌝ }
+    ensures { λ r. ⌜ Summed (now (d .entry)) (n + 32) (r .cost) (r .energy) ⌝ }
+{
+    if acceptance::slots_empty(index, index::slot_ch(n + 1), 32) {
+        return before;
+    }
+    with_each(d, index, n, before)
+}
+
 // All intervals.
 fn intervals(d: &[u8], index: &[u16]) -> Charging
     requires { ⌜ Indexed (now d) (now index) ⌝ }
     ensures { λ r. ⌜ (r .cost ≡ sumTo 2016 (λ n. chargePrice (amountsIn (now (d .entry))) n * chargeEnergy (parametersIn (now (d .entry))) n)) × (r .energy ≡ totalEnergy (parametersIn (now (d .entry)))) × (r .cost ≤ 2147683648 * r .energy) × (r .energy ≤ 2016000000) ⌝ }
 {
-    let mut cost = 0;
-    let mut energy = 0;
+    let mut sums = Charging { cost: 0, energy: 0 };
     let mut n = 0;
     while n < 2016 {
-        let c = interval(d, index, n + 1);
-        cost += c.cost;
-        energy += c.energy;
-        n += 1;
+        sums = with_block(d, index, n, sums);
+        n += 32;
     }
-    Charging { cost, energy }
+    sums
 }
 
 // The charging cost.

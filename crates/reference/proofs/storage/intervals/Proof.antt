@@ -1,41 +1,25 @@
 use borrow.Author.Needs.{needs}
 use mathlib.Core.Path.{_≡_}
-use Prim.Native.Nat.{_*_, _-_, _≤_}
+use Prim.Native.Nat.{_-_, _%_, _≤_}
 use native.Mathlib.Omega.{arith}
-use Rattle.records.specs.Dossier.{records}
-use Rattle.station.specs.Parameters.{parameters, amounts, chargePrice, chargeEnergy}
-use Rattle.reference.specs.Sums.{sumTo}
 use Rattle.reference.specs.Levels.{totalEnergy}
-use Rattle.reference.proofs.Sums.{sum-more, sum-ends}
+use Rattle.reference.specs.Intervals.{Summed}
+use Rattle.reference.proofs.Sums.{sum-ends}
+use Rattle.reference.proofs.Intervals.{summed-none}
 use Rattle.reference.proofs.storage.intervals.Statement.{statement}
 use Rattle.reference.proofs.storage.intervals.Tie as tie
 
 abbrev Inv-loop : tie.InvT-loop
-Inv-loop d index cost₀ energy₀ n₀ cost energy n =
-    (n ≤ 2016)
-    × (cost ≡ sumTo n (λ k. chargePrice (amounts (records d)) k * chargeEnergy (parameters (records d)) k))
-    × (energy ≡ sumTo n (λ k. chargeEnergy (parameters (records d)) k))
-    × (cost ≤ 2147683648 * energy)
-    × (energy ≤ n * 1000000)
+Inv-loop d index sums₀ n₀ sums n = (n ≤ 2016) × (n % 32 ≡ 0) × Summed d n (sums .cost) (sums .energy)
 
 abbrev μ-loop : tie.MeasureT-loop
-μ-loop d index cost₀ energy₀ n₀ cost energy n = 2016 - n
+μ-loop d index sums₀ n₀ sums n = 2016 - n
 
 loop-holds : tie.Need-loop-holds Inv-loop μ-loop
-unfolding sumTo
-loop-holds c = (search needs, search needs, search needs, search needs, search needs)
+loop-holds c = (omega arith, omega arith, summed-none _)
 
-add-interval : tie.Need-add-interval Inv-loop μ-loop
-add-interval c = omega arith
-
-interval-requires : tie.Need-interval-requires Inv-loop μ-loop
-interval-requires c κs = search needs
-
-add-cost : tie.Need-add-cost Inv-loop μ-loop
-add-cost c = omega arith
-
-add-energy : tie.Need-add-energy Inv-loop μ-loop
-add-energy c = omega arith
+with-block-requires : tie.Need-with-block-requires Inv-loop μ-loop
+with-block-requires c κs = (search needs, omega arith, c .before .loop .inv .2)
 
 add-n : tie.Need-add-n Inv-loop μ-loop
 add-n c = omega arith
@@ -44,29 +28,16 @@ loop-less : tie.Need-loop-less Inv-loop μ-loop
 loop-less c = omega arith
 
 loop-again : tie.Need-loop-again Inv-loop μ-loop
-loop-again c =
-    let h = c .before .before .before .before .loop .inv in
-    let e = c .before .before .interval .ensures in
-    (omega arith, sum-more _ _ _ _ (h .1) (e .0), sum-more _ _ _ _ (h .2) (e .1), omega arith, omega arith)
+loop-again c = (omega arith, omega arith, c .with-block .ensures)
 
 returns : tie.Need-returns Inv-loop μ-loop
 unfolding totalEnergy
 returns c =
     let l = c .before .loop in
-    (sum-ends _ (l .n) 2016 _ (c .loop-test .left) (l .inv .0) (l .inv .1), sum-ends _ (l .n) 2016 _ (c .loop-test .left) (l .inv .0) (l .inv .2), l .inv .3, omega arith)
+    let s = l .inv .2 in
+    (sum-ends _ (l .n) 2016 _ (c .loop-test .left) (l .inv .0) (s .cost-sum), sum-ends _ (l .n) 2016 _ (c .loop-test .left) (l .inv .0) (s .energy-sum), s .cost-high, omega (arith, s .energy-high))
 
 pub intervals-spec : {M : Type 1} → statement M
 intervals-spec =
     tie.close
-    (tie.spec
-    Inv-loop
-    μ-loop
-    loop-holds
-    add-interval
-    interval-requires
-    add-cost
-    add-energy
-    add-n
-    loop-less
-    loop-again
-    returns)
+    (tie.spec Inv-loop μ-loop loop-holds with-block-requires add-n loop-less loop-again returns)
