@@ -2,13 +2,16 @@
 use mathlib.Core.Path.{_≡_, refl, ap, ap₂, sym, _∙_}
 use mathlib.Core.Bool.{Bool, true, false, cond, _&&_, _||_, not}
 use mathlib.Core.List.{List}
-use Prim.Native.Nat.{ℕ, zero, suc, _<_}
+use Prim.Native.Nat.{ℕ, zero, suc, _/_, _%_, _≤_, _<_}
 use native.Mathlib.Omega.{arith}
-use lib.Dec.{ltb, eqb}
-use Rattle.lists.specs.Tests.{allBelow, among}
+use lib.Dec.{ltb, eqb, lit<}
+use borrow.Author.Tests.{ne-eqb}
+use Rattle.lists.specs.Tests.{allBelow, among, between}
+use Rattle.lists.proofs.Tests.{between-low, between-high}
 use Rattle.fields.specs.Numbers.{number}
 use Rattle.records.specs.Table.{table, rowOf, fieldOf}
-use Rattle.records.specs.Record.{mark, size, offsetIn, offset, read, value}
+use Rattle.records.specs.Record.{mark, size, offsetIn, offset, read, value, inRange, rangesHold}
+use Rattle.records.proofs.Record.{field-in}
 use Rattle.acceptance.specs.Fit.{levelsOf, holds, fieldFits, ruleFits, fits}
 use Rattle.acceptance.specs.declared.Tried.{Tried}
 use Rattle.acceptance.specs.Looked.{Known, triedAs}
@@ -125,3 +128,31 @@ no-mark (suc (suc (suc (suc (suc (suc (suc zero))))))) a1 a2 a3 a4 a5 a6 a7 a8 a
 no-mark (suc (suc (suc (suc (suc (suc (suc (suc zero)))))))) a1 a2 a3 a4 a5 a6 a7 a8 a9 h = absurd (a8 refl)
 no-mark (suc (suc (suc (suc (suc (suc (suc (suc (suc zero))))))))) a1 a2 a3 a4 a5 a6 a7 a8 a9 h = absurd (a9 refl)
 no-mark (suc (suc (suc (suc (suc (suc (suc (suc (suc (suc k)))))))))) a1 a2 a3 a4 a5 a6 a7 a8 a9 h = absurd (omega arith)
+
+-- ---- a thermal station has every level, so AD fits unless its cost is 5, and TH fits
+
+held-four : (v : ℕ) → 1 ≤ v → v ≤ 4 → holds 1 v ≡ true
+unfolding holds levelsOf among
+held-four zero a b = absurd (omega arith)
+held-four (suc zero) a b = refl
+held-four (suc (suc zero)) a b = refl
+held-four (suc (suc (suc zero))) a b = refl
+held-four (suc (suc (suc (suc zero)))) a b = refl
+held-four (suc (suc (suc (suc (suc v))))) a b = absurd (omega arith)
+
+module _ (s : List ℕ) where
+  pub thermal-ad : rangesHold 4 s ≡ true → (number 6 3 s / 256 % 256 ≡ 5 → ⊥) → fits 1 4 s ≡ true
+  unfolding inRange value read offset offsetIn fieldOf rowOf table number
+  thermal-ad h n =
+      let c : between 1 5 (number 7 1 s) ≡ true = field-in 4 1 s h (lit< tt) in
+      let v : between 1 4 (number 8 1 s) ≡ true = field-in 4 2 s h (lit< tt) in
+      let low = between-low 1 4 (number 8 1 s) v in
+      let high = between-high 1 4 (number 8 1 s) v in
+      sym (fits-ad 1 s (omega arith, omega arith))
+      ∙ rw (held-four (number 8 1 s) low high, ne-eqb (number 7 1 s) 5 (λ e. n (omega (arith, e, high)))) refl
+
+  pub thermal-th : rangesHold 9 s ≡ true → fits 1 9 s ≡ true
+  unfolding inRange value read offset offsetIn fieldOf rowOf table
+  thermal-th h =
+      let v : between 1 4 (number 7 1 s) ≡ true = field-in 9 1 s h (lit< tt) in
+      sym (fits-th 1 s (omega arith, omega arith)) ∙ held-four (number 7 1 s) (between-low 1 4 (number 7 1 s) v) (between-high 1 4 (number 7 1 s) v)

@@ -3,15 +3,16 @@ use mathlib.Core.Path.{_≡_, refl, ap, sym, subst, _∙_}
 use mathlib.Core.Bool.{Bool, true, false, cond, _&&_, _||_, not, false≢true}
 use mathlib.Core.List.{List, [], _∷_}
 use Prim.Native.Nat.{ℕ, zero, suc, _+_, _*_, _-_, _/_, _≤_, _<_}
+use native.Mathlib.Nat.{le-refl}
 use native.Mathlib.Decide.{ℕ-discrete}
 use native.Mathlib.Numerals.{add-one}
 use native.Mathlib.Omega.{arith}
 use lib.Arith.{lt-of-le-ne}
 use lib.Dec.{leb, ltb, eqb, lit≤}
-use lib.ListN.{length}
-use borrow.Author.Tests.{lt-ltb, le-ltb, le-leb, lt-leb, eq-eqb, ne-eqb}
+use lib.ListN.{length, getD}
+use borrow.Author.Tests.{lt-ltb, le-ltb, le-leb, lt-leb, eqb-true, eq-eqb, ne-eqb}
 use Rattle.lists.specs.Tests.{allTo, countTo}
-use Rattle.lists.proofs.Tests.{and-left, and-right, and-both, between-low, between-high}
+use Rattle.lists.proofs.Tests.{below-at, and-left, and-right, and-both, between-low, between-high}
 use Rattle.fields.specs.Numbers.{number}
 use Rattle.fields.proofs.Numbers.{number-nil}
 use Rattle.records.specs.Table.{table, rowOf, fieldOf, RS, HP, FU, RQ, HR}
@@ -22,9 +23,11 @@ use Rattle.station.specs.Current.{current, present}
 use Rattle.station.specs.Parameters.{Parameters, parameters, technology, capacity, charge, window, output, heat, requested}
 use Rattle.station.proofs.Parameters.{says-high}
 use Rattle.station.proofs.Fields.{output-at, heat-at, requested-at}
+use Rattle.index.specs.Slots.{slot}
 use Rattle.lookup.specs.Parts.{Indexed}
+use Rattle.lookup.proofs.Parts.{request-key, current-none}
 use Rattle.acceptance.specs.Curve.{points, rise, curveHolds, curveFits, fuelHolds, fullHours, hoursHold, windowFits}
-use Rattle.acceptance.specs.Looked.{Known, lastRise, legHolds, fuelled}
+use Rattle.acceptance.specs.Looked.{Known, slotsEmpty, lastRise, legHolds, fuelled}
 use Rattle.acceptance.proofs.ByMark.{and-true}
 use Rattle.acceptance.proofs.Sound.{clean-range}
 
@@ -265,9 +268,28 @@ module _ (l : List (List ℕ)) (n p : ℕ) {part : List ℕ} (e : part ≡ curre
       let h : parameters l .has RQ n ≡ true = sym (there-is l RQ n e) ∙ there-if part (λ w. z (ep ∙ w)) in
       rw (h, ← p-is, ne-eqb p 0 z) (there-is l FU p f)
 
-pub fuel-whole : (l : List (List ℕ)) (n : ℕ) {a b : Bool} → a ≡ parameters l .has FU 1 → n ≡ 16 → b ≡ allTo n (fuelled (parameters l)) → a && b ≡ fuelHolds (parameters l)
+pub fuel-whole : (l : List (List ℕ)) {a b : Bool} → a ≡ parameters l .has FU 1 → b ≡ allTo 16 (fuelled (parameters l)) → a && b ≡ fuelHolds (parameters l)
 unfolding fuelHolds
-fuel-whole l n p e q = rw (p, q, e) refl
+fuel-whole l p q = rw (p, q) refl
+
+-- where the slots of all requests are empty, there is none
+module _ (d ix : List ℕ) (h : Indexed d ix) {j : ℕ} (first : j ≡ slot RQ 1) (empty : slotsEmpty ix j 16 ≡ true) where
+  unrequested : (n : ℕ) → n < 16 → current RQ (n + 1) (records d) ≡ []
+  unfolding slotsEmpty slot
+  unrequested n p =
+      let w : j + n ≡ slot RQ (n + 1) = omega (arith, first) in
+      current-none d ix h RQ (n + 1) (request-key (n + 1) (omega arith) (omega arith))
+      (ap (λ (k : ℕ). getD ix k 0) (sym w) ∙ eqb-true (getD ix (j + n) 0) 0 (below-at 16 (λ k. eqb (getD ix (j + k) 0) 0) empty n p))
+
+  fuelled-to : (n : ℕ) → n ≤ 16 → true ≡ allTo n (fuelled (parameters (records d)))
+  unfolding allTo
+  fuelled-to zero p = refl
+  fuelled-to (suc n) p =
+      let k : fuelled (parameters (records d)) (n + 1) ≡ true = sym (request-none (records d) (n + 1) 0 {part = []} (sym (unrequested n (omega arith))) (sym (number-nil 15 1)) refl) in
+      rw (← fuelled-to n (omega arith), ← add-one n, k) refl
+
+  pub requests-none : true ≡ allTo 16 (fuelled (parameters (records d)))
+  requests-none = fuelled-to 16 (le-refl 16)
 
 -- ---- ranges
 

@@ -3,7 +3,7 @@ use mathlib.Core.Path.{_≡_, refl, ap, ap₂, sym, subst, _∙_}
 use mathlib.Core.Bool.{Bool, true, false, cond, _&&_, _||_, not, false≢true}
 use mathlib.Core.List.{List, [], _∷_}
 use mathlib.Core.Logic.{_⊎_, inl, inr}
-use Prim.Native.Nat.{ℕ, zero, suc, _+_, _-_, _%_, _≤_, _<_}
+use Prim.Native.Nat.{ℕ, zero, suc, _+_, _-_, _*_, _/_, _%_, _≤_, _<_}
 use native.Mathlib.Numerals.{add-one}
 use native.Mathlib.Omega.{arith}
 use lib.Bits.{bitOr, and-le-r, or-add-and}
@@ -17,8 +17,9 @@ use Rattle.lists.proofs.Lists.{member-each}
 use Rattle.lists.proofs.Tests.{split, below-at}
 use Rattle.fields.specs.Numbers.{number}
 use Rattle.records.specs.declared.Answer.the-variants.{Accepted, Refused}
-use Rattle.records.specs.Table.{rowOf, fieldOf, AD, TH}
-use Rattle.records.specs.Record.{mark, size, issue, keyOf, offset, read, value, fault}
+use Rattle.records.specs.Table.{table, rowOf, fieldOf, AD, TH}
+use Rattle.records.specs.Shapes.{shape, shapeOf}
+use Rattle.records.specs.Record.{mark, size, issue, keyIn, keyWidth, keyOf, offset, read, value, rangesHold, fault}
 use Rattle.records.specs.Answers.{orElse, refuseIf}
 use Rattle.records.specs.declared.Found.the-variants.{Record}
 use Rattle.records.specs.Walk.{found}
@@ -33,15 +34,15 @@ use Rattle.station.specs.Declared.{CurrentOf, absent, standing, Distinct}
 use Rattle.station.proofs.Current.{current-found, matches-self}
 use Rattle.station.proofs.Twins.{twins-distinct}
 use Rattle.index.specs.Slots.{slotAt, slot}
-use Rattle.index.proofs.Slots.{InKey, in-key, slot-lt, at-mark, low, high, limits}
+use Rattle.index.proofs.Slots.{Spans, InKey, in-key, slot-lt, at-mark, low, high, limits}
 use Rattle.index.proofs.Turn.{tail, its-slot as found-slot}
 use Rattle.index.specs.declared.Entry.{Entry}
 use Rattle.index.specs.Entries.{entryAs}
 use Rattle.lookup.specs.Parts.{part, bytesOf, placeAt, partAt, Indexed}
 use Rattle.lookup.proofs.Parts.{part-current}
 use Rattle.acceptance.specs.Fit.{holds, fieldFits, ruleFits, fits, isCurrent, unfit}
-use Rattle.acceptance.specs.Looked.{Known, heldFits, slotFits, slotsFit, slotsEmpty, allFit, notFit}
-use Rattle.acceptance.proofs.ByMark.{and-true, fits-hp, fits-fu, fits-mm, fits-rq, fits-none, fits-hr, fits-ch}
+use Rattle.acceptance.specs.Looked.{Known, heldFits, slotFits, slotsFit, slotsEmpty, thermalFit, otherFit, allFit, notFit}
+use Rattle.acceptance.proofs.ByMark.{and-true, fits-hp, fits-fu, fits-mm, fits-rq, fits-none, fits-hr, fits-ch, thermal-ad, thermal-th}
 use Rattle.acceptance.proofs.Sound.{each-unfit}
 
 -- ---- a record cut from the rest fits as the rest does
@@ -109,6 +110,11 @@ each-member (a ∷ l) f = also (f a here) (each-member l (λ b m. f b (there m))
 
 -- ---- every slot fits
 
+three : (a b c : Bool) → a && b && c ≡ true → (a ≡ true) × (b ≡ true) × (c ≡ true)
+three true true c h = (refl, refl, h)
+three true false c h = absurd (false≢true h)
+three false b c h = absurd (false≢true h)
+
 part-there : (d ix : List ℕ) (j n : ℕ) (r : List ℕ) → (r ≡ [] → ⊥) → partAt d ix j n ≡ r → (eqb (getD ix j 0) 0 ≡ false) × (take n (drop (getD ix j 0 - 1) d) ≡ r)
 unfolding partAt bytesOf placeAt
 part-there d ix j n r z = go (eqb (getD ix j 0) 0) (ltb (length d) (getD ix j 0 - 1 + n))
@@ -124,54 +130,76 @@ module _ (t : ℕ) (d ix : List ℕ) where
   region a n j e p q =
       subst (λ (i : ℕ). slotFits t d ix i ≡ true) (omega arith) (below-at n (λ i. slotFits t d ix (a + i)) e (j - a) (omega arith))
 
+  empty-fits : (a n j : ℕ) → slotsEmpty ix a n ≡ true → a ≤ j → j < a + n → slotFits t d ix j ≡ true
+  unfolding slotsEmpty slotFits
+  empty-fits a n j e p q =
+      let k : a + (j - a) ≡ j = omega arith in
+      let g : eqb (getD ix j 0) 0 ≡ true = rw k at (below-at n (λ i. eqb (getD ix (a + i) 0) 0) e (j - a) (omega arith)) in
+      rw g refl
+
+  -- every record of the mark and key fits, or the slot was looked at
+  abbrev Looked : ℕ → ℕ → Type 0
+  Looked k n = ((s : List ℕ) → rangesHold k s ≡ true → number 6 (keyWidth k) s ≡ n → fits t k s ≡ true) ⊎ (slotFits t d ix (slot k n) ≡ true)
+
   module _ (known : Known t) (e : allFit t d ix ≡ true) where
-    parts : (slotsFit t d ix 0 1 ≡ true) × (slotsFit t d ix 1 (cond (eqb t 1) 0 25) ≡ true) × (slotsFit t d ix 26 (cond (eqb t 1) 80 112) ≡ true) × (slotsFit t d ix 2338 12 ≡ true) × (slotsEmpty ix 154 (cond (eqb t 3) 0 2184) ≡ true)
-    unfolding allFit
-    parts = five (slotsFit t d ix 0 1) (slotsFit t d ix 1 (cond (eqb t 1) 0 25)) (slotsFit t d ix 26 (cond (eqb t 1) 80 112)) (slotsFit t d ix 2338 12) _ e
-      where
-        five : (a b c d e : Bool) → a && b && c && d && e ≡ true → (a ≡ true) × (b ≡ true) × (c ≡ true) × (d ≡ true) × (e ≡ true)
-        five true true true true e h = (refl, refl, refl, refl, h)
-        five true true true false e h = absurd (false≢true h)
-        five true true false d e h = absurd (false≢true h)
-        five true false c d e h = absurd (false≢true h)
-        five false b c d e h = absurd (false≢true h)
+    module _ (z : eqb t 1 ≡ true) where
+      is-thermal : t ≡ 1
+      is-thermal = eqb-true t 1 z
 
-    -- the slots of HP and FU, of AD, and of MM
-    points : eqb t 1 ≡ false → slotsFit t d ix 1 25 ≡ true
-    points z = rw z at (parts .1)
+      thermal-parts : (slotsFit t d ix 0 1 ≡ true) × (allBelow 4 (λ p. slotsEmpty ix (42 + 20 * p) 4) ≡ true) × (slotsEmpty ix 154 2184 ≡ true)
+      unfolding allFit thermalFit
+      thermal-parts = rw is-thermal (three _ _ _ (rw z at e))
 
-    items : eqb t 1 ≡ false → slotsFit t d ix 26 112 ≡ true
-    items z = rw z at (parts .2)
+      -- an AD of cost 5 would stand in one of the slots that are empty
+      prorated : (n : ℕ) → InKey 4 n → n / 256 % 256 ≡ 5 → slotFits t d ix (slot 4 n) ≡ true
+      unfolding slot Spans shapeOf shape rowOf table
+      prorated n q five =
+          let p = n / 65536 - 1 in
+          empty-fits (42 + 20 * p) 4 (slot 4 n) (below-at 4 (λ p. slotsEmpty ix (42 + 20 * p) 4) (thermal-parts .1) p (omega (arith, q .spans))) (omega (arith, q .spans, five)) (omega (arith, q .spans, five))
 
-    adders : (j : ℕ) → 26 ≤ j → j < 106 → slotFits t d ix j ≡ true
-    adders j p q = split (eqb t 1) (λ z. region 26 80 j (rw z at (parts .2)) p (omega arith)) (λ z. region 26 112 j (items z) p (omega arith))
+      thermal-looked : (k n : ℕ) → InKey k n → Looked k n
+      unfolding low high keyWidth keyIn rowOf table
+      thermal-looked k n p =
+          at-mark (λ k. InKey k n → Looked k n) k n p
+          (λ q. inr (region 0 1 (slot 1 n) (thermal-parts .0) (omega arith) (omega (arith, limits 1 n q))))
+          (λ q. inl (λ s _ _. sym (fits-hp t s known) ∙ z))
+          (λ q. inl (λ s _ _. sym (fits-fu t s known) ∙ rw z refl))
+          (λ q. split (eqb (n / 256 % 256) 5) (λ w. inr (prorated n q (eqb-true (n / 256 % 256) 5 w))) (λ w. inl (λ s g i. rw is-thermal (thermal-ad s g (λ c. eqb-false (n / 256 % 256) 5 w (sym (ap (λ (x : ℕ). x / 256 % 256) i) ∙ c))))))
+          (λ q. inl (λ s _ _. sym (fits-mm t s known) ∙ rw z refl))
+          (λ q. inl (λ s _ _. sym (fits-rq t s known)))
+          (λ q. inr (empty-fits 154 2184 (slot 7 n) (thermal-parts .2) (omega (arith, limits 7 n q)) (omega (arith, limits 7 n q))))
+          (λ q. inr (empty-fits 154 2184 (slot 8 n) (thermal-parts .2) (omega (arith, limits 8 n q)) (omega (arith, limits 8 n q))))
+          (λ q. inl (λ s g _. rw is-thermal (thermal-th s g)))
+          p
 
-    priced : eqb t 3 ≡ false → (j : ℕ) → 154 ≤ j → j < 2338 → slotFits t d ix j ≡ true
-    unfolding allFit slotsEmpty slotFits
-    priced z j p q =
-        let w : slotsEmpty ix 154 2184 ≡ true = rw z at (parts .4) in
-        let k : 154 + (j - 154) ≡ j = omega arith in
-        let g : eqb (getD ix j 0) 0 ≡ true = rw k at (below-at 2184 (λ i. eqb (getD ix (154 + i) 0) 0) w (j - 154) (omega arith)) in
-        rw g refl
+    module _ (z : eqb t 1 ≡ false) where
+      other-parts : (slotsFit t d ix 0 138 ≡ true) × (slotsFit t d ix 2338 12 ≡ true) × (slotsEmpty ix 154 (cond (eqb t 3) 0 2184) ≡ true)
+      unfolding allFit otherFit
+      other-parts = three _ _ _ (rw z at e)
 
-    -- every record of the mark fits, or the slot was looked at
-    abbrev Looked : ℕ → ℕ → Type 0
-    Looked k n = ((s : List ℕ) → fits t k s ≡ true) ⊎ (slotFits t d ix (slot k n) ≡ true)
+      priced : eqb t 3 ≡ false → (j : ℕ) → 154 ≤ j → j < 2338 → slotFits t d ix j ≡ true
+      priced w j p q = empty-fits 154 2184 j (rw w at (other-parts .2)) p (omega arith)
+
+      other-looked : (k n : ℕ) → InKey k n → Looked k n
+      unfolding low high
+      other-looked k n p =
+          at-mark (λ k. InKey k n → Looked k n) k n p
+          (λ q. first 1 n q (omega (arith, limits 1 n q)))
+          (λ q. first 2 n q (omega (arith, limits 2 n q)))
+          (λ q. first 3 n q (omega (arith, limits 3 n q)))
+          (λ q. first 4 n q (omega (arith, limits 4 n q)))
+          (λ q. first 5 n q (omega (arith, limits 5 n q)))
+          (λ q. inl (λ s _ _. sym (fits-rq t s known)))
+          (λ q. split (eqb t 3) (λ w. inl (λ s _ _. sym (fits-hr t s known) ∙ w)) (λ w. inr (priced w (slot 7 n) (omega (arith, limits 7 n q)) (omega (arith, limits 7 n q)))))
+          (λ q. split (eqb t 3) (λ w. inl (λ s _ _. sym (fits-ch t s known) ∙ w)) (λ w. inr (priced w (slot 8 n) (omega (arith, limits 8 n q)) (omega (arith, limits 8 n q)))))
+          (λ q. inr (region 2338 12 (slot 9 n) (other-parts .1) (omega (arith, limits 9 n q)) (omega (arith, limits 9 n q))))
+          p
+        where
+          first : (k n : ℕ) → InKey k n → slot k n < 138 → Looked k n
+          first k n q h = inr (region 0 138 (slot k n) (other-parts .0) (omega arith) (omega (arith, h)))
 
     looked : (k n : ℕ) → InKey k n → Looked k n
-    unfolding low high
-    looked k n p =
-        at-mark (λ k. InKey k n → Looked k n) k n p
-        (λ q. inr (region 0 1 (slot 1 n) (parts .0) (omega arith) (omega (arith, limits 1 n q))))
-        (λ q. split (eqb t 1) (λ z. inl (λ s. sym (fits-hp t s known) ∙ z)) (λ z. inr (region 1 25 (slot 2 n) (points z) (omega (arith, limits 2 n q)) (omega (arith, limits 2 n q)))))
-        (λ q. split (eqb t 1) (λ z. inl (λ s. sym (fits-fu t s known) ∙ rw z refl)) (λ z. inr (region 1 25 (slot 3 n) (points z) (omega (arith, limits 3 n q)) (omega (arith, limits 3 n q)))))
-        (λ q. inr (adders (slot 4 n) (omega (arith, limits 4 n q)) (omega (arith, limits 4 n q))))
-        (λ q. split (eqb t 1) (λ z. inl (λ s. sym (fits-mm t s known) ∙ rw z refl)) (λ z. inr (region 26 112 (slot 5 n) (items z) (omega (arith, limits 5 n q)) (omega (arith, limits 5 n q)))))
-        (λ q. inl (λ s. sym (fits-rq t s known)))
-        (λ q. split (eqb t 3) (λ z. inl (λ s. sym (fits-hr t s known) ∙ z)) (λ z. inr (priced z (slot 7 n) (omega (arith, limits 7 n q)) (omega (arith, limits 7 n q)))))
-        (λ q. split (eqb t 3) (λ z. inl (λ s. sym (fits-ch t s known) ∙ z)) (λ z. inr (priced z (slot 8 n) (omega (arith, limits 8 n q)) (omega (arith, limits 8 n q)))))
-        (λ q. inr (region 2338 12 (slot 9 n) (parts .3) (omega (arith, limits 9 n q)) (omega (arith, limits 9 n q))))
-        p
+    looked k n p = split (eqb t 1) (λ z. thermal-looked z k n p) (λ z. other-looked z k n p)
 
     module _ (h : Indexed d ix) (distinct : Distinct (records d)) where
       slot-record : (r : List ℕ) → fault r ≡ 0 → current (mark r) (keyOf r) (records d) ≡ r → slotFits t d ix (slot (mark r) (keyOf r)) ≡ true → fits t (mark r) r ≡ true
@@ -190,7 +218,7 @@ module _ (t : ℕ) (d ix : List ℕ) where
           go f (looked (mark r) (keyOf r) (in-key r f))
         where
           go : fault r ≡ 0 → Looked (mark r) (keyOf r) → fits t (mark r) r ≡ true
-          go f (inl g) = g r
+          go f (inl g) = g r (faultless r f .ranges) (unfold keyOf in refl)
           go f (inr g) = slot-record r f (is-the-current distinct m c) g
 
       pub slots-accepted : t ≡ technology (parameters (records d)) → Accepted ≡ unfit t (records d)

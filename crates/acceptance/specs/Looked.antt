@@ -40,12 +40,17 @@ slotsFit t d ix j n = allBelow n (λ i. slotFits t d ix (j + i))
 unfoldable pub slotsEmpty : List ℕ → ℕ → ℕ → Bool
 slotsEmpty ix j n = allBelow n (λ i. eqb (getD ix (j + i) 0) 0)
 
--- the slots of RS, AD and TH fit, those of HP, FU and MM too unless the technology is thermal, which they always fit, and those
--- of HR and CH are empty unless it is storage, which they always fit; RQ always fits
+-- of a thermal station: RS fits, and there is no AD of cost 5, no HR and no CH; all else fits it
+unfoldable pub thermalFit : List ℕ → List ℕ → Bool
+thermalFit d ix = slotsFit thermal d ix 0 1 && allBelow 4 (λ p. slotsEmpty ix (42 + 20 * p) 4) && slotsEmpty ix 154 2184
+
+-- of any other: the slots of RS, HP, FU, AD, MM and of TH fit, and those of HR and CH are empty unless it is storage, which they fit; RQ fits
+unfoldable pub otherFit : ℕ → List ℕ → List ℕ → Bool
+otherFit t d ix = slotsFit t d ix 0 138 && slotsFit t d ix 2338 12 && slotsEmpty ix 154 (cond (eqb t storage) 0 2184)
+
+-- every current record fits, as the slots tell
 unfoldable pub allFit : ℕ → List ℕ → List ℕ → Bool
-allFit t d ix =
-    slotsFit t d ix 0 1 && slotsFit t d ix 1 (cond (eqb t thermal) 0 25) && slotsFit t d ix 26 (cond (eqb t thermal) 80 112) && slotsFit t d ix 2338 12
-    && slotsEmpty ix 154 (cond (eqb t storage) 0 2184)
+allFit t d ix = cond (eqb t thermal) (thermalFit d ix) (otherFit t d ix)
 
 -- the record at the front of s has the issue of the current one of its mark and key, and does not fit
 unfoldable pub notFit : List ℕ → List ℕ → List ℕ → Bool → Bool

@@ -14,7 +14,7 @@ ghost use Rattle.station.specs.Current.{readable};
 ghost use Rattle.station.specs.Parameters.{parameters, technology};
 ghost use Rattle.lookup.specs.Parts.{Indexed};
 ghost use Rattle.acceptance.specs.Fit.{fits, holds, unfit};
-ghost use Rattle.acceptance.specs.Looked.{Known, triedAs, heldFits, slotsFit, slotsEmpty, allFit, notFit, fuelled};
+ghost use Rattle.acceptance.specs.Looked.{Known, triedAs, heldFits, slotsFit, slotsEmpty, thermalFit, otherFit, allFit, notFit, fuelled};
 ghost use Rattle.acceptance.specs.Curve.{points, curveHolds, curveFits, fuelHolds, windowFits};
 ghost use Rattle.acceptance.specs.Answer.{unsupported, answer};
 use index::Passed;
@@ -186,19 +186,39 @@ pub fn slots_empty(index: &[u16], j: usize, n: usize) -> bool
     any == 0
 }
 
-// Whether the index shows that every current record fits.
+// Whether the index shows that every current record fits a thermal station: AD of cost 5 has four slots in each of four profiles.
+fn thermal_fit(d: &[u8], index: &[u16]) -> bool
+    requires { ⌜ length (now index) ≡ 2350 ⌝ }
+    ensures { λ r. ⌜ r ≡ thermalFit (now (d .entry)) (now (index .entry)) ⌝ }
+{
+    slots_fit(d, index, 1, 0, 1)
+        & (slots_empty(index, 42, 4)
+            & slots_empty(index, 62, 4)
+            & slots_empty(index, 82, 4)
+            & slots_empty(index, 102, 4))
+        & slots_empty(index, 154, 2184)
+}
+
+// The same of any other station.
+fn other_fit(d: &[u8], index: &[u16], t: u8) -> bool
+    requires { ⌜ Known t × (length (now index) ≡ 2350) ⌝ }
+    ensures { λ r. ⌜ r ≡ otherFit t (now (d .entry)) (now (index .entry)) ⌝ }
+{
+    let priced = choose(t == 3, 0, 2184);
+    slots_fit(d, index, t, 0, 138)
+        & slots_fit(d, index, t, 2338, 12)
+        & slots_empty(index, 154, priced)
+}
+
+// The same of every station.
 fn all_fit(d: &[u8], index: &[u16], t: u8) -> bool
     requires { ⌜ Known t × (length (now index) ≡ 2350) ⌝ }
     ensures { λ r. ⌜ r ≡ allFit t (now (d .entry)) (now (index .entry)) ⌝ }
 {
-    let points = choose(t == 1, 0, 25);
-    let items = choose(t == 1, 80, 112);
-    let priced = choose(t == 3, 0, 2184);
-    slots_fit(d, index, t, 0, 1)
-        & slots_fit(d, index, t, 1, points)
-        & slots_fit(d, index, t, 26, items)
-        & slots_fit(d, index, t, 2338, 12)
-        & slots_empty(index, 154, priced)
+    if t == 1 {
+        return thermal_fit(d, index);
+    }
+    other_fit(d, index, t)
 }
 
 // Whether the record at the front of s is current and does not fit.
@@ -239,7 +259,7 @@ fn unfit_of(d: &[u8], index: &[u16], t: u8) -> Answer
     requires { ⌜ Indexed (now d) (now index) × (readable (now d) ≡ Accepted) × Known t × (t ≡ technology (parameters (records (now d)))) ⌝ }
     ensures { λ r. ⌜ r ≡ unfit t (records (now (d .entry))) ⌝ }
 {
-    if 500 < d.len() && all_fit(d, index, t) {
+    if 200 < d.len() && all_fit(d, index, t) {
         return Answer::Accepted;
     }
     first_unfit(d, index, t)
@@ -336,19 +356,29 @@ fn request_fuelled(d: &[u8], index: &[u16], n: usize) -> bool
     0 < lookup::fu(d, index, p).len()
 }
 
-// What 8 asks.
-fn fuel_holds(d: &[u8], index: &[u16]) -> bool
+// The same of every request; without any, the slots tell it at once.
+fn requests_fuelled(d: &[u8], index: &[u16]) -> bool
     requires { ⌜ Indexed (now d) (now index) ⌝ }
-    ensures { λ r. ⌜ r ≡ fuelHolds (parameters (records (now (d .entry)))) ⌝ }
+    ensures { λ r. ⌜ r ≡ allTo 16 (fuelled (parameters (records (now (d .entry))))) ⌝ }
 {
-    let base = 0 < lookup::fu(d, index, 1).len();
+    if slots_empty(index, index::slot_rq(1), 16) {
+        return true;
+    }
     let mut ok = true;
     let mut n = 0;
     while n < 16 {
         n += 1;
         ok = ok & request_fuelled(d, index, n);
     }
-    base & ok
+    ok
+}
+
+// What 8 asks.
+fn fuel_holds(d: &[u8], index: &[u16]) -> bool
+    requires { ⌜ Indexed (now d) (now index) ⌝ }
+    ensures { λ r. ⌜ r ≡ fuelHolds (parameters (records (now (d .entry)))) ⌝ }
+{
+    (0 < lookup::fu(d, index, 1).len()) & requests_fuelled(d, index)
 }
 
 // ---- 9

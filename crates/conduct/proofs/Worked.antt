@@ -1,7 +1,7 @@
 -- Worked values of the limit, in cents: document 01's M3 and M4, a limit by margin, and one without a margin.
 use mathlib.Core.Path.{_≡_, refl}
 use mathlib.Core.Bool.{true, false}
-use Prim.Native.Nat.{ℕ, _+_}
+use Prim.Native.Nat.{_+_}
 use Rattle.fields.specs.Numbers.{bias}
 use Rattle.conduct.specs.Test.{noMargin, limit, fails}
 

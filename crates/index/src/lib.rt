@@ -305,11 +305,14 @@ pub fn read(rest: &[u8]) -> Reading
     if records::is_mark(rest, b"CH") {
         return read_ch(rest);
     }
-    if records::is_mark(rest, b"HR") {
-        return read_hr(rest);
-    }
     if records::is_mark(rest, b"HP") {
         return read_hp(rest);
+    }
+    if records::is_mark(rest, b"TH") {
+        return read_th(rest);
+    }
+    if records::is_mark(rest, b"HR") {
+        return read_hr(rest);
     }
     if records::is_mark(rest, b"FU") {
         return read_fu(rest);
@@ -322,9 +325,6 @@ pub fn read(rest: &[u8]) -> Reading
     }
     if records::is_mark(rest, b"RQ") {
         return read_rq(rest);
-    }
-    if records::is_mark(rest, b"TH") {
-        return read_th(rest);
     }
     if records::is_mark(rest, b"RS") {
         return read_rs(rest);
@@ -339,11 +339,14 @@ pub fn entry_at(rest: &[u8]) -> Entry
     if records::is_mark(rest, b"CH") {
         return entry_ch(rest);
     }
-    if records::is_mark(rest, b"HR") {
-        return entry_hr(rest);
-    }
     if records::is_mark(rest, b"HP") {
         return entry_hp(rest);
+    }
+    if records::is_mark(rest, b"TH") {
+        return entry_th(rest);
+    }
+    if records::is_mark(rest, b"HR") {
+        return entry_hr(rest);
     }
     if records::is_mark(rest, b"FU") {
         return entry_fu(rest);
@@ -356,9 +359,6 @@ pub fn entry_at(rest: &[u8]) -> Entry
     }
     if records::is_mark(rest, b"RQ") {
         return entry_rq(rest);
-    }
-    if records::is_mark(rest, b"TH") {
-        return entry_th(rest);
     }
     if records::is_mark(rest, b"RS") {
         return entry_rs(rest);

@@ -93,6 +93,9 @@ module _ (d ix : List ℕ) (h : Indexed d ix) where
     unfolding partAt currentPart
     part-current a b = ap (bytesOf d) (place-current a b) ∙ held-bytes (size k) d (getD ix (slot k n) 0) (current k n (records d)) (startOf k n (records d)) holds
 
+    pub current-none : getD ix (slot k n) 0 ≡ 0 → current k n (records d) ≡ []
+    current-none e = sym (part-current refl refl) ∙ part-none d ix (slot k n) (size k) e
+
   -- ---- no key: a clean dossier has no such record
 
   module _ (k n : ℕ) (f : keyTest k n ≡ false) where
@@ -170,6 +173,10 @@ pub three-field : (x y z : ℕ) → 1 ≤ x → x ≤ 4 → 1 ≤ y → y ≤ 5 
 unfolding Spans shapeOf shape rowOf table
 three-field x y z p q r s t u =
     record { known = lit≤ tt; low = lit< tt; spans = ((omega arith, omega arith), (omega arith, omega arith), (omega arith, omega arith)) }
+
+pub request-key : (n : ℕ) → 1 ≤ n → n ≤ 16 → InKey 6 n
+unfolding shapeOf shape rowOf table
+request-key n a b = one-field 6 n (lit≤ tt) (lit< tt) refl a b
 
 pub interval-key : (n : ℕ) → 1 ≤ n → n ≤ 2016 → InKey 8 n
 unfolding shapeOf shape rowOf table

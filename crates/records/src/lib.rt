@@ -154,11 +154,14 @@ pub fn kind_at(s: &[u8]) -> usize
     if is_mark(s, b"CH") {
         return 8;
     }
-    if is_mark(s, b"HR") {
-        return 7;
-    }
     if is_mark(s, b"HP") {
         return 2;
+    }
+    if is_mark(s, b"TH") {
+        return 9;
+    }
+    if is_mark(s, b"HR") {
+        return 7;
     }
     if is_mark(s, b"FU") {
         return 3;
@@ -171,9 +174,6 @@ pub fn kind_at(s: &[u8]) -> usize
     }
     if is_mark(s, b"RQ") {
         return 6;
-    }
-    if is_mark(s, b"TH") {
-        return 9;
     }
     if is_mark(s, b"RS") {
         return 1;

@@ -11,13 +11,12 @@ use Rattle.lists.proofs.Tests.{below-at}
 use Rattle.fields.specs.Numbers.{number}
 use Rattle.fields.proofs.Numbers.{number-nil}
 use Rattle.records.specs.Table.{CH}
-use Rattle.records.specs.Record.{size}
 use Rattle.records.specs.Dossier.{records}
 use Rattle.station.specs.Parameters.{chargePrice, chargeEnergy}
 use Rattle.station.proofs.Fields.{chargeEnergy-at}
 use Rattle.index.specs.Slots.{slot}
 use Rattle.lookup.specs.Parts.{Indexed}
-use Rattle.lookup.proofs.Parts.{part-none, part-current, interval-key}
+use Rattle.lookup.proofs.Parts.{current-none, interval-key}
 use Rattle.acceptance.specs.Looked.{slotsEmpty}
 use Rattle.reference.specs.Sums.{sumTo}
 use Rattle.reference.specs.Levels.{parametersIn, amountsIn}
@@ -42,7 +41,7 @@ module _ {d ix : List ℕ} (h : Indexed d ix) where
   uncharged : (n : ℕ) → 1 ≤ n → n ≤ 2016 → getD ix (slot CH n) 0 ≡ 0 → chargeEnergy (parametersIn d) n ≡ 0
   uncharged n a b e =
       chargeEnergy-at (records d) n
-      ∙ ap (number 12 4) (sym (part-current d ix h CH n (interval-key n a b) refl refl) ∙ part-none d ix (slot CH n) (size CH) e)
+      ∙ ap (number 12 4) (current-none d ix h CH n (interval-key n a b) e)
       ∙ number-nil 12 4
 
   module _ (n m : ℕ) {j : ℕ} (first : j ≡ slot CH (n + 1)) (last : n + m ≤ 2016) (empty : slotsEmpty ix j m ≡ true) where

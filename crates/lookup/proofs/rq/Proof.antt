@@ -1,18 +1,10 @@
 use mathlib.Core.Path.{refl, _∙_}
-use Prim.Native.Nat.{ℕ, _≤_}
-use lib.Dec.{lit≤, lit<}
 use Rattle.records.specs.Table.{table, rowOf}
 use Rattle.records.specs.Record.{widths, size}
-use Rattle.records.specs.Shapes.{shape, shapeOf}
-use Rattle.index.proofs.Slots.{InKey}
-use Rattle.lookup.proofs.Parts.{one-field, slot-within, part-current}
+use Rattle.lookup.proofs.Parts.{request-key, slot-within, part-current}
 use borrow.Author.Needs.{needs}
 use Rattle.lookup.proofs.rq.Statement.{statement}
 use Rattle.lookup.proofs.rq.Tie as tie
-
-key : (n : ℕ) → 1 ≤ n → n ≤ 16 → InKey 6 n
-unfolding shapeOf shape rowOf table
-key n a b = one-field 6 n (lit≤ tt) (lit< tt) refl a b
 
 slot-rq-requires : tie.Need-slot-rq-requires
 slot-rq-requires c κs = search needs
@@ -21,11 +13,11 @@ element-copy-out-part-at : tie.Need-element-copy-out-part-at
 element-copy-out-part-at c = search needs
 
 part-at-requires : tie.Need-part-at-requires
-part-at-requires c κs = (slot-within _ _ (c .before .before .before .pre .0) 6 _ (key _ (c .before .before .before .pre .1) (c .before .before .before .pre .2)) (c .slot-rq .ensures), search needs)
+part-at-requires c κs = (slot-within _ _ (c .before .before .before .pre .0) 6 _ (request-key _ (c .before .before .before .pre .1) (c .before .before .before .pre .2)) (c .slot-rq .ensures), search needs)
 
 returns : tie.Need-returns
 unfolding size widths rowOf table
-returns c = c .part-at .ensures ∙ part-current _ _ (c .before .before .before .before .pre .0) 6 _ (key _ (c .before .before .before .before .pre .1) (c .before .before .before .before .pre .2)) (c .before .slot-rq .ensures) refl
+returns c = c .part-at .ensures ∙ part-current _ _ (c .before .before .before .before .pre .0) 6 _ (request-key _ (c .before .before .before .before .pre .1) (c .before .before .before .before .pre .2)) (c .before .slot-rq .ensures) refl
 
 pub rq-spec : {M : Type 1} → statement M
 rq-spec = tie.close (tie.spec slot-rq-requires element-copy-out-part-at part-at-requires returns)
