@@ -78,59 +78,62 @@ fn tried_at(t: u8, s: &[u8]) -> Tried
     let k = records::kind_at(s);
     if k == 4 {
         return Tried {
-            len: 17,
+            len: records::AD.length,
             fits: ad_fits(t, s),
         };
     }
     if k == 5 {
         return Tried {
-            len: 24,
+            len: records::MM.length,
             fits: (t == 1) | (fields::u16_at(s, 22) == 0),
         };
     }
     if k == 2 {
         return Tried {
-            len: 13,
+            len: records::HP.length,
             fits: t == 1,
         };
     }
     if k == 9 {
         return Tried {
-            len: 18,
+            len: records::TH.length,
             fits: level_held(t, fields::u8_at(s, 7)),
         };
     }
     if k == 3 {
         return Tried {
-            len: 15,
+            len: records::FU.length,
             fits: (t == 1) | (fields::u32_at(s, 11) == 0),
         };
     }
     if k == 7 {
         return Tried {
-            len: 11,
+            len: records::HR.length,
             fits: t == 3,
         };
     }
     if k == 8 {
         return Tried {
-            len: 16,
+            len: records::CH.length,
             fits: t == 3,
         };
     }
     if k == 6 {
         return Tried {
-            len: 16,
+            len: records::RQ.length,
             fits: true,
         };
     }
     if k == 1 {
         return Tried {
-            len: 31,
+            len: records::RS.length,
             fits: rs_fits(t, s),
         };
     }
-    Tried { len: 6, fits: true }
+    Tried {
+        len: records::UNKNOWN.length,
+        fits: true,
+    }
 }
 
 // ---- 6: the current records

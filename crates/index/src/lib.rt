@@ -7,7 +7,6 @@ ghost use Rattle.records.specs.Record.{mark};
 ghost use Rattle.records.specs.Walk.{walk};
 ghost use Rattle.index.specs.Slots.{slot, heldIssue, newer, kept, keepStep, passOf, slotsOf};
 ghost use Rattle.index.specs.Entries.{entryAs, readingAs, readingOf};
-use records::MARKS;
 
 // A record's length, and the slot of its mark and key.
 pub struct Entry {
@@ -89,7 +88,7 @@ pub fn entry_ch(s: &[u8]) -> Entry
     ensures { λ r. ⌜ r ≡ entryAs 8 (now (s .entry)) ⌝ }
 {
     Entry {
-        len: MARKS[8].length,
+        len: records::CH.length,
         slot: slot_ch(fields::u16_at(s, 6) as usize),
     }
 }
@@ -97,7 +96,7 @@ pub fn entry_ch(s: &[u8]) -> Entry
 pub fn read_ch(s: &[u8]) -> Reading
     ensures { λ r. ⌜ r ≡ readingAs 8 (now (s .entry)) ⌝ }
 {
-    if s.len() < MARKS[8].length {
+    if s.len() < records::CH.length {
         return Reading::Fault(2);
     }
     if records::ch_ok(s) {
@@ -112,7 +111,7 @@ pub fn entry_hr(s: &[u8]) -> Entry
     ensures { λ r. ⌜ r ≡ entryAs 7 (now (s .entry)) ⌝ }
 {
     Entry {
-        len: MARKS[7].length,
+        len: records::HR.length,
         slot: slot_hr(fields::u8_at(s, 6) as usize),
     }
 }
@@ -120,7 +119,7 @@ pub fn entry_hr(s: &[u8]) -> Entry
 pub fn read_hr(s: &[u8]) -> Reading
     ensures { λ r. ⌜ r ≡ readingAs 7 (now (s .entry)) ⌝ }
 {
-    if s.len() < MARKS[7].length {
+    if s.len() < records::HR.length {
         return Reading::Fault(2);
     }
     if records::hr_ok(s) {
@@ -135,7 +134,7 @@ pub fn entry_hp(s: &[u8]) -> Entry
     ensures { λ r. ⌜ r ≡ entryAs 2 (now (s .entry)) ⌝ }
 {
     Entry {
-        len: MARKS[2].length,
+        len: records::HP.length,
         slot: slot_hp(fields::u8_at(s, 6) as usize),
     }
 }
@@ -143,7 +142,7 @@ pub fn entry_hp(s: &[u8]) -> Entry
 pub fn read_hp(s: &[u8]) -> Reading
     ensures { λ r. ⌜ r ≡ readingAs 2 (now (s .entry)) ⌝ }
 {
-    if s.len() < MARKS[2].length {
+    if s.len() < records::HP.length {
         return Reading::Fault(2);
     }
     if records::hp_ok(s) {
@@ -158,7 +157,7 @@ pub fn entry_fu(s: &[u8]) -> Entry
     ensures { λ r. ⌜ r ≡ entryAs 3 (now (s .entry)) ⌝ }
 {
     Entry {
-        len: MARKS[3].length,
+        len: records::FU.length,
         slot: slot_fu(fields::u8_at(s, 6) as usize),
     }
 }
@@ -166,7 +165,7 @@ pub fn entry_fu(s: &[u8]) -> Entry
 pub fn read_fu(s: &[u8]) -> Reading
     ensures { λ r. ⌜ r ≡ readingAs 3 (now (s .entry)) ⌝ }
 {
-    if s.len() < MARKS[3].length {
+    if s.len() < records::FU.length {
         return Reading::Fault(2);
     }
     if records::fu_ok(s) {
@@ -181,7 +180,7 @@ pub fn entry_ad(s: &[u8]) -> Entry
     ensures { λ r. ⌜ r ≡ entryAs 4 (now (s .entry)) ⌝ }
 {
     Entry {
-        len: MARKS[4].length,
+        len: records::AD.length,
         slot: slot_ad(
             fields::u8_at(s, 6) as usize,
             fields::u8_at(s, 7) as usize,
@@ -193,7 +192,7 @@ pub fn entry_ad(s: &[u8]) -> Entry
 pub fn read_ad(s: &[u8]) -> Reading
     ensures { λ r. ⌜ r ≡ readingAs 4 (now (s .entry)) ⌝ }
 {
-    if s.len() < MARKS[4].length {
+    if s.len() < records::AD.length {
         return Reading::Fault(2);
     }
     if records::ad_ok(s) {
@@ -208,7 +207,7 @@ pub fn entry_mm(s: &[u8]) -> Entry
     ensures { λ r. ⌜ r ≡ entryAs 5 (now (s .entry)) ⌝ }
 {
     Entry {
-        len: MARKS[5].length,
+        len: records::MM.length,
         slot: slot_mm(fields::u8_at(s, 6) as usize, fields::u8_at(s, 7) as usize),
     }
 }
@@ -216,7 +215,7 @@ pub fn entry_mm(s: &[u8]) -> Entry
 pub fn read_mm(s: &[u8]) -> Reading
     ensures { λ r. ⌜ r ≡ readingAs 5 (now (s .entry)) ⌝ }
 {
-    if s.len() < MARKS[5].length {
+    if s.len() < records::MM.length {
         return Reading::Fault(2);
     }
     if records::mm_ok(s) {
@@ -231,7 +230,7 @@ pub fn entry_rq(s: &[u8]) -> Entry
     ensures { λ r. ⌜ r ≡ entryAs 6 (now (s .entry)) ⌝ }
 {
     Entry {
-        len: MARKS[6].length,
+        len: records::RQ.length,
         slot: slot_rq(fields::u8_at(s, 6) as usize),
     }
 }
@@ -239,7 +238,7 @@ pub fn entry_rq(s: &[u8]) -> Entry
 pub fn read_rq(s: &[u8]) -> Reading
     ensures { λ r. ⌜ r ≡ readingAs 6 (now (s .entry)) ⌝ }
 {
-    if s.len() < MARKS[6].length {
+    if s.len() < records::RQ.length {
         return Reading::Fault(2);
     }
     if records::rq_ok(s) {
@@ -254,7 +253,7 @@ pub fn entry_th(s: &[u8]) -> Entry
     ensures { λ r. ⌜ r ≡ entryAs 9 (now (s .entry)) ⌝ }
 {
     Entry {
-        len: MARKS[9].length,
+        len: records::TH.length,
         slot: slot_th(fields::u8_at(s, 6) as usize, fields::u8_at(s, 7) as usize),
     }
 }
@@ -262,7 +261,7 @@ pub fn entry_th(s: &[u8]) -> Entry
 pub fn read_th(s: &[u8]) -> Reading
     ensures { λ r. ⌜ r ≡ readingAs 9 (now (s .entry)) ⌝ }
 {
-    if s.len() < MARKS[9].length {
+    if s.len() < records::TH.length {
         return Reading::Fault(2);
     }
     if records::th_ok(s) {
@@ -277,7 +276,7 @@ pub fn entry_rs(s: &[u8]) -> Entry
     ensures { λ r. ⌜ r ≡ entryAs 1 (now (s .entry)) ⌝ }
 {
     Entry {
-        len: MARKS[1].length,
+        len: records::RS.length,
         slot: 0,
     }
 }
@@ -285,7 +284,7 @@ pub fn entry_rs(s: &[u8]) -> Entry
 pub fn read_rs(s: &[u8]) -> Reading
     ensures { λ r. ⌜ r ≡ readingAs 1 (now (s .entry)) ⌝ }
 {
-    if s.len() < MARKS[1].length {
+    if s.len() < records::RS.length {
         return Reading::Fault(2);
     }
     if records::rs_ok(s) {
@@ -364,7 +363,7 @@ pub fn entry_at(rest: &[u8]) -> Entry
         return entry_rs(rest);
     }
     Entry {
-        len: MARKS[0].length,
+        len: records::UNKNOWN.length,
         slot: 0,
     }
 }

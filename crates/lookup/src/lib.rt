@@ -14,7 +14,6 @@ ghost use Rattle.index.specs.Slots.{slot};
 ghost use Rattle.lookup.specs.Parts.{scanned, placeOf, placeAt, bytesOf, partAt, currentPart, lookupPart, Indexed};
 use index::Passed;
 use records::Answer;
-use records::MARKS;
 
 // A part of a dossier, by its start and length.
 pub struct Part {
@@ -104,7 +103,7 @@ pub fn rs<'a>(d: &'a [u8], index: &[u16]) -> &'a [u8]
     requires { ⌜ Indexed (now d) (now index) ⌝ }
     ensures { λ r. ⌜ now r ≡ current 1 0 (records (now (d .entry))) ⌝ }
 {
-    part_at(d, index, 0, MARKS[1].length)
+    part_at(d, index, 0, records::RS.length)
 }
 
 // The current HP of a point.
@@ -112,7 +111,7 @@ pub fn hp<'a>(d: &'a [u8], index: &[u16], n: usize) -> &'a [u8]
     requires { ⌜ Indexed (now d) (now index) × (1 ≤ n) × (n ≤ 21) ⌝ }
     ensures { λ r. ⌜ now r ≡ current 2 n (records (now (d .entry))) ⌝ }
 {
-    part_at(d, index, index::slot_hp(n), MARKS[2].length)
+    part_at(d, index, index::slot_hp(n), records::HP.length)
 }
 
 // The current FU of a profile.
@@ -120,7 +119,7 @@ pub fn fu<'a>(d: &'a [u8], index: &[u16], p: usize) -> &'a [u8]
     requires { ⌜ Indexed (now d) (now index) × (1 ≤ p) × (p ≤ 4) ⌝ }
     ensures { λ r. ⌜ now r ≡ current 3 p (records (now (d .entry))) ⌝ }
 {
-    part_at(d, index, index::slot_fu(p), MARKS[3].length)
+    part_at(d, index, index::slot_fu(p), records::FU.length)
 }
 
 // The current AD of a profile, cost and level.
@@ -128,7 +127,7 @@ pub fn ad<'a>(d: &'a [u8], index: &[u16], p: usize, c: usize, v: usize) -> &'a [
     requires { ⌜ Indexed (now d) (now index) × (1 ≤ p) × (p ≤ 4) × (1 ≤ c) × (c ≤ 5) × (1 ≤ v) × (v ≤ 4) ⌝ }
     ensures { λ r. ⌜ now r ≡ current 4 (p * 65536 + c * 256 + v) (records (now (d .entry))) ⌝ }
 {
-    part_at(d, index, index::slot_ad(p, c, v), MARKS[4].length)
+    part_at(d, index, index::slot_ad(p, c, v), records::AD.length)
 }
 
 // The current MM of a profile and item.
@@ -136,7 +135,7 @@ pub fn mm<'a>(d: &'a [u8], index: &[u16], p: usize, j: usize) -> &'a [u8]
     requires { ⌜ Indexed (now d) (now index) × (1 ≤ p) × (p ≤ 4) × (1 ≤ j) × (j ≤ 8) ⌝ }
     ensures { λ r. ⌜ now r ≡ current 5 (p * 256 + j) (records (now (d .entry))) ⌝ }
 {
-    part_at(d, index, index::slot_mm(p, j), MARKS[5].length)
+    part_at(d, index, index::slot_mm(p, j), records::MM.length)
 }
 
 // The current RQ of a request.
@@ -144,7 +143,7 @@ pub fn rq<'a>(d: &'a [u8], index: &[u16], n: usize) -> &'a [u8]
     requires { ⌜ Indexed (now d) (now index) × (1 ≤ n) × (n ≤ 16) ⌝ }
     ensures { λ r. ⌜ now r ≡ current 6 n (records (now (d .entry))) ⌝ }
 {
-    part_at(d, index, index::slot_rq(n), MARKS[6].length)
+    part_at(d, index, index::slot_rq(n), records::RQ.length)
 }
 
 // The current HR of an hour of the window.
@@ -152,7 +151,7 @@ pub fn hr<'a>(d: &'a [u8], index: &[u16], n: usize) -> &'a [u8]
     requires { ⌜ Indexed (now d) (now index) × (1 ≤ n) × (n ≤ 168) ⌝ }
     ensures { λ r. ⌜ now r ≡ current 7 n (records (now (d .entry))) ⌝ }
 {
-    part_at(d, index, index::slot_hr(n), MARKS[7].length)
+    part_at(d, index, index::slot_hr(n), records::HR.length)
 }
 
 // The current CH of an interval.
@@ -160,7 +159,7 @@ pub fn ch<'a>(d: &'a [u8], index: &[u16], n: usize) -> &'a [u8]
     requires { ⌜ Indexed (now d) (now index) × (1 ≤ n) × (n ≤ 2016) ⌝ }
     ensures { λ r. ⌜ now r ≡ current 8 n (records (now (d .entry))) ⌝ }
 {
-    part_at(d, index, index::slot_ch(n), MARKS[8].length)
+    part_at(d, index, index::slot_ch(n), records::CH.length)
 }
 
 // The current TH of a condition and level.
@@ -168,7 +167,7 @@ pub fn th<'a>(d: &'a [u8], index: &[u16], c: usize, v: usize) -> &'a [u8]
     requires { ⌜ Indexed (now d) (now index) × (1 ≤ c) × (c ≤ 3) × (1 ≤ v) × (v ≤ 4) ⌝ }
     ensures { λ r. ⌜ now r ≡ current 9 (c * 256 + v) (records (now (d .entry))) ⌝ }
 {
-    part_at(d, index, index::slot_th(c, v), MARKS[9].length)
+    part_at(d, index, index::slot_th(c, v), records::TH.length)
 }
 
 // The slot of a mark and key.

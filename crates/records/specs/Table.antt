@@ -1,7 +1,7 @@
 -- The table of marks: document 01's list, a row for each mark and a line for each field, in its order.
 -- Lengths, keys, ranges, money and the limits of a raise all follow from it, so a later mark begins as one more row.
 use mathlib.Core.Bool.{Bool, true, false}
-use mathlib.Core.List.{List, _∷_}
+use mathlib.Core.List.{List, [], _∷_}
 use Prim.Native.Nat.{ℕ}
 use lib.ListN.{getD}
 

@@ -29,80 +29,79 @@ pub struct MarkShape {
     pub highest: [u16; 3],
 }
 
-// A constant table holds each mark's whole length and key bounds, by kind: the mark's place in the table of specs/.
-// Hot code reads it at a literal index, which costs nothing; a read at a variable one writes the whole table first.
-pub const MARKS: [MarkShape; 10] = [
-    // an unknown mark
-    MarkShape {
-        length: 6,
-        width: 0,
-        lowest: [0, 0, 0],
-        highest: [0, 0, 0],
-    },
-    // RS
-    MarkShape {
-        length: 31,
-        width: 0,
-        lowest: [0, 0, 0],
-        highest: [0, 0, 0],
-    },
-    // HP
-    MarkShape {
-        length: 13,
-        width: 1,
-        lowest: [1, 0, 0],
-        highest: [21, 0, 0],
-    },
-    // FU
-    MarkShape {
-        length: 15,
-        width: 1,
-        lowest: [1, 0, 0],
-        highest: [4, 0, 0],
-    },
-    // AD
-    MarkShape {
-        length: 17,
-        width: 3,
-        lowest: [1, 1, 1],
-        highest: [4, 5, 4],
-    },
-    // MM
-    MarkShape {
-        length: 24,
-        width: 2,
-        lowest: [1, 1, 0],
-        highest: [4, 8, 0],
-    },
-    // RQ
-    MarkShape {
-        length: 16,
-        width: 1,
-        lowest: [1, 0, 0],
-        highest: [16, 0, 0],
-    },
-    // HR
-    MarkShape {
-        length: 11,
-        width: 1,
-        lowest: [1, 0, 0],
-        highest: [168, 0, 0],
-    },
-    // CH
-    MarkShape {
-        length: 16,
-        width: 2,
-        lowest: [1, 0, 0],
-        highest: [2016, 0, 0],
-    },
-    // TH
-    MarkShape {
-        length: 18,
-        width: 2,
-        lowest: [1, 1, 0],
-        highest: [3, 4, 0],
-    },
-];
+// The rows of the table: each mark's whole length and key bounds, an unknown mark first. Code that knows the mark reads its row.
+pub const UNKNOWN: MarkShape = MarkShape {
+    length: 6,
+    width: 0,
+    lowest: [0, 0, 0],
+    highest: [0, 0, 0],
+};
+
+pub const RS: MarkShape = MarkShape {
+    length: 31,
+    width: 0,
+    lowest: [0, 0, 0],
+    highest: [0, 0, 0],
+};
+
+pub const HP: MarkShape = MarkShape {
+    length: 13,
+    width: 1,
+    lowest: [1, 0, 0],
+    highest: [21, 0, 0],
+};
+
+pub const FU: MarkShape = MarkShape {
+    length: 15,
+    width: 1,
+    lowest: [1, 0, 0],
+    highest: [4, 0, 0],
+};
+
+pub const AD: MarkShape = MarkShape {
+    length: 17,
+    width: 3,
+    lowest: [1, 1, 1],
+    highest: [4, 5, 4],
+};
+
+pub const MM: MarkShape = MarkShape {
+    length: 24,
+    width: 2,
+    lowest: [1, 1, 0],
+    highest: [4, 8, 0],
+};
+
+pub const RQ: MarkShape = MarkShape {
+    length: 16,
+    width: 1,
+    lowest: [1, 0, 0],
+    highest: [16, 0, 0],
+};
+
+pub const HR: MarkShape = MarkShape {
+    length: 11,
+    width: 1,
+    lowest: [1, 0, 0],
+    highest: [168, 0, 0],
+};
+
+pub const CH: MarkShape = MarkShape {
+    length: 16,
+    width: 2,
+    lowest: [1, 0, 0],
+    highest: [2016, 0, 0],
+};
+
+pub const TH: MarkShape = MarkShape {
+    length: 18,
+    width: 2,
+    lowest: [1, 1, 0],
+    highest: [3, 4, 0],
+};
+
+// A constant table holds them by kind: the mark's place in the table of specs/. A read at a variable place writes the whole table first.
+pub const MARKS: [MarkShape; 10] = [UNKNOWN, RS, HP, FU, AD, MM, RQ, HR, CH, TH];
 
 pub fn mark_shape(kind: usize) -> MarkShape
     requires { ⌜ kind < 10 ⌝ }
@@ -235,35 +234,35 @@ pub fn price(s: &[u8], at: usize) -> bool
 pub fn ch_ok(s: &[u8]) -> bool
     ensures { λ r. ⌜ r ≡ rangesHold 8 (now (s .entry)) ⌝ }
 {
-    let m = MARKS[8];
+    let m = CH;
     in2(s, 6, m.lowest[0], m.highest[0]) & price(s, 8) & in4(s, 12, 0, 1000000)
 }
 
 pub fn hr_ok(s: &[u8]) -> bool
     ensures { λ r. ⌜ r ≡ rangesHold 7 (now (s .entry)) ⌝ }
 {
-    let m = MARKS[7];
+    let m = HR;
     in1(s, 6, m.lowest[0], m.highest[0]) & price(s, 7)
 }
 
 pub fn hp_ok(s: &[u8]) -> bool
     ensures { λ r. ⌜ r ≡ rangesHold 2 (now (s .entry)) ⌝ }
 {
-    let m = MARKS[2];
+    let m = HP;
     in1(s, 6, m.lowest[0], m.highest[0]) & in2(s, 7, 0, 20000) & in4(s, 9, 0, 20000000)
 }
 
 pub fn fu_ok(s: &[u8]) -> bool
     ensures { λ r. ⌜ r ≡ rangesHold 3 (now (s .entry)) ⌝ }
 {
-    let m = MARKS[3];
+    let m = FU;
     in1(s, 6, m.lowest[0], m.highest[0]) & in4(s, 7, 0, 400000000) & in4(s, 11, 0, 400000000)
 }
 
 pub fn ad_ok(s: &[u8]) -> bool
     ensures { λ r. ⌜ r ≡ rangesHold 4 (now (s .entry)) ⌝ }
 {
-    let m = MARKS[4];
+    let m = AD;
     in1(s, 6, m.lowest[0], m.highest[0])
         & in1(s, 7, m.lowest[1], m.highest[1])
         & in1(s, 8, m.lowest[2], m.highest[2])
@@ -273,7 +272,7 @@ pub fn ad_ok(s: &[u8]) -> bool
 pub fn mm_ok(s: &[u8]) -> bool
     ensures { λ r. ⌜ r ≡ rangesHold 5 (now (s .entry)) ⌝ }
 {
-    let m = MARKS[5];
+    let m = MM;
     in1(s, 6, m.lowest[0], m.highest[0])
         & in1(s, 7, m.lowest[1], m.highest[1])
         & in8(s, 8, 0, 100000000000)
@@ -285,7 +284,7 @@ pub fn mm_ok(s: &[u8]) -> bool
 pub fn rq_ok(s: &[u8]) -> bool
     ensures { λ r. ⌜ r ≡ rangesHold 6 (now (s .entry)) ⌝ }
 {
-    let m = MARKS[6];
+    let m = RQ;
     in1(s, 6, m.lowest[0], m.highest[0])
         & in4(s, 7, 0, 4294967295)
         & in4(s, 11, 0, 4294967295)
@@ -296,7 +295,7 @@ pub fn rq_ok(s: &[u8]) -> bool
 pub fn th_ok(s: &[u8]) -> bool
     ensures { λ r. ⌜ r ≡ rangesHold 9 (now (s .entry)) ⌝ }
 {
-    let m = MARKS[9];
+    let m = TH;
     in1(s, 6, m.lowest[0], m.highest[0])
         & in1(s, 7, m.lowest[1], m.highest[1])
         & in2(s, 8, 0, 10000)

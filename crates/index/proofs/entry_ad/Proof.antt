@@ -8,9 +8,6 @@ use borrow.Author.Needs.{needs}
 use Rattle.index.proofs.entry_ad.Statement.{statement}
 use Rattle.index.proofs.entry_ad.Tie as tie
 
-element-copy-out-t35 : tie.Need-element-copy-out-t35
-element-copy-out-t35 c = search needs
-
 u8-at-requires : tie.Need-u8-at-requires
 u8-at-requires c κs = search needs
 
@@ -40,7 +37,6 @@ pub entry-ad-spec : {M : Type 1} → statement M
 entry-ad-spec =
     tie.close
     (tie.spec
-    element-copy-out-t35
     u8-at-requires
     cast-slot-ad
     u8-at-requires-2

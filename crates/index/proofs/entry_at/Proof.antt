@@ -98,9 +98,6 @@ returns-9 : tie.Need-returns-9
 unfolding markIn table
 returns-9 c = c .entry-rs .ensures ∙ entry-as _ (begun 82 83 _ (sym (c .before .before .is-mark9 .ensures) ∙ c .before .if9 .taken))
 
-element-copy-out-t62 : tie.Need-element-copy-out-t62
-element-copy-out-t62 c = search needs
-
 returns-10 : tie.Need-returns-10
 unfolding slot slotAt size widths keyWidth keyIn rowOf table
 returns-10 c =
@@ -145,5 +142,4 @@ entry-at-spec =
     is-mark-requires-9
     entry-rs-requires
     returns-9
-    element-copy-out-t62
     returns-10)

@@ -7,9 +7,6 @@ use borrow.Author.Needs.{needs}
 use Rattle.index.proofs.entry_ch.Statement.{statement}
 use Rattle.index.proofs.entry_ch.Tie as tie
 
-element-copy-out-t35 : tie.Need-element-copy-out-t35
-element-copy-out-t35 c = search needs
-
 u16-at-requires : tie.Need-u16-at-requires
 u16-at-requires c κs = search needs
 
@@ -25,4 +22,4 @@ returns c = ap (entry _) (c .slot-ch .ensures ∙ ap (slot 8) (c .before .u16-at
 
 pub entry-ch-spec : {M : Type 1} → statement M
 entry-ch-spec =
-    tie.close (tie.spec element-copy-out-t35 u16-at-requires cast-slot-ch slot-ch-requires returns)
+    tie.close (tie.spec u16-at-requires cast-slot-ch slot-ch-requires returns)

@@ -7,9 +7,6 @@ use borrow.Author.Needs.{needs}
 use Rattle.index.proofs.entry_hp.Statement.{statement}
 use Rattle.index.proofs.entry_hp.Tie as tie
 
-element-copy-out-t35 : tie.Need-element-copy-out-t35
-element-copy-out-t35 c = search needs
-
 u8-at-requires : tie.Need-u8-at-requires
 u8-at-requires c κs = search needs
 
@@ -25,4 +22,4 @@ returns c = ap (entry _) (c .slot-hp .ensures ∙ ap (slot 2) (c .before .u8-at 
 
 pub entry-hp-spec : {M : Type 1} → statement M
 entry-hp-spec =
-    tie.close (tie.spec element-copy-out-t35 u8-at-requires cast-slot-hp slot-hp-requires returns)
+    tie.close (tie.spec u8-at-requires cast-slot-hp slot-hp-requires returns)

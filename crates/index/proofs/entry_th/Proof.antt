@@ -8,9 +8,6 @@ use borrow.Author.Needs.{needs}
 use Rattle.index.proofs.entry_th.Statement.{statement}
 use Rattle.index.proofs.entry_th.Tie as tie
 
-element-copy-out-t35 : tie.Need-element-copy-out-t35
-element-copy-out-t35 c = search needs
-
 u8-at-requires : tie.Need-u8-at-requires
 u8-at-requires c κs = search needs
 
@@ -34,7 +31,6 @@ pub entry-th-spec : {M : Type 1} → statement M
 entry-th-spec =
     tie.close
     (tie.spec
-    element-copy-out-t35
     u8-at-requires
     cast-slot-th
     u8-at-requires-2

@@ -6,9 +6,6 @@ use borrow.Author.Needs.{needs}
 use Rattle.index.proofs.read_rq.Statement.{statement}
 use Rattle.index.proofs.read_rq.Tie as tie
 
-element-copy-out-if1 : tie.Need-element-copy-out-if1
-element-copy-out-if1 c = search needs
-
 returns : tie.Need-returns
 unfolding size widths rowOf table
 returns c = as-short 6 _ (c .if1 .taken)
@@ -30,4 +27,4 @@ returns-3 c = as-outside 6 _ (c .before .before .if1 .left) (sym (c .before .rq-
 pub read-rq-spec : {M : Type 1} → statement M
 read-rq-spec =
     tie.close
-    (tie.spec element-copy-out-if1 returns rq-ok-requires entry-rq-requires returns-2 returns-3)
+    (tie.spec returns rq-ok-requires entry-rq-requires returns-2 returns-3)

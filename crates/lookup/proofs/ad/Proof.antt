@@ -16,9 +16,6 @@ key p q j a b x y z w = three-field p q j a b x y z w
 slot-ad-requires : tie.Need-slot-ad-requires
 slot-ad-requires c κs = search needs
 
-element-copy-out-part-at : tie.Need-element-copy-out-part-at
-element-copy-out-part-at c = search needs
-
 part-at-requires : tie.Need-part-at-requires
 part-at-requires c κs = (slot-within _ _ (c .before .before .before .pre .0) 4 _ (key _ _ _ (c .before .before .before .pre .1) (c .before .before .before .pre .2) (c .before .before .before .pre .3) (c .before .before .before .pre .4) (c .before .before .before .pre .5) (c .before .before .before .pre .6)) (c .slot-ad .ensures), search needs)
 
@@ -27,4 +24,4 @@ unfolding size widths rowOf table
 returns c = c .part-at .ensures ∙ part-current _ _ (c .before .before .before .before .pre .0) 4 _ (key _ _ _ (c .before .before .before .before .pre .1) (c .before .before .before .before .pre .2) (c .before .before .before .before .pre .3) (c .before .before .before .before .pre .4) (c .before .before .before .before .pre .5) (c .before .before .before .before .pre .6)) (c .before .slot-ad .ensures) refl
 
 pub ad-spec : {M : Type 1} → statement M
-ad-spec = tie.close (tie.spec slot-ad-requires element-copy-out-part-at part-at-requires returns)
+ad-spec = tie.close (tie.spec slot-ad-requires part-at-requires returns)

@@ -9,9 +9,6 @@ use Rattle.lookup.proofs.ch.Tie as tie
 slot-ch-requires : tie.Need-slot-ch-requires
 slot-ch-requires c κs = search needs
 
-element-copy-out-part-at : tie.Need-element-copy-out-part-at
-element-copy-out-part-at c = search needs
-
 part-at-requires : tie.Need-part-at-requires
 part-at-requires c κs = (slot-within _ _ (c .before .before .before .pre .0) 8 _ (interval-key _ (c .before .before .before .pre .1) (c .before .before .before .pre .2)) (c .slot-ch .ensures), search needs)
 
@@ -20,4 +17,4 @@ unfolding size widths rowOf table
 returns c = c .part-at .ensures ∙ part-current _ _ (c .before .before .before .before .pre .0) 8 _ (interval-key _ (c .before .before .before .before .pre .1) (c .before .before .before .before .pre .2)) (c .before .slot-ch .ensures) refl
 
 pub ch-spec : {M : Type 1} → statement M
-ch-spec = tie.close (tie.spec slot-ch-requires element-copy-out-part-at part-at-requires returns)
+ch-spec = tie.close (tie.spec slot-ch-requires part-at-requires returns)

@@ -17,9 +17,6 @@ key n a b = one-field 3 n (lit≤ tt) (lit< tt) refl a b
 slot-fu-requires : tie.Need-slot-fu-requires
 slot-fu-requires c κs = search needs
 
-element-copy-out-part-at : tie.Need-element-copy-out-part-at
-element-copy-out-part-at c = search needs
-
 part-at-requires : tie.Need-part-at-requires
 part-at-requires c κs = (slot-within _ _ (c .before .before .before .pre .0) 3 _ (key _ (c .before .before .before .pre .1) (c .before .before .before .pre .2)) (c .slot-fu .ensures), search needs)
 
@@ -28,4 +25,4 @@ unfolding size widths rowOf table
 returns c = c .part-at .ensures ∙ part-current _ _ (c .before .before .before .before .pre .0) 3 _ (key _ (c .before .before .before .before .pre .1) (c .before .before .before .before .pre .2)) (c .before .slot-fu .ensures) refl
 
 pub fu-spec : {M : Type 1} → statement M
-fu-spec = tie.close (tie.spec slot-fu-requires element-copy-out-part-at part-at-requires returns)
+fu-spec = tie.close (tie.spec slot-fu-requires part-at-requires returns)

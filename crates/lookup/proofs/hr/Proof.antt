@@ -17,9 +17,6 @@ key n a b = one-field 7 n (lit≤ tt) (lit< tt) refl a b
 slot-hr-requires : tie.Need-slot-hr-requires
 slot-hr-requires c κs = search needs
 
-element-copy-out-part-at : tie.Need-element-copy-out-part-at
-element-copy-out-part-at c = search needs
-
 part-at-requires : tie.Need-part-at-requires
 part-at-requires c κs = (slot-within _ _ (c .before .before .before .pre .0) 7 _ (key _ (c .before .before .before .pre .1) (c .before .before .before .pre .2)) (c .slot-hr .ensures), search needs)
 
@@ -28,4 +25,4 @@ unfolding size widths rowOf table
 returns c = c .part-at .ensures ∙ part-current _ _ (c .before .before .before .before .pre .0) 7 _ (key _ (c .before .before .before .before .pre .1) (c .before .before .before .before .pre .2)) (c .before .slot-hr .ensures) refl
 
 pub hr-spec : {M : Type 1} → statement M
-hr-spec = tie.close (tie.spec slot-hr-requires element-copy-out-part-at part-at-requires returns)
+hr-spec = tie.close (tie.spec slot-hr-requires part-at-requires returns)

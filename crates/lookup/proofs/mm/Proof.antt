@@ -17,9 +17,6 @@ key p j a b x y = two-field 5 p j (lit≤ tt) (lit< tt) refl refl a b x y (lit< 
 slot-mm-requires : tie.Need-slot-mm-requires
 slot-mm-requires c κs = search needs
 
-element-copy-out-part-at : tie.Need-element-copy-out-part-at
-element-copy-out-part-at c = search needs
-
 part-at-requires : tie.Need-part-at-requires
 part-at-requires c κs = (slot-within _ _ (c .before .before .before .pre .0) 5 _ (key _ _ (c .before .before .before .pre .1) (c .before .before .before .pre .2) (c .before .before .before .pre .3) (c .before .before .before .pre .4)) (c .slot-mm .ensures), search needs)
 
@@ -28,4 +25,4 @@ unfolding size widths rowOf table
 returns c = c .part-at .ensures ∙ part-current _ _ (c .before .before .before .before .pre .0) 5 _ (key _ _ (c .before .before .before .before .pre .1) (c .before .before .before .before .pre .2) (c .before .before .before .before .pre .3) (c .before .before .before .before .pre .4)) (c .before .slot-mm .ensures) refl
 
 pub mm-spec : {M : Type 1} → statement M
-mm-spec = tie.close (tie.spec slot-mm-requires element-copy-out-part-at part-at-requires returns)
+mm-spec = tie.close (tie.spec slot-mm-requires part-at-requires returns)

@@ -9,9 +9,6 @@ use Rattle.lookup.proofs.rq.Tie as tie
 slot-rq-requires : tie.Need-slot-rq-requires
 slot-rq-requires c κs = search needs
 
-element-copy-out-part-at : tie.Need-element-copy-out-part-at
-element-copy-out-part-at c = search needs
-
 part-at-requires : tie.Need-part-at-requires
 part-at-requires c κs = (slot-within _ _ (c .before .before .before .pre .0) 6 _ (request-key _ (c .before .before .before .pre .1) (c .before .before .before .pre .2)) (c .slot-rq .ensures), search needs)
 
@@ -20,4 +17,4 @@ unfolding size widths rowOf table
 returns c = c .part-at .ensures ∙ part-current _ _ (c .before .before .before .before .pre .0) 6 _ (request-key _ (c .before .before .before .before .pre .1) (c .before .before .before .before .pre .2)) (c .before .slot-rq .ensures) refl
 
 pub rq-spec : {M : Type 1} → statement M
-rq-spec = tie.close (tie.spec slot-rq-requires element-copy-out-part-at part-at-requires returns)
+rq-spec = tie.close (tie.spec slot-rq-requires part-at-requires returns)

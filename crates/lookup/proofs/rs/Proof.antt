@@ -14,9 +14,6 @@ key : InKey 1 0
 unfolding shapeOf shape rowOf table
 key = one-field 1 0 (lit≤ tt) (lit< tt) refl (lit≤ tt) (lit≤ tt)
 
-element-copy-out-part-at : tie.Need-element-copy-out-part-at
-element-copy-out-part-at c = search needs
-
 part-at-requires : tie.Need-part-at-requires
 unfolding slot
 part-at-requires c κs = (slot-within _ _ (c .before .before .pre) 1 _ key refl, search needs)
@@ -26,4 +23,4 @@ unfolding slot size widths rowOf table
 returns c = c .part-at .ensures ∙ part-current _ _ (c .before .before .before .pre) 1 _ key refl refl
 
 pub rs-spec : {M : Type 1} → statement M
-rs-spec = tie.close (tie.spec element-copy-out-part-at part-at-requires returns)
+rs-spec = tie.close (tie.spec part-at-requires returns)

@@ -17,9 +17,6 @@ key p j a b x y = two-field 9 p j (lit≤ tt) (lit< tt) refl refl a b x y (lit< 
 slot-th-requires : tie.Need-slot-th-requires
 slot-th-requires c κs = search needs
 
-element-copy-out-part-at : tie.Need-element-copy-out-part-at
-element-copy-out-part-at c = search needs
-
 part-at-requires : tie.Need-part-at-requires
 part-at-requires c κs = (slot-within _ _ (c .before .before .before .pre .0) 9 _ (key _ _ (c .before .before .before .pre .1) (c .before .before .before .pre .2) (c .before .before .before .pre .3) (c .before .before .before .pre .4)) (c .slot-th .ensures), search needs)
 
@@ -28,4 +25,4 @@ unfolding size widths rowOf table
 returns c = c .part-at .ensures ∙ part-current _ _ (c .before .before .before .before .pre .0) 9 _ (key _ _ (c .before .before .before .before .pre .1) (c .before .before .before .before .pre .2) (c .before .before .before .before .pre .3) (c .before .before .before .before .pre .4)) (c .before .slot-th .ensures) refl
 
 pub th-spec : {M : Type 1} → statement M
-th-spec = tie.close (tie.spec slot-th-requires element-copy-out-part-at part-at-requires returns)
+th-spec = tie.close (tie.spec slot-th-requires part-at-requires returns)

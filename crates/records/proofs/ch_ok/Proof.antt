@@ -7,9 +7,6 @@ use borrow.Author.Needs.{needs}
 use Rattle.records.proofs.ch_ok.Statement.{statement}
 use Rattle.records.proofs.ch_ok.Tie as tie
 
-array-copy-out-m : tie.Need-array-copy-out-m
-array-copy-out-m c = search needs
-
 element-copy-out-in2 : tie.Need-element-copy-out-in2
 element-copy-out-in2 c = search needs
 
@@ -33,7 +30,6 @@ pub ch-ok-spec : {M : Type 1} → statement M
 ch-ok-spec =
     tie.close
     (tie.spec
-    array-copy-out-m
     element-copy-out-in2
     element-copy-out-in2-2
     in2-requires
