@@ -1,13 +1,13 @@
 -- What it takes for a record of each mark to fit a technology.
 use mathlib.Core.Path.{_≡_, refl, ap, ap₂, sym, _∙_}
 use mathlib.Core.Bool.{Bool, true, false, cond, _&&_, _||_, not}
-use mathlib.Core.List.{List}
+use mathlib.Core.List.{List, [], _∷_}
 use Prim.Native.Nat.{ℕ, zero, suc, _/_, _%_, _≤_, _<_}
 use native.Mathlib.Omega.{arith}
 use lib.Dec.{ltb, eqb, lit<}
-use borrow.Author.Tests.{ne-eqb}
+use borrow.Author.Tests.{ne-eqb, eqb-true}
 use Rattle.lists.specs.Tests.{allBelow, among, between}
-use Rattle.lists.proofs.Tests.{between-low, between-high}
+use Rattle.lists.proofs.Tests.{and-true, split, between-low, between-high}
 use Rattle.fields.specs.Numbers.{number}
 use Rattle.records.specs.Table.{table, rowOf, fieldOf}
 use Rattle.records.specs.Record.{mark, size, offsetIn, offset, read, value, inRange, rangesHold}
@@ -15,10 +15,6 @@ use Rattle.records.proofs.Record.{field-in}
 use Rattle.acceptance.specs.Fit.{levelsOf, holds, fieldFits, ruleFits, fits}
 use Rattle.acceptance.specs.declared.Tried.{Tried}
 use Rattle.acceptance.specs.Looked.{Known, triedAs}
-
-pub and-true : (a : Bool) → a && true ≡ a
-and-true true = refl
-and-true false = refl
 
 or-false : (a : Bool) → a || false ≡ a
 or-false true = refl
@@ -33,19 +29,30 @@ by-technology P a b c (suc (suc (suc (suc t)))) k = absurd (omega (arith, k))
 
 -- ---- the levels that are held
 
-pub held-thermal : (t v : ℕ) → t ≡ 1 → eqb v 1 || (eqb v 2 || (eqb v 3 || eqb v 4)) ≡ holds t v
+pub holds-tests : (t v : ℕ) → eqb t 1 && (eqb v 1 || eqb v 2 || eqb v 3 || eqb v 4) || eqb t 2 && eqb v 1 || eqb t 3 && (eqb v 1 || eqb v 4) ≡ holds t v
 unfolding holds levelsOf among
-held-thermal t v e = rw (e, or-false (eqb v 4)) refl
+holds-tests t v =
+    split (eqb t 1)
+    (λ e. rw (eqb-true t 1 e) (four (eqb v 1) (eqb v 2) (eqb v 3) (eqb v 4)))
+    (λ e. rw e (split (eqb t 2)
+    (λ f. rw (eqb-true t 2 f) refl)
+    (λ f. rw f (two (eqb t 3)))))
+  where
+    four : (a b c d : Bool) → (a || b || c || d) || false || false ≡ a || (b || (c || (d || false)))
+    four true b c d = refl
+    four false true c d = refl
+    four false false true d = refl
+    four false false false true = refl
+    four false false false false = refl
 
-pub held-nuclear : (t v : ℕ) → t ≡ 2 → eqb v 1 ≡ holds t v
-unfolding holds levelsOf among
-held-nuclear t v e = rw (e, or-false (eqb v 1)) refl
+    last : (a b : Bool) → a || b ≡ a || (b || false)
+    last true b = refl
+    last false true = refl
+    last false false = refl
 
-pub held-storage : (t v : ℕ) → Known t → (t ≡ 1 → ⊥) → (t ≡ 2 → ⊥) → eqb v 1 || eqb v 4 ≡ holds t v
-unfolding holds levelsOf among
-held-storage t v k a b =
-    let e : t ≡ 3 = omega (arith, k, a, b) in
-    rw (e, or-false (eqb v 4)) refl
+    two : (b : Bool) → b && (eqb v 1 || eqb v 4) ≡ among v (cond b (1 ∷ 4 ∷ []) [])
+    two true = last (eqb v 1) (eqb v 4)
+    two false = refl
 
 -- ---- by mark
 

@@ -12,7 +12,7 @@ use lib.Dec.{leb, ltb, eqb, lit≤}
 use lib.ListN.{length, getD}
 use borrow.Author.Tests.{lt-ltb, le-ltb, le-leb, lt-leb, eqb-true, eq-eqb, ne-eqb}
 use Rattle.lists.specs.Tests.{allTo, countTo}
-use Rattle.lists.proofs.Tests.{below-at, and-left, and-right, and-both, between-low, between-high}
+use Rattle.lists.proofs.Tests.{and-true, below-at, and-left, and-right, and-both, between-low, between-high}
 use Rattle.fields.specs.Numbers.{number}
 use Rattle.fields.proofs.Numbers.{number-nil}
 use Rattle.records.specs.Table.{table, rowOf, fieldOf, RS, HP, FU, RQ, HR}
@@ -28,7 +28,6 @@ use Rattle.lookup.specs.Parts.{Indexed}
 use Rattle.lookup.proofs.Parts.{request-key, current-none}
 use Rattle.acceptance.specs.Curve.{points, rise, curveHolds, curveFits, fuelHolds, fullHours, hoursHold, windowFits}
 use Rattle.acceptance.specs.Looked.{Known, slotsEmpty, lastRise, legHolds, fuelled}
-use Rattle.acceptance.proofs.ByMark.{and-true}
 use Rattle.acceptance.proofs.Sound.{clean-range}
 
 -- ---- tests of 1 to n

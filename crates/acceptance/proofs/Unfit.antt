@@ -1,9 +1,9 @@
 -- 6 through the index: what a slot says of the current record, and the loop over the records.
-use mathlib.Core.Path.{_≡_, refl, ap, ap₂, sym, subst, _∙_}
+use mathlib.Core.Path.{_≡_, refl, ap, sym, subst, _∙_}
 use mathlib.Core.Bool.{Bool, true, false, cond, _&&_, _||_, not, false≢true}
 use mathlib.Core.List.{List, [], _∷_}
 use mathlib.Core.Logic.{_⊎_, inl, inr}
-use Prim.Native.Nat.{ℕ, zero, suc, _+_, _-_, _*_, _/_, _%_, _≤_, _<_}
+use Prim.Native.Nat.{ℕ, _+_, _-_, _*_, _/_, _%_, _≤_, _<_}
 use native.Mathlib.Numerals.{add-one}
 use native.Mathlib.Omega.{arith}
 use lib.Bits.{bitOr, and-le-r, or-add-and}
@@ -14,20 +14,20 @@ use borrow.Author.Tests.{eqb-true, eqb-false, eq-eqb, ne-eqb}
 use Rattle.lists.specs.Lists.{Each, done, also, Member, here, there}
 use Rattle.lists.specs.Tests.{allBelow}
 use Rattle.lists.proofs.Lists.{member-each}
-use Rattle.lists.proofs.Tests.{split, below-at}
+use Rattle.lists.proofs.Tests.{and-true, split, below-at, below-same}
 use Rattle.fields.specs.Numbers.{number}
 use Rattle.records.specs.declared.Answer.the-variants.{Accepted, Refused}
 use Rattle.records.specs.Table.{table, rowOf, fieldOf, AD, TH}
 use Rattle.records.specs.Shapes.{shape, shapeOf}
-use Rattle.records.specs.Record.{mark, size, issue, keyIn, keyWidth, keyOf, offset, read, value, rangesHold, fault}
+use Rattle.records.specs.Record.{mark, size, issue, keyIn, keyWidth, keyOf, value, rangesHold, fault}
 use Rattle.records.specs.Answers.{orElse, refuseIf}
 use Rattle.records.specs.declared.Found.the-variants.{Record}
 use Rattle.records.specs.Walk.{found}
 use Rattle.records.specs.Dossier.{firstOf, restOf, recordsIn, records, firstDrawn, scan}
-use Rattle.records.proofs.Record.{mark-take, mark-nil, size-ge, within-record, faultless}
+use Rattle.records.proofs.Record.{mark-take, mark-nil, size-ge, faultless}
 use Rattle.records.proofs.Answers.{orElse-parts}
 use Rattle.records.proofs.Dossier.{first-mark, first-length, records-step, scan-each}
-use Rattle.records.proofs.Read.{number-take}
+use Rattle.records.proofs.Read.{number-take, value-take}
 use Rattle.station.specs.Current.{current, twin, twins, readable}
 use Rattle.station.specs.Parameters.{parameters, technology}
 use Rattle.station.specs.Declared.{CurrentOf, absent, standing, Distinct}
@@ -42,19 +42,10 @@ use Rattle.lookup.specs.Parts.{part, bytesOf, placeAt, partAt, Indexed}
 use Rattle.lookup.proofs.Parts.{part-current}
 use Rattle.acceptance.specs.Fit.{holds, fieldFits, ruleFits, fits, isCurrent, unfit}
 use Rattle.acceptance.specs.Looked.{Known, heldFits, slotFits, slotsFit, slotsEmpty, thermalFit, otherFit, allFit, notFit}
-use Rattle.acceptance.proofs.ByMark.{and-true, fits-hp, fits-fu, fits-mm, fits-rq, fits-none, fits-hr, fits-ch, thermal-ad, thermal-th}
+use Rattle.acceptance.proofs.ByMark.{fits-hp, fits-fu, fits-mm, fits-rq, fits-none, fits-hr, fits-ch, thermal-ad, thermal-th}
 use Rattle.acceptance.proofs.Sound.{each-unfit}
 
 -- ---- a record cut from the rest fits as the rest does
-
-value-take : (k i : ℕ) (s : List ℕ) → value k i (take (size k) s) ≡ value k i s
-unfolding value read
-value-take k i s = rw (number-take (size k) (offset k i) (fieldOf k i .width) s (within-record k i)) refl
-
-below-same : (n : ℕ) (f g : ℕ → Bool) → ((i : ℕ) → f i ≡ g i) → allBelow n f ≡ allBelow n g
-unfolding allBelow
-below-same zero f g h = refl
-below-same (suc n) f g h = ap₂ (λ (a b : Bool). a && b) (below-same n f g h) (h n)
 
 rule-take : (t k : ℕ) (s : List ℕ) → ruleFits t k (take (size k) s) ≡ ruleFits t k s
 unfolding ruleFits

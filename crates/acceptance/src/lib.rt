@@ -23,17 +23,12 @@ use records::Answer;
 // ---- 6: a record and the technology
 
 // Whether a technology holds a level.
-fn level_held(t: u8, level: u8) -> bool
-    requires { ⌜ Known t ⌝ }
+pub fn level_held(t: u8, level: u8) -> bool
     ensures { λ r. ⌜ r ≡ holds t level ⌝ }
 {
-    if t == 1 {
-        return (level == 1) | ((level == 2) | ((level == 3) | (level == 4)));
-    }
-    if t == 2 {
-        return level == 1;
-    }
-    (level == 1) | (level == 4)
+    (t == 1) & ((level == 1) | (level == 2) | (level == 3) | (level == 4))
+        | (t == 2) & (level == 1)
+        | (t == 3) & ((level == 1) | (level == 4))
 }
 
 // A field that is used is above 0 where it must be; any other is 0.
@@ -271,9 +266,9 @@ fn unfit_of(d: &[u8], index: &[u16], t: u8) -> Answer
 // ---- 7
 
 // How many points there are.
-fn points_of(d: &[u8], index: &[u16]) -> usize
+pub fn points_of(d: &[u8], index: &[u16]) -> usize
     requires { ⌜ Indexed (now d) (now index) ⌝ }
-    ensures { λ r. ⌜ (r ≤ 21) × (r ≡ points (parameters (records (now (d .entry))))) ⌝ }
+    ensures { λ r. ⌜ (r ≡ points (parameters (records (now (d .entry))))) × (r ≤ 21) ⌝ }
 {
     let mut n = 0;
     let mut i = 0;

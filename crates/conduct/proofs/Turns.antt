@@ -10,7 +10,7 @@ use lib.Dec.{leb, ltb, eqb}
 use lib.ListN.{length}
 use borrow.Author.Tests.{lt-ltb, le-ltb, leb-true, eqb-true, eqb-false, not-false}
 use Rattle.lists.specs.Tests.{every, everyOf, between, among}
-use Rattle.lists.proofs.Tests.{split, and-left, and-right, or-false-left, or-false-right, between-low, between-high}
+use Rattle.lists.proofs.Tests.{and-left, and-right, or-false-left, or-false-right, between-low, between-high}
 use Rattle.records.proofs.Answers.{not-refuseIf}
 use Rattle.records.specs.declared.Answer.{Answer}
 use Rattle.records.specs.declared.Answer.the-variants.{Accepted, Refused}
@@ -113,31 +113,6 @@ module _ (o : List ℕ) where
   pub length-fails : leb 6 (length o) && leb (length o) 120 && eqb (length o % 6) 0 ≡ false → Refused 10 (length o) ≡ lengthRefusal o
   unfolding lengthRefusal between
   length-fails e = refused-if _ 10 (length o) (ap not e)
-
-pub holds-tests : (t v : ℕ) → eqb t 1 && (eqb v 1 || eqb v 2 || eqb v 3 || eqb v 4) || eqb t 2 && eqb v 1 || eqb t 3 && (eqb v 1 || eqb v 4) ≡ holds t v
-unfolding holds levelsOf among
-holds-tests t v =
-    split (eqb t 1)
-    (λ e. rw (eqb-true t 1 e) (four (eqb v 1) (eqb v 2) (eqb v 3) (eqb v 4)))
-    (λ e. rw e (split (eqb t 2)
-    (λ f. rw (eqb-true t 2 f) refl)
-    (λ f. rw f (two (eqb t 3)))))
-  where
-    four : (a b c d : Bool) → (a || b || c || d) || false || false ≡ a || (b || (c || (d || false)))
-    four true b c d = refl
-    four false true c d = refl
-    four false false true d = refl
-    four false false false true = refl
-    four false false false false = refl
-
-    last : (a b : Bool) → a || b ≡ a || (b || false)
-    last true b = refl
-    last false true = refl
-    last false false = refl
-
-    two : (b : Bool) → b && (eqb v 1 || eqb v 4) ≡ among v (cond b (1 ∷ 4 ∷ []) [])
-    two true = last (eqb v 1) (eqb v 4)
-    two false = refl
 
 -- 12: what was read of the technology, and whether it holds the level
 module _ (s : Parameters) (v t : ℕ) (r : Bool) (e : t ≡ technology s) (h : r ≡ holds t v) where

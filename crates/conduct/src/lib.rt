@@ -177,22 +177,13 @@ fn length_refusal(offer: &[u8]) -> Answer
     }
 }
 
-// Whether a technology holds a level.
-fn level_held(technology: u8, level: u8) -> bool
-    ensures { λ r. ⌜ r ≡ holds technology level ⌝ }
-{
-    (technology == 1) & ((level == 1) | (level == 2) | (level == 3) | (level == 4))
-        | (technology == 2) & (level == 1)
-        | (technology == 3) & ((level == 1) | (level == 4))
-}
-
 // 12, put to the single-price test.
 fn level_refusal(d: &[u8], index: &[u16], level: u8) -> Answer
     requires { ⌜ Indexed (now d) (now index) ⌝ }
     ensures { λ r. ⌜ r ≡ levelRefusal (parameters (records (now (d .entry)))) level ⌝ }
 {
     let technology = fields::u8_at(lookup::rs(d, index), 6);
-    if (level == 1) | !level_held(technology, level) {
+    if (level == 1) | !acceptance::level_held(technology, level) {
         Answer::Refused {
             number: 12,
             place: 0,

@@ -398,6 +398,13 @@ pub fn pass(d: &[u8], index: &mut [u16]) -> Passed
         let rest = &d[at..];
         match read(rest) {
             Reading::Whole(entry) => {
+                // never so: it tells the compiler that the issue's bytes are there
+                if rest.len() < 6 {
+                    return Passed::Stopped {
+                        number: 2,
+                        place: at,
+                    };
+                }
                 let j = entry.slot;
                 let issue = (fields::u32_at(rest, 2) as u64) + 1;
                 let v = index[j];

@@ -2,14 +2,13 @@
 use mathlib.Core.Path.{_≡_, refl, ap, ap₂, sym, _∙_}
 use mathlib.Core.Bool.{Bool, true, false, cond, _&&_, not, _||_}
 use mathlib.Core.List.{List}
-use Prim.Native.Nat.{ℕ, zero, suc, _+_, _≤_, _<_}
+use Prim.Native.Nat.{ℕ, _+_, _≤_, _<_}
 use native.Mathlib.Omega.{arith}
 use lib.Dec.{leb, ltb, eqb}
 use lib.ListN.{length, getD, take, length-take}
 use lib.Seq.{getD-take}
 use borrow.Author.Tests.{lt-ltb, le-ltb, ltb-true, ltb-false, eqb-true}
-use Rattle.lists.specs.Tests.{allBelow}
-use Rattle.lists.proofs.Tests.{and-left, and-right}
+use Rattle.lists.proofs.Tests.{and-left, and-right, below-same}
 use Rattle.fields.specs.Numbers.{number}
 use Rattle.fields.proofs.Numbers.{number-same}
 use Rattle.records.specs.declared.Found.the-variants.{Record, Faulty}
@@ -25,14 +24,9 @@ use Rattle.records.specs.Shapes.{begins}
 pub number-take : (n o w : ℕ) (s : List ℕ) → o + w ≤ n → number o w (take n s) ≡ number o w s
 number-take n o w s h = number-same o w (take n s) s (λ i a b. getD-take n s i 0 (omega arith))
 
-value-take : (k i : ℕ) (s : List ℕ) → value k i (take (size k) s) ≡ value k i s
+pub value-take : (k i : ℕ) (s : List ℕ) → value k i (take (size k) s) ≡ value k i s
 unfolding value read
 value-take k i s = rw (number-take (size k) (offset k i) (fieldOf k i .width) s (within-record k i)) refl
-
-below-same : (n : ℕ) (f g : ℕ → Bool) → ((i : ℕ) → f i ≡ g i) → allBelow n f ≡ allBelow n g
-unfolding allBelow
-below-same zero f g h = refl
-below-same (suc n) f g h = ap₂ (λ (a b : Bool). a && b) (below-same n f g h) (h n)
 
 agrees-take : (k : ℕ) (s : List ℕ) → agrees k (take (size k) s) ≡ agrees k s
 unfolding agrees

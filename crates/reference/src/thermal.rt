@@ -20,27 +20,12 @@ use crate::maintenance::maintenance;
 use crate::maintenance::start_maintenance;
 use crate::parameters;
 
-// How many points there are.
-fn points(d: &[u8], index: &[u16]) -> usize
-    requires { ⌜ Indexed (now d) (now index) ⌝ }
-    ensures { λ r. ⌜ (r ≡ points (parametersIn (now (d .entry)))) × (r ≤ 21) ⌝ }
-{
-    let mut count = 0;
-    let mut n = 0;
-    while n < 21 {
-        let r = lookup::hp(d, index, n + 1);
-        count += (0 < r.len()) as usize;
-        n += 1;
-    }
-    count
-}
-
-// How many laminations lie between them.
+// How many laminations lie between the points.
 pub fn lamination_count(d: &[u8], index: &[u16]) -> usize
     requires { ⌜ Indexed (now d) (now index) ⌝ }
     ensures { λ r. ⌜ (r ≡ points (parametersIn (now (d .entry))) - 1) × (r ≤ 20) ⌝ }
 {
-    let n = points(d, index);
+    let n = acceptance::points_of(d, index);
     if n == 0 { 0 } else { n - 1 }
 }
 

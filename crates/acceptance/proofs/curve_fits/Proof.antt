@@ -21,13 +21,13 @@ points-of-requires : tie.Need-points-of-requires
 points-of-requires c κs = search needs
 
 returns-2 : tie.Need-returns-2
-returns-2 c = curve-short (parameters (records (c .before .before .before .before .before .before .before .args .d .now))) _ (c .before .before .before .u8-at .ensures ∙ ap (number 6 1) (c .before .before .before .before .rs .ensures) ∙ sym (technology-at (records (c .before .before .before .before .before .before .before .args .d .now)))) (c .before .before .if1 .left) _ (c .before .points-of .ensures .1) (c .if2 .taken)
+returns-2 c = curve-short (parameters (records (c .before .before .before .before .before .before .before .args .d .now))) _ (c .before .before .before .u8-at .ensures ∙ ap (number 6 1) (c .before .before .before .before .rs .ensures) ∙ sym (technology-at (records (c .before .before .before .before .before .before .before .args .d .now)))) (c .before .before .if1 .left) _ (c .before .points-of .ensures .0) (c .if2 .taken)
 
 curve-holds-requires : tie.Need-curve-holds-requires
 curve-holds-requires c κs = search needs
 
 returns-3 : tie.Need-returns-3
-returns-3 c = curve-whole (parameters (records (c .before .before .before .before .before .before .before .before .args .d .now))) _ (c .before .before .before .before .u8-at .ensures ∙ ap (number 6 1) (c .before .before .before .before .before .rs .ensures) ∙ sym (technology-at (records (c .before .before .before .before .before .before .before .before .args .d .now)))) (c .before .before .before .if1 .left) _ (c .before .before .points-of .ensures .1) (c .curve-holds .ensures)
+returns-3 c = curve-whole (parameters (records (c .before .before .before .before .before .before .before .before .args .d .now))) _ (c .before .before .before .before .u8-at .ensures ∙ ap (number 6 1) (c .before .before .before .before .before .rs .ensures) ∙ sym (technology-at (records (c .before .before .before .before .before .before .before .before .args .d .now)))) (c .before .before .before .if1 .left) _ (c .before .before .points-of .ensures .0) (c .curve-holds .ensures)
 
 pub curve-fits-spec : {M : Type 1} → statement M
 curve-fits-spec =

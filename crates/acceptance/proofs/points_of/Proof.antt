@@ -42,7 +42,7 @@ loop-again : tie.Need-loop-again Inv-loop μ-loop
 loop-again c = (omega arith, omega (arith, c .choose .ensures, cond-le (ltb 0 (length (c .before .hp .result .now))) 1 0 1 (omega arith) (omega arith)), count-next (c .before .before .before .loop .i) (parameters (records (c .before .before .before .before .before .before .args .d .now)) .has HP) (c .before .before .before .loop .inv .2) (c .choose .ensures ∙ ap (λ (x : Bool). cond x 1 0) (there-is (records (c .before .before .before .before .before .before .args .d .now)) HP (c .before .before .before .loop .i + 1) (c .before .hp .ensures))))
 
 returns : tie.Need-returns Inv-loop μ-loop
-returns c = (omega arith, unfold points in (c .before .loop .inv .2 ∙ ap (λ (i : ℕ). countTo i (parameters (records (c .before .before .before .before .args .d .now)) .has HP)) (omega arith)))
+returns c = (unfold points in (c .before .loop .inv .2 ∙ ap (λ (i : ℕ). countTo i (parameters (records (c .before .before .before .before .args .d .now)) .has HP)) (omega arith)), omega arith)
 
 pub points-of-spec : {M : Type 1} → statement M
 points-of-spec =

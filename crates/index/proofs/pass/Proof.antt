@@ -11,7 +11,7 @@ use Rattle.records.proofs.Walk.{Rest, start, stop, end}
 use Rattle.index.specs.declared.Reading.{Reading}
 use Rattle.index.specs.Slots.{slotAt, kept, keepStep, passOf, slotsOf}
 use Rattle.index.specs.Entries.{readingOf}
-use Rattle.index.proofs.Turn.{tail, bounds, turn, below}
+use Rattle.index.proofs.Turn.{tail, bounds, long, turn, below}
 use Rattle.index.proofs.Entries.{whole-found, fault-found}
 use Rattle.index.proofs.pass.Statement.{statement}
 use Rattle.index.proofs.pass.Tie as tie
@@ -70,6 +70,12 @@ its c = bounds (d-of (In c)) (at-of (In c)) _ _ (its-found c .1)
 slot-fits : (c : tie.After-known-told Inv-loop μ-loop) → slot-of c < 2350
 slot-fits c = below (d-of (In c)) (at-of (In c)) _ _ (its-found c .1) (its-found c .2)
 
+same-length : tie.Need-same-length Inv-loop μ-loop
+same-length c = search needs
+
+returns : tie.Need-returns Inv-loop μ-loop
+returns c = let k = c .before in absurd (omega (arith, its k, long _ _ _ (its-found k .1), c .if1 .taken))
+
 u32-at-requires : tie.Need-u32-at-requires Inv-loop μ-loop
 u32-at-requires c κs = search needs
 
@@ -80,10 +86,10 @@ add-issue : tie.Need-add-issue Inv-loop μ-loop
 add-issue c = search needs
 
 mul-v : tie.Need-mul-v Inv-loop μ-loop
-mul-v c = omega (arith, slot-fits (c .before))
+mul-v c = omega (arith, slot-fits (c .before .before))
 
 slice-read-v : tie.Need-slice-read-v Inv-loop μ-loop
-slice-read-v c = omega (arith, slot-fits (c .before .before))
+slice-read-v c = omega (arith, slot-fits (c .before .before .before))
 
 issue-held-requires : tie.Need-issue-held-requires Inv-loop μ-loop
 issue-held-requires c κs = search needs
@@ -98,20 +104,20 @@ newer-of-requires : tie.Need-newer-of-requires Inv-loop μ-loop
 newer-of-requires c κs = search needs
 
 mul-index : tie.Need-mul-index Inv-loop μ-loop
-mul-index c = omega (arith, slot-fits (c .before .before .before .before))
+mul-index c = omega (arith, slot-fits (c .before .before .before .before .before))
 
 slice-write-index : tie.Need-slice-write-index Inv-loop μ-loop
-slice-write-index c = omega (arith, slot-fits (c .before .before .before .before))
+slice-write-index c = omega (arith, slot-fits (c .before .before .before .before .before))
 
 add-at : tie.Need-add-at Inv-loop μ-loop
-add-at c = omega (arith, its (c .before .before .before .before .before))
+add-at c = omega (arith, its (c .before .before .before .before .before .before))
 
 loop-less : tie.Need-loop-less Inv-loop μ-loop
-loop-less c = omega (arith, its (c .before .before .before .before .before))
+loop-less c = omega (arith, its (c .before .before .before .before .before .before))
 
 loop-again : tie.Need-loop-again Inv-loop μ-loop
 loop-again c =
-    let k = c .before .before .before .before .before in
+    let k = c .before .before .before .before .before .before in
     let i = In k in
     let l = i .before .loop in
     (omega (arith, its k), simp length-set (l .inv .1), turn (d-of i) _ (l .index) (l .at) (its-found k .0) (len-of k) (l .rising) (i .loop-test .taken) (l .inv .2) (its-found k .1) (its-found k .2) (c .before .before .before .before .u32-at .ensures) (c .before .before .issue-held .ensures) (c .before .newer-of .ensures))
@@ -119,23 +125,23 @@ loop-again c =
 enum-known-number : tie.Need-enum-known-number Inv-loop μ-loop
 enum-known-number c = search needs
 
-same-length : tie.Need-same-length Inv-loop μ-loop
-same-length c = search needs
-
-returns : tie.Need-returns Inv-loop μ-loop
-unfolding passOf slotsOf
-returns c =
-    let r = c .before .before .before in
-    let i = r .before .before in
-    let e = stop (keepStep (d-of i)) (kept (i .before .before .before .before .args .index .now) true) (d-of i) (at-of i) _ _ (i .loop-test .taken) (i .before .loop .inv .2) (fault-found (drop (at-of i) (d-of i)) _ (read-of r (c .before .number .given .1))) in
-    (sym (ap passOf e), sym (ap (slotsOf (i .before .loop .index)) e))
-
 same-length-2 : tie.Need-same-length-2 Inv-loop μ-loop
 same-length-2 c = search needs
 
 returns-2 : tie.Need-returns-2 Inv-loop μ-loop
 unfolding passOf slotsOf
 returns-2 c =
+    let r = c .before .before .before in
+    let i = r .before .before in
+    let e = stop (keepStep (d-of i)) (kept (i .before .before .before .before .args .index .now) true) (d-of i) (at-of i) _ _ (i .loop-test .taken) (i .before .loop .inv .2) (fault-found (drop (at-of i) (d-of i)) _ (read-of r (c .before .number .given .1))) in
+    (sym (ap passOf e), sym (ap (slotsOf (i .before .loop .index)) e))
+
+same-length-3 : tie.Need-same-length-3 Inv-loop μ-loop
+same-length-3 c = search needs
+
+returns-3 : tie.Need-returns-3 Inv-loop μ-loop
+unfolding passOf slotsOf
+returns-3 c =
     let l = c .before .loop in
     let a = c .before .before .before .before .args in
     let e = end (keepStep (a .d .now)) (kept (a .index .now) true) (a .d .now) (l .at) (kept (l .index) (l .rising)) (c .loop-test .left) (l .inv .2) in
@@ -153,6 +159,8 @@ pass-spec =
     part-rest-end
     read-requires
     enum-known-entry
+    same-length
+    returns
     u32-at-requires
     cast-issue
     add-issue
@@ -168,7 +176,7 @@ pass-spec =
     loop-less
     loop-again
     enum-known-number
-    same-length
-    returns
     same-length-2
-    returns-2)
+    returns-2
+    same-length-3
+    returns-3)
