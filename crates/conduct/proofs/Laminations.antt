@@ -13,7 +13,7 @@ use borrow.Author.Tests.{eq-eqb, ne-eqb}
 use Rattle.station.specs.Parameters.{Parameters}
 use Rattle.acceptance.specs.Fit.{energy, holds}
 use Rattle.reference.specs.declared.HourLevels.{HourLevels}
-use Rattle.reference.specs.Levels.{Line, amount}
+use Rattle.formulas.specs.Levels.{Line, amount}
 use Rattle.reference.specs.Packed.{Shown, row, shown, laminationsFrom, singleOf, unpacked}
 use Rattle.conduct.specs.declared.Threshold.{Threshold}
 use Rattle.conduct.specs.declared.Pair.{Pair}

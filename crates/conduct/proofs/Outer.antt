@@ -10,7 +10,7 @@ use Rattle.records.proofs.Answers.{orElse-parts}
 use Rattle.station.specs.Parameters.{Parameters, technology}
 use Rattle.acceptance.specs.Fit.{energy, holds}
 use Rattle.reference.specs.declared.HourLevels.{HourLevels}
-use Rattle.reference.specs.Levels.{Line, levels}
+use Rattle.formulas.specs.Levels.{Line}
 use Rattle.reference.specs.Packed.{shown, unpacked}
 use Rattle.conduct.specs.declared.Threshold.{Threshold}
 use Rattle.conduct.specs.declared.Verdict.{Verdict}

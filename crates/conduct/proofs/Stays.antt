@@ -12,8 +12,8 @@ use Rattle.lists.specs.Lists.{Pairwise, none, more}
 use Rattle.records.specs.declared.Answer.{Answer}
 use Rattle.records.specs.declared.Answer.the-variants.{Accepted, Refused as Turned}
 use Rattle.station.specs.Parameters.{Parameters, percent, margin, floor}
-use Rattle.reference.specs.Levels.{Line, amount, NoLower}
-use Rattle.reference.proofs.Sums.{min-mono}
+use Rattle.formulas.specs.Levels.{Line, amount, NoLower}
+use Rattle.formulas.proofs.Sums.{min-mono}
 use Rattle.conduct.specs.declared.Verdict.{Verdict}
 use Rattle.conduct.specs.declared.Verdict.the-variants.{Passes, Fails, Refused}
 use Rattle.conduct.specs.Test.{limit, fails, failsUnder, failing, quantity, priceAt, before, overlap, offerFrom, priceTest}

@@ -6,7 +6,7 @@ use lib.Dec.{leb, ltb, eqb}
 use Rattle.fields.specs.Numbers.{number, biased, bias}
 use Rattle.station.specs.Parameters.{Parameters, percent, margin, floor}
 use Rattle.acceptance.specs.Fit.{energy}
-use Rattle.reference.specs.Levels.{Line, amount}
+use Rattle.formulas.specs.Levels.{Line, amount}
 use Rattle.conduct.specs.declared.Verdict.{Verdict}
 use Rattle.conduct.specs.declared.Verdict.the-variants.{Passes, Fails}
 

@@ -9,7 +9,7 @@ use Rattle.records.specs.declared.Answer.the-variants.{Accepted, Refused as Tur
 use Rattle.records.specs.Dossier.{records}
 use Rattle.station.specs.Parameters.{Parameters, parameters}
 use Rattle.acceptance.specs.Answer.{answer}
-use Rattle.reference.specs.Levels.{Line, levels}
+use Rattle.formulas.specs.Levels.{Line, levels}
 use Rattle.conduct.specs.declared.Verdict.{Verdict}
 use Rattle.conduct.specs.declared.Verdict.the-variants.{Passes, Fails, Refused}
 use Rattle.conduct.specs.Test.{offerFrom, priceTest}

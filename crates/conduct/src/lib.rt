@@ -8,7 +8,7 @@ ghost use Rattle.records.specs.Dossier.{records};
 ghost use Rattle.station.specs.Parameters.{parameters};
 ghost use Rattle.acceptance.specs.Answer.{IsAccepted};
 ghost use Rattle.acceptance.specs.Fit.{holds};
-ghost use Rattle.reference.specs.Levels.{levels};
+ghost use Rattle.formulas.specs.Levels.{levels};
 ghost use Rattle.reference.specs.Packed.{unpacked};
 ghost use Rattle.lookup.specs.Parts.{Indexed};
 ghost use Rattle.conduct.specs.Test.{limit as limitOf, overlap, quantity, priceAt};

@@ -14,8 +14,8 @@ use Rattle.station.specs.Parameters.{parameters, amounts, technology}
 use Rattle.station.proofs.Parameters.{same-parameters, higher}
 use Rattle.acceptance.specs.Answer.{IsAccepted}
 use Rattle.acceptance.proofs.Sound.{accepted-sound, sound-accepted, sound-raised, efficient}
-use Rattle.reference.specs.Levels.{NoLower, levels}
-use Rattle.reference.proofs.Lines.{lines-upper, lines-close}
+use Rattle.formulas.specs.Levels.{NoLower, levels}
+use Rattle.formulas.proofs.Lines.{lines-upper, lines-close}
 use Rattle.conduct.specs.declared.Verdict.{Verdict}
 use Rattle.conduct.specs.declared.Verdict.the-variants.{Passes, Fails, Refused}
 use Rattle.conduct.specs.Verdict.{settle, numbers, onOffer, onPrice}

@@ -3,7 +3,6 @@ use mathlib.Core.Path.{refl}
 use mathlib.Core.List.{List, [], _∷_, _++_}
 use Prim.Native.Nat.{ℕ}
 use Rattle.lists.specs.Lists.{Permutation, empty, keep, swap, then, joined}
-use Rattle.records.specs.Dossier.{records}
 use Rattle.records.specs.Table.{thermal}
 use Rattle.records.proofs.RaiseTest.{riseTest, recordTest, recordsTest, raiseTest, raise-by}
 use Rattle.acceptance.specs.Answer.{IsAccepted}

@@ -8,7 +8,7 @@ use Rattle.records.specs.Dossier.{records}
 use Rattle.records.specs.Raise.{RaiseFor}
 use Rattle.station.specs.Parameters.{parameters, technology}
 use Rattle.acceptance.specs.Answer.{IsAccepted}
-use Rattle.reference.specs.Levels.{levels, NoLower, CloseLine}
+use Rattle.formulas.specs.Levels.{levels, NoLower, CloseLine}
 use Rattle.conduct.specs.declared.Verdict.{Verdict}
 use Rattle.conduct.specs.Verdict.{numbers, onOffer, onPrice}
 

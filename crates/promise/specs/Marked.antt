@@ -10,8 +10,8 @@ use Rattle.records.specs.Dossier.{records}
 use Rattle.station.specs.Parameters.{Parameters, Amounts, parameters, amounts, hourPrice}
 use Rattle.acceptance.specs.Curve.{fullHours}
 use Rattle.acceptance.specs.Answer.{answer}
-use Rattle.reference.specs.Exact.{Sum, dropped, cents}
-use Rattle.reference.specs.Levels.{chargingCost, shortRunCost, opportunityCost}
+use Rattle.formulas.specs.Exact.{Sum, dropped, cents}
+use Rattle.formulas.specs.Levels.{chargingCost, shortRunCost, opportunityCost}
 use Rattle.conduct.specs.Test.{fails}
 use Rattle.conduct.specs.Verdict.{numbers, onOffer}
 use Rattle.report.specs.Report.{report, prints}

@@ -6,7 +6,7 @@ use lib.IntN.{ℤ}
 use Rattle.lists.specs.Lists.{Permutation, joined}
 use Rattle.records.specs.Dossier.{records}
 use Rattle.acceptance.specs.Answer.{IsAccepted}
-use Rattle.reference.specs.Levels.{levels}
+use Rattle.formulas.specs.Levels.{levels}
 use Rattle.conduct.specs.Verdict.{onOffer, onPrice}
 use Rattle.report.specs.Report.{report, reportAnswer, bufferAfter}
 

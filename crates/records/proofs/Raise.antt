@@ -15,7 +15,7 @@ use Rattle.lists.specs.Tests.{among, allBelow, between}
 use Rattle.lists.proofs.Tests.{split, and-left, and-right, and-both, below-at, at-below, between-low, in-between}
 use Rattle.fields.specs.Numbers.{biased}
 use Rattle.fields.proofs.Numbers.{number-same}
-use Rattle.records.specs.Table.{money, Field, table, rowOf, fieldOf, RQ}
+use Rattle.records.specs.Table.{Field, table, rowOf, fieldOf, RQ}
 use Rattle.records.specs.Record.{mark, size, offset, isMoney, keyWidth, moneyByte, issue, keyOf, read, value, inRange, agrees, rangesHold, fault}
 use Rattle.records.specs.Dossier.{firstOf, restOf, recordsIn, records, moneyAtIn, moneyAt}
 use Rattle.records.specs.Raise.{Rise, stays, rises, limitOf, Rising, Raised, RaiseFor}

@@ -5,8 +5,8 @@ use native.Mathlib.Omega.{arith}
 use Rattle.station.specs.Parameters.{Parameters, Amounts, factor, startHeat, noLoadHeat, incrementalFuel, output, heat, fuel, emission}
 use Rattle.acceptance.specs.Fit.{energy, start, noLoad}
 use Rattle.acceptance.specs.Curve.{rise}
-use Rattle.reference.specs.Exact.{quotient, dropped}
-use Rattle.reference.specs.Levels.{adders, maintenance, startMaintenance, thermalEnergy, heatCost, startCost, noLoadCost, nuclearEnergy}
+use Rattle.formulas.specs.Exact.{quotient, dropped}
+use Rattle.formulas.specs.Levels.{adders, maintenance, startMaintenance, thermalEnergy, heatCost, startCost, noLoadCost, nuclearEnergy}
 
 module _ (s : Parameters) (m : Amounts) (p : ℕ) {f e k : ℕ} (fuel-is : f ≡ fuel m p) (emission-is : e ≡ emission m p) (factor-is : k ≡ factor s) where
   pub heat-costs : (h : ℕ) {r : ℕ} → r ≡ quotient (h * f * k) 1000000 + quotient (h * e) 1000 → r ≡ dropped (heatCost s m p h)

@@ -18,10 +18,10 @@ use Rattle.index.specs.Slots.{slot}
 use Rattle.lookup.specs.Parts.{Indexed}
 use Rattle.lookup.proofs.Parts.{current-none, interval-key}
 use Rattle.acceptance.specs.Looked.{slotsEmpty}
-use Rattle.reference.specs.Sums.{sumTo}
-use Rattle.reference.specs.Levels.{parametersIn, amountsIn}
+use Rattle.formulas.specs.Sums.{sumTo}
+use Rattle.formulas.specs.Levels.{parametersIn, amountsIn}
 use Rattle.reference.specs.Intervals.{Summed}
-use Rattle.reference.proofs.Sums.{sumTo-zeros, sum-more}
+use Rattle.formulas.proofs.Sums.{sumTo-zeros, sum-more}
 
 pub summed-none : (d : List ℕ) → Summed d 0 0 0
 unfolding sumTo

@@ -20,8 +20,8 @@ use Rattle.acceptance.specs.Fit.{energy, start, noLoad, reserve, levelsOf, hold
 use Rattle.acceptance.specs.Curve.{points}
 use Rattle.acceptance.specs.Answer.{answer}
 use Rattle.reference.specs.declared.HourLevels.{HourLevels}
-use Rattle.reference.specs.Exact.{Sum, dropped, cents}
-use Rattle.reference.specs.Levels.{parametersIn, amountsIn, Line, amount, adders, startCost, noLoadCost, nuclearEnergy, storageEnergy, lamination, laminations, oneLamination, single, profile, linesOf, lines, levels}
+use Rattle.formulas.specs.Exact.{Sum, dropped, cents}
+use Rattle.formulas.specs.Levels.{parametersIn, amountsIn, Line, amount, adders, startCost, noLoadCost, nuclearEnergy, storageEnergy, lamination, laminations, oneLamination, single, profile, linesOf, lines, levels}
 use Rattle.reference.specs.Packed.{Shown, row, shown, laminationsFrom, singleOf, unpacked, energyLines, amountOf, padded, hourLevels, packed, noLevels, levelsAnswer}
 
 -- ---- an array filled from the front

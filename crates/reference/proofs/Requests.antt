@@ -16,7 +16,7 @@ use Rattle.records.specs.Record.{offsetIn, offset, read, value, fault}
 use Rattle.station.specs.Current.{current, present}
 use Rattle.station.specs.Parameters.{parameters, requested, firstHour, lastHour}
 use Rattle.station.proofs.Parameters.{says-high}
-use Rattle.reference.specs.Levels.{covers, profileOf}
+use Rattle.formulas.specs.Levels.{covers, profileOf}
 
 -- what one request says of the profile, read of its record
 pub after-request : (l : List (List ℕ)) (h n p : ℕ) {r : List ℕ} {asked first last : ℕ} → r ≡ current RQ n l → asked ≡ number 15 1 r → first ≡ number 7 4 r → last ≡ number 11 4 r

@@ -4,7 +4,7 @@ use mathlib.Core.Bool.{cond}
 use mathlib.Core.List.{List}
 use Prim.Native.Nat.{ℕ, _-_, _≤_}
 use lib.Dec.{leb, ltb}
-use Rattle.reference.specs.Sums.{sumOf}
+use Rattle.formulas.specs.Sums.{sumOf}
 
 -- how many are above v
 abbrev pub above : ℕ → List ℕ → ℕ

@@ -3,8 +3,8 @@ use mathlib.Core.Path.{_≡_}
 use mathlib.Core.List.{List}
 use Prim.Native.Nat.{ℕ, _*_, _≤_}
 use Rattle.station.specs.Parameters.{chargePrice, chargeEnergy}
-use Rattle.reference.specs.Sums.{sumTo}
-use Rattle.reference.specs.Levels.{parametersIn, amountsIn}
+use Rattle.formulas.specs.Sums.{sumTo}
+use Rattle.formulas.specs.Levels.{parametersIn, amountsIn}
 
 -- price × energy and energy of intervals 1 to n, no price above 200,000 cents plus 2^31 and no energy above 1,000,000 kWh
 pub record Summed (d : List ℕ) (n cost energy : ℕ) : Type 0 where

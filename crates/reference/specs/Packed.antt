@@ -10,7 +10,7 @@ use Rattle.acceptance.specs.Fit.{energy, start, noLoad, reserve, holds}
 use Rattle.acceptance.specs.Answer.{answer}
 use Rattle.reference.specs.declared.HourLevels.{HourLevels}
 use Rattle.reference.specs.declared.LevelsAnswer.{LevelsAnswer}
-use Rattle.reference.specs.Levels.{parametersIn, profile, Line, amount, levels}
+use Rattle.formulas.specs.Levels.{parametersIn, profile, Line, amount, levels}
 
 -- a line without its formula
 pub record Shown : Type 0 where

@@ -3,9 +3,9 @@ ghost use mathlib.Core.Path.{_≡_};
 ghost use Prim.Native.Nat.{_+_, _*_, _≤_};
 ghost use lib.ListN.{length};
 ghost use Rattle.lists.specs.Lists.{Each};
-ghost use Rattle.reference.specs.Sums.{sumHighest};
+ghost use Rattle.formulas.specs.Sums.{sumHighest};
 ghost use Rattle.reference.specs.Highest.{above, atLeast, excess, Threshold, PriceIn};
-use crate::formulas::less;
+use crate::arithmetic::less;
 
 // How many are above v.
 fn above(s: &[u32], v: u32) -> usize

@@ -1,5 +1,5 @@
 // Reference levels at an hour. The formulas are in specs/, their laws in proofs/.
-mod formulas;
+mod arithmetic;
 mod highest;
 mod maintenance;
 mod nuclear;
@@ -15,8 +15,8 @@ ghost use Rattle.station.specs.Parameters.{technology, window};
 ghost use Rattle.lookup.specs.Parts.{Indexed};
 ghost use Rattle.acceptance.specs.Curve.{fullHours};
 ghost use Rattle.acceptance.specs.Answer.{IsAccepted};
-ghost use Rattle.reference.specs.Exact.{cents};
-ghost use Rattle.reference.specs.Levels.{parametersIn, amountsIn, profile, linesOf, levels};
+ghost use Rattle.formulas.specs.Exact.{cents};
+ghost use Rattle.formulas.specs.Levels.{parametersIn, amountsIn, profile, linesOf, levels};
 ghost use Rattle.reference.specs.Packed.{padded, hourLevels, packed, noLevels, levelsAnswer};
 use records::Answer;
 

@@ -3,9 +3,9 @@ ghost use mathlib.Core.Path.{_≡_};
 ghost use Prim.Native.Nat.{_*_, _≤_};
 ghost use Rattle.station.specs.Parameters.{costC, outputW, intervalT, hoursPerStartS};
 ghost use Rattle.lookup.specs.Parts.{Indexed};
-ghost use Rattle.reference.specs.Exact.{quotient, dropped};
-ghost use Rattle.reference.specs.Levels.{parametersIn, amountsIn, adders, maintenance, startMaintenance};
-use crate::formulas::share;
+ghost use Rattle.formulas.specs.Exact.{quotient, dropped};
+ghost use Rattle.formulas.specs.Levels.{parametersIn, amountsIn, adders, maintenance, startMaintenance};
+use crate::arithmetic::share;
 use crate::parameters;
 
 // The adders of a level.

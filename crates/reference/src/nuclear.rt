@@ -2,8 +2,8 @@
 ghost use mathlib.Core.Path.{_≡_};
 ghost use Prim.Native.Nat.{_≤_};
 ghost use Rattle.lookup.specs.Parts.{Indexed};
-ghost use Rattle.reference.specs.Exact.{dropped};
-ghost use Rattle.reference.specs.Levels.{parametersIn, amountsIn, nuclearEnergy};
+ghost use Rattle.formulas.specs.Exact.{dropped};
+ghost use Rattle.formulas.specs.Levels.{parametersIn, amountsIn, nuclearEnergy};
 use crate::maintenance::adders;
 use crate::maintenance::maintenance;
 use crate::parameters;

@@ -4,8 +4,8 @@ ghost use mathlib.Core.Path.{_≡_};
 ghost use Prim.Native.Nat.{_≤_};
 ghost use Rattle.station.specs.Parameters.{technology, capacity, factor, startHeat, noLoadHeat, incrementalFuel, charge, efficiency, window, output, heat, fuel, emission, adder, hourPrice};
 ghost use Rattle.lookup.specs.Parts.{Indexed};
-ghost use Rattle.reference.specs.Levels.{parametersIn, amountsIn};
-use crate::formulas::biased;
+ghost use Rattle.formulas.specs.Levels.{parametersIn, amountsIn};
+use crate::arithmetic::biased;
 
 pub fn technology(d: &[u8], index: &[u16]) -> u8
     requires { ⌜ Indexed (now d) (now index) ⌝ }

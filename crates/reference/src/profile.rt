@@ -4,7 +4,7 @@ ghost use mathlib.Core.Bool.{cond};
 ghost use Prim.Native.Nat.{_≤_};
 ghost use Rattle.station.specs.Parameters.{requested};
 ghost use Rattle.lookup.specs.Parts.{Indexed};
-ghost use Rattle.reference.specs.Levels.{parametersIn, covers, profile};
+ghost use Rattle.formulas.specs.Levels.{parametersIn, covers, profile};
 
 // The profile once request n is looked at, p before it.
 fn after(d: &[u8], index: &[u16], hour: u32, n: usize, p: usize) -> usize

@@ -10,7 +10,7 @@ use Rattle.records.specs.Dossier.{records}
 use Rattle.station.specs.Parameters.{parameters}
 use Rattle.acceptance.specs.Answer.{answer}
 use Rattle.reference.specs.declared.HourLevels.{HourLevels}
-use Rattle.reference.specs.Levels.{profile, levels}
+use Rattle.formulas.specs.Levels.{profile, levels}
 use Rattle.reference.specs.Packed.{shown, unpacked}
 use Rattle.report.specs.declared.Written.{Written}
 use Rattle.report.specs.declared.Written.the-variants.{Refused}

@@ -16,10 +16,10 @@ use Rattle.acceptance.specs.Answer.{unsupported, answer}
 use Rattle.acceptance.specs.Curve.{points, rise, curveHolds, curveFits, fuelHolds, fullHours, hoursHold, windowFits}
 use Rattle.acceptance.specs.Fit.{levelsOf, holds, fieldFits, ruleFits, fits, isCurrent, unfit}
 use Rattle.acceptance.specs.Looked.{slotFits, slotsFit, slotsEmpty, thermalFit, otherFit, allFit, notFit, lastRise, legHolds}
-use Rattle.reference.specs.Exact.{quotient, dropped, cents, plus, sumOver, greaterOf, exact}
-use Rattle.reference.specs.Levels.{covers, profileOf, profile, adders, maintenance, startMaintenance, thermalEnergy, heatCost, startCost, noLoadCost, nuclearEnergy, totalEnergy, chargingSum, chargingCost, shortRunCost, highestSum, opportunityCost, storageEnergy, laminations, oneLamination, single, linesOf, lines, levels}
+use Rattle.formulas.specs.Exact.{quotient, dropped, cents, plus, sumOver, greaterOf, exact}
+use Rattle.formulas.specs.Levels.{covers, profileOf, profile, adders, maintenance, startMaintenance, thermalEnergy, heatCost, startCost, noLoadCost, nuclearEnergy, totalEnergy, chargingSum, chargingCost, shortRunCost, highestSum, opportunityCost, storageEnergy, laminations, oneLamination, single, linesOf, lines, levels}
 use Rattle.reference.specs.Packed.{laminationsFrom, singleOf, unpacked, energyLines, amountOf, padded, packed, levelsAnswer}
-use Rattle.reference.specs.Sums.{sumTo, sumOf, listTo, insert, falling, sumFirst, sumHighest}
+use Rattle.formulas.specs.Sums.{sumTo, sumOf, listTo, insert, falling, sumFirst, sumHighest}
 use Rattle.conduct.specs.Refusals.{levelRefusal, conditionRefusal, priceBefore, pairHolds, malformed, aboveCapacity, lengthRefusal, offerRefusal, priceRefusal}
 use Rattle.conduct.specs.Shapes.{failsAt, failingShown, offerShown, priceShown, failsIn, firstFailing, leastOf, singleLevel}
 use Rattle.conduct.specs.Test.{limit, fails, failsUnder, failing, quantity, priceAt, before, overlap, offerFrom, priceTest}

@@ -22,7 +22,7 @@ use Rattle.station.specs.Current.{readable}
 use Rattle.station.specs.Parameters.{Parameters, Amounts, parameters, amounts, technology}
 use Rattle.acceptance.specs.Answer.{answer}
 use Rattle.acceptance.specs.Curve.{points}
-use Rattle.reference.specs.Levels.{Line, profile, laminations, linesOf, lines, levels}
+use Rattle.formulas.specs.Levels.{Line, profile, laminations, linesOf, lines, levels}
 use Rattle.reference.specs.Packed.{shown}
 use Rattle.text.specs.Text.{refusalLine}
 use Rattle.text.proofs.Decimal.{decimal-within}

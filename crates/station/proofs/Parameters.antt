@@ -9,7 +9,7 @@ use native.Mathlib.Omega.{arith}
 use lib.Dec.{leb, ltb}
 use lib.ListN.{length, List·getD-eq-default}
 use borrow.Author.Tests.{leb-true}
-use Rattle.lists.specs.Lists.{Each, Pairwise, none, Permutation}
+use Rattle.lists.specs.Lists.{Each, Pairwise, Permutation}
 use Rattle.lists.specs.Tests.{everyOf}
 use Rattle.lists.proofs.Lists.{member-each}
 use Rattle.fields.specs.Numbers.{number, biased}

@@ -10,7 +10,7 @@ use Rattle.records.specs.Answers.{orElse, refuseIf, isAccepted}
 use Rattle.station.specs.Parameters.{technology}
 use Rattle.acceptance.specs.Answer.{answer}
 use Rattle.reference.specs.declared.HourLevels.{HourLevels}
-use Rattle.reference.specs.Levels.{parametersIn, profile, levels}
+use Rattle.formulas.specs.Levels.{parametersIn, profile, levels}
 use Rattle.reference.specs.Packed.{packed}
 use Rattle.words.specs.Words.{wordsOf, wordsAnswer, wordsAfter}
 

@@ -10,7 +10,7 @@ use Rattle.station.specs.Parameters.{technology}
 use Rattle.acceptance.specs.Fit.{energy, start, noLoad, reserve, holds}
 use Rattle.acceptance.specs.Answer.{answer}
 use Rattle.reference.specs.declared.HourLevels.{HourLevels}
-use Rattle.reference.specs.Levels.{parametersIn, profile, levels}
+use Rattle.formulas.specs.Levels.{parametersIn, profile, levels}
 use Rattle.reference.specs.Packed.{packed}
 
 -- the levels that a technology holds as bits: 1 energy, 2 start, 4 no-load, 8 reserve

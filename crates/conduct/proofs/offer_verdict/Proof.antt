@@ -2,7 +2,7 @@ use mathlib.Core.Path.{_≡_, sym, _∙_}
 use Rattle.records.specs.declared.Answer.the-variants.{Accepted}
 use Rattle.records.specs.Dossier.{records}
 use Rattle.station.specs.Parameters.{parameters}
-use Rattle.reference.specs.Levels.{levels}
+use Rattle.formulas.specs.Levels.{levels}
 use Rattle.conduct.specs.Refusals.{offerRefusal}
 use Rattle.reference.proofs.Packed.{handed-shown, handed-count}
 use Rattle.conduct.proofs.Outer.{offer-accepted, offer-refused, offer-tested}

@@ -5,7 +5,7 @@ use Rattle.records.specs.declared.Answer.the-variants.{Accepted}
 use Rattle.records.specs.Dossier.{records}
 use Rattle.station.specs.Parameters.{parameters}
 use Rattle.acceptance.specs.Fit.{holds}
-use Rattle.reference.specs.Levels.{levels}
+use Rattle.formulas.specs.Levels.{levels}
 use Rattle.conduct.specs.Refusals.{priceRefusal}
 use Rattle.reference.proofs.Packed.{handed-shown, handed-technology}
 use Rattle.conduct.proofs.Outer.{price-accepted, price-refused, price-tested}

@@ -5,8 +5,8 @@ use Prim.Native.Nat.{_+_, _≤_, _-_}
 use native.Mathlib.Omega.{arith}
 use lib.Dec.{ltb}
 use lib.ListN.{length, getD, drop}
-use Rattle.reference.specs.Sums.{sumOf}
-use Rattle.reference.proofs.Sums.{one-if, one-high}
+use Rattle.formulas.specs.Sums.{sumOf}
+use Rattle.formulas.proofs.Sums.{one-if, one-high}
 use Rattle.reference.proofs.Selection.{sum-turn, sum-end}
 use Rattle.reference.proofs.highest.above.Statement.{statement}
 use Rattle.reference.proofs.highest.above.Tie as tie

@@ -3,7 +3,7 @@ use mathlib.Core.Path.{_≡_}
 use Prim.Native.Nat.{_+_, _*_, _≤_, _-_}
 use native.Mathlib.Omega.{arith}
 use lib.ListN.{length, drop}
-use Rattle.reference.specs.Sums.{sumOf}
+use Rattle.formulas.specs.Sums.{sumOf}
 use Rattle.reference.proofs.Selection.{sum-turn, sum-end}
 use Rattle.reference.proofs.highest.excess.Statement.{statement}
 use Rattle.reference.proofs.highest.excess.Tie as tie

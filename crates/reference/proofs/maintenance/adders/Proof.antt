@@ -4,10 +4,10 @@ use Prim.Native.Nat.{_≤_, _*_, _-_}
 use native.Mathlib.Omega.{arith}
 use Rattle.records.specs.Dossier.{records}
 use Rattle.station.specs.Parameters.{amounts, adder}
-use Rattle.reference.specs.Sums.{sumTo}
-use Rattle.reference.specs.Exact.{dropped}
-use Rattle.reference.specs.Levels.{adders}
-use Rattle.reference.proofs.Sums.{sum-more, sum-ends}
+use Rattle.formulas.specs.Sums.{sumTo}
+use Rattle.formulas.specs.Exact.{dropped}
+use Rattle.formulas.specs.Levels.{adders}
+use Rattle.formulas.proofs.Sums.{sum-more, sum-ends}
 use Rattle.reference.proofs.maintenance.adders.Statement.{statement}
 use Rattle.reference.proofs.maintenance.adders.Tie as tie
 

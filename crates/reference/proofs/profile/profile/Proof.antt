@@ -4,7 +4,7 @@ use Prim.Native.Nat.{_≤_, _-_}
 use native.Mathlib.Omega.{arith}
 use Rattle.records.specs.Dossier.{records}
 use Rattle.station.specs.Parameters.{parameters}
-use Rattle.reference.specs.Levels.{profileOf, profile}
+use Rattle.formulas.specs.Levels.{profileOf, profile}
 use Rattle.reference.proofs.Bounds.{clean}
 use Rattle.reference.proofs.Requests.{profile-next, profile-range}
 use Rattle.reference.proofs.profile.profile.Statement.{statement}

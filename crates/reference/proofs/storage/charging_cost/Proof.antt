@@ -2,9 +2,9 @@ use borrow.Author.Needs.{needs}
 use mathlib.Core.Path.{ap, ap₂, _∙_}
 use Prim.Native.Nat.{ℕ, _*_, _-_}
 use native.Mathlib.Omega.{arith}
-use Rattle.reference.specs.Exact.{quotient, dropped}
-use Rattle.reference.specs.Levels.{chargingSum, chargingCost}
-use Rattle.reference.proofs.Exact.{quotient-le}
+use Rattle.formulas.specs.Exact.{quotient, dropped}
+use Rattle.formulas.specs.Levels.{chargingSum, chargingCost}
+use Rattle.formulas.proofs.Exact.{quotient-le}
 use Rattle.reference.proofs.storage.charging_cost.Statement.{statement}
 use Rattle.reference.proofs.storage.charging_cost.Tie as tie
 

@@ -4,7 +4,7 @@ use mathlib.Core.List.{List}
 use Prim.Native.Nat.{ℕ}
 use Rattle.records.specs.Dossier.{records}
 use Rattle.station.specs.Parameters.{amounts, hourPrice}
-use Rattle.reference.specs.Sums.{sumHighest}
+use Rattle.formulas.specs.Sums.{sumHighest}
 use Rattle.reference.proofs.Bounds.{clean}
 use Rattle.reference.proofs.Hours.{hours-part, hours-ready, hour-in}
 use Rattle.reference.proofs.storage.highest_sum.Statement.{statement}

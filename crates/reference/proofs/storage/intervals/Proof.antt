@@ -2,9 +2,9 @@ use borrow.Author.Needs.{needs}
 use mathlib.Core.Path.{_≡_}
 use Prim.Native.Nat.{_-_, _%_, _≤_}
 use native.Mathlib.Omega.{arith}
-use Rattle.reference.specs.Levels.{totalEnergy}
+use Rattle.formulas.specs.Levels.{totalEnergy}
 use Rattle.reference.specs.Intervals.{Summed}
-use Rattle.reference.proofs.Sums.{sum-ends}
+use Rattle.formulas.proofs.Sums.{sum-ends}
 use Rattle.reference.proofs.Intervals.{summed-none}
 use Rattle.reference.proofs.storage.intervals.Statement.{statement}
 use Rattle.reference.proofs.storage.intervals.Tie as tie

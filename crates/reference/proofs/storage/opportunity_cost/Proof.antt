@@ -5,9 +5,9 @@ use native.Mathlib.Omega.{arith}
 use Rattle.records.specs.Dossier.{records}
 use Rattle.station.specs.Parameters.{parameters, amounts, hourPrice}
 use Rattle.acceptance.specs.Curve.{fullHours}
-use Rattle.reference.specs.Sums.{listTo, sumHighest}
-use Rattle.reference.specs.Exact.{quotient, dropped}
-use Rattle.reference.specs.Levels.{highestSum, opportunityCost}
+use Rattle.formulas.specs.Sums.{listTo, sumHighest}
+use Rattle.formulas.specs.Exact.{quotient, dropped}
+use Rattle.formulas.specs.Levels.{highestSum, opportunityCost}
 use Rattle.reference.proofs.storage.opportunity_cost.Statement.{statement}
 use Rattle.reference.proofs.storage.opportunity_cost.Tie as tie
 

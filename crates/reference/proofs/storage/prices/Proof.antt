@@ -5,7 +5,7 @@ use native.Mathlib.Omega.{arith}
 use lib.ListN.{length, drop, length-set}
 use Rattle.records.specs.Dossier.{records}
 use Rattle.station.specs.Parameters.{amounts, hourPrice}
-use Rattle.reference.specs.Sums.{listTo}
+use Rattle.formulas.specs.Sums.{listTo}
 use Rattle.reference.proofs.Hours.{hours-more, hours-end, hours-none}
 use Rattle.reference.proofs.storage.prices.Statement.{statement}
 use Rattle.reference.proofs.storage.prices.Tie as tie

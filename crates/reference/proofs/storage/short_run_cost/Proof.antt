@@ -2,8 +2,8 @@ use borrow.Author.Needs.{needs}
 use mathlib.Core.Path.{ap₂, _∙_}
 use Prim.Native.Nat.{ℕ, _+_, _*_}
 use native.Mathlib.Omega.{arith}
-use Rattle.reference.specs.Exact.{quotient, dropped}
-use Rattle.reference.specs.Levels.{shortRunCost}
+use Rattle.formulas.specs.Exact.{quotient, dropped}
+use Rattle.formulas.specs.Levels.{shortRunCost}
 use Rattle.reference.proofs.storage.short_run_cost.Statement.{statement}
 use Rattle.reference.proofs.storage.short_run_cost.Tie as tie
 

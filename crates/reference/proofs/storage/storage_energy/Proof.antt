@@ -1,8 +1,8 @@
 use borrow.Author.Needs.{needs}
 use mathlib.Core.Path.{ap₂, _∙_}
 use Prim.Native.Nat.{ℕ, max}
-use Rattle.reference.specs.Exact.{dropped}
-use Rattle.reference.specs.Levels.{storageEnergy}
+use Rattle.formulas.specs.Exact.{dropped}
+use Rattle.formulas.specs.Levels.{storageEnergy}
 use Rattle.reference.proofs.storage.storage_energy.Statement.{statement}
 use Rattle.reference.proofs.storage.storage_energy.Tie as tie
 

@@ -1,7 +1,7 @@
 use borrow.Author.Needs.{needs}
 use mathlib.Core.Path.{ap, _∙_}
 use native.Mathlib.Omega.{arith}
-use Rattle.reference.specs.Exact.{cents}
+use Rattle.formulas.specs.Exact.{cents}
 use Rattle.reference.proofs.Costs.{thermal-costs}
 use Rattle.reference.proofs.thermal.lamination.Statement.{statement}
 use Rattle.reference.proofs.thermal.lamination.Tie as tie

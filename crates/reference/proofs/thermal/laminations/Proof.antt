@@ -6,7 +6,7 @@ use native.Mathlib.Omega.{arith}
 use lib.ListN.{length, take, set}
 use Rattle.records.specs.Dossier.{records}
 use Rattle.station.specs.Parameters.{parameters, amounts, output}
-use Rattle.reference.specs.Levels.{Line, amount, lamination, laminations}
+use Rattle.formulas.specs.Levels.{Line, amount, lamination, laminations}
 use Rattle.reference.specs.Packed.{padded}
 use Rattle.reference.proofs.Packed.{row-more, row-ends, row-length, laminations-length, lamination-at}
 use Rattle.reference.proofs.thermal.laminations.Statement.{statement}

@@ -8,9 +8,9 @@ use lib.Dec.{eqb}
 use Rattle.records.specs.Table.{RS, HP, FU, AD, MM, RQ, HR, CH}
 use Rattle.station.specs.Parameters.{Parameters, Amounts, adderKey, itemKey}
 use Rattle.acceptance.specs.Curve.{rise, fullHours}
-use Rattle.reference.specs.Sums.{sumTo, listTo, insert, falling, sumFirst, sumHighest}
-use Rattle.reference.specs.Exact.{quotient, dropped, cents}
-use Rattle.reference.specs.Levels.{covers, profileOf, profile, adders, maintenance, startMaintenance, thermalEnergy, heatCost, startCost, noLoadCost, nuclearEnergy, totalEnergy, chargingSum, chargingCost, shortRunCost, highestSum, opportunityCost, storageEnergy}
+use Rattle.formulas.specs.Sums.{sumTo, listTo, insert, falling, sumFirst, sumHighest}
+use Rattle.formulas.specs.Exact.{quotient, dropped, cents}
+use Rattle.formulas.specs.Levels.{covers, profileOf, profile, adders, maintenance, startMaintenance, thermalEnergy, heatCost, startCost, noLoadCost, nuclearEnergy, totalEnergy, chargingSum, chargingCost, shortRunCost, highestSum, opportunityCost, storageEnergy}
 
 -- what a field of a current record says
 record Entry : Type 0 where

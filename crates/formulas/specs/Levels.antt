@@ -9,8 +9,8 @@ use Rattle.records.specs.Dossier.{records}
 use Rattle.station.specs.Parameters.{Parameters, Amounts, parameters, amounts, technology, capacity, factor, startHeat, noLoadHeat, incrementalFuel, efficiency, window, output, heat, fuel, emission, adder, costC, outputW, intervalT, hoursPerStartS, firstHour, lastHour, requested, hourPrice, chargePrice, chargeEnergy}
 use Rattle.acceptance.specs.Fit.{energy, start, noLoad, reserve}
 use Rattle.acceptance.specs.Curve.{points, rise, fullHours}
-use Rattle.reference.specs.Sums.{sumTo, listTo, sumHighest}
-use Rattle.reference.specs.Exact.{Sum, whole, share, _⊕_, total, perThousand, greater, dropped, exact, cents, Close}
+use Rattle.formulas.specs.Sums.{sumTo, listTo, sumHighest}
+use Rattle.formulas.specs.Exact.{Sum, whole, share, _⊕_, total, perThousand, greater, dropped, exact, cents, Close}
 
 -- ---- what a dossier's current records say
 

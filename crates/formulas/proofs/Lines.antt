@@ -11,11 +11,11 @@ use Rattle.lists.specs.Lists.{Pairwise, none, more, Each, done, also}
 use Rattle.records.specs.Table.{FU, AD, MM, HR, CH}
 use Rattle.station.specs.Parameters.{Parameters, Amounts, Higher, technology, efficiency, window, chargeEnergy, chargePrice, adderKey, itemKey}
 use Rattle.acceptance.specs.Curve.{fullHours}
-use Rattle.reference.specs.Sums.{sumTo}
-use Rattle.reference.specs.Exact.{Sum}
-use Rattle.reference.specs.Levels.{profile, adders, maintenance, startMaintenance, thermalEnergy, heatCost, startCost, noLoadCost, nuclearEnergy, chargingSum, chargingCost, shortRunCost, highestSum, opportunityCost, storageEnergy, Line, line, amount, NoLower, CloseLine, laminations, oneLamination, single, linesOf, lines}
-use Rattle.reference.proofs.Sums.{sumTo-mono, listTo-mono, sumHighest-mono}
-use Rattle.reference.proofs.Exact.{Below, wholes, shares, both, totals, perThousands, greaters, dropped-mono, cents-mono, divisions, close}
+use Rattle.formulas.specs.Sums.{sumTo}
+use Rattle.formulas.specs.Exact.{Sum}
+use Rattle.formulas.specs.Levels.{profile, adders, maintenance, startMaintenance, thermalEnergy, heatCost, startCost, noLoadCost, nuclearEnergy, chargingSum, chargingCost, shortRunCost, highestSum, opportunityCost, storageEnergy, Line, line, amount, NoLower, CloseLine, laminations, oneLamination, single, linesOf, lines}
+use Rattle.formulas.proofs.Sums.{sumTo-mono, listTo-mono, sumHighest-mono}
+use Rattle.formulas.proofs.Exact.{Below, wholes, shares, both, totals, perThousands, greaters, dropped-mono, cents-mono, divisions, close}
 
 -- ---- each formula, part by part
 

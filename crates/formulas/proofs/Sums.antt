@@ -11,7 +11,7 @@ use lib.Dec.{eqb}
 use mir.Val.{boolByte}
 use Rattle.lists.specs.Lists.{Each, done, also, Pairwise, none, more}
 use Rattle.lists.specs.Tests.{countTo}
-use Rattle.reference.specs.Sums.{sumTo, sumOf, listTo, insert, falling, sumFirst, sumHighest}
+use Rattle.formulas.specs.Sums.{sumTo, sumOf, listTo, insert, falling, sumFirst, sumHighest}
 
 -- a test as a number
 pub one-if : (b : Bool) → boolByte b ≡ cond b 1 0

@@ -2,7 +2,7 @@
 ghost use mathlib.Core.Path.{_≡_};
 ghost use Prim.Native.Nat.{_+_, _*_, _-_, _≤_, max};
 ghost use Rattle.fields.specs.Numbers.{biased};
-ghost use Rattle.reference.specs.Exact.{quotient};
+ghost use Rattle.formulas.specs.Exact.{quotient};
 
 // One number over another; 0 where the divisor is 0.
 pub fn share(n: u64, by: u64) -> u64

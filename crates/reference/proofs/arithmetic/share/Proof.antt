@@ -2,9 +2,9 @@ use borrow.Author.Needs.{needs}
 use mathlib.Core.Path.{refl}
 use native.Mathlib.Nat.{div-le-self, div-zero}
 use native.Mathlib.Omega.{arith}
-use Rattle.reference.specs.Exact.{quotient}
-use Rattle.reference.proofs.formulas.share.Statement.{statement}
-use Rattle.reference.proofs.formulas.share.Tie as tie
+use Rattle.formulas.specs.Exact.{quotient}
+use Rattle.reference.proofs.arithmetic.share.Statement.{statement}
+use Rattle.reference.proofs.arithmetic.share.Tie as tie
 
 div-result : tie.Need-div-result
 div-result c = search needs

@@ -1,0 +1,4 @@
+mod Worked
+pub mod Sums
+pub mod Exact
+pub mod Lines
