@@ -1,9 +1,14 @@
--- Worked values of the limit, in cents: document 01's M3 and M4, a limit by margin, and one without a margin.
+-- Worked values of the limit, in cents: document 01's M3 and M4, a limit by margin, and one without a margin; and of an offer's length.
 use mathlib.Core.Path.{_≡_, refl}
 use mathlib.Core.Bool.{true, false}
 use Prim.Native.Nat.{_+_}
+use lib.ListN.{replicate}
+use Rattle.lists.specs.Tests.{between}
 use Rattle.fields.specs.Numbers.{bias}
+use Rattle.records.specs.declared.Answer.the-variants.{Accepted, Refused}
+use Rattle.records.specs.Answers.{refuseIf}
 use Rattle.conduct.specs.Test.{noMargin, limit, fails}
+use Rattle.conduct.specs.Refusals.{lengthRefusal}
 
 -- M3: by percent 63.45, by margin 67.30
 by-percent : limit 4230 50 2500 ≡ 6345
@@ -37,3 +42,12 @@ below-the-floor = refl
 at-the-floor : fails 1000 50 2500 2500 (2500 + bias) ≡ true
 unfolding fails limit
 at-the-floor = refl
+
+-- 20 pairs are an offer, 21 are not
+twenty-pairs : lengthRefusal (replicate 120 0) ≡ Accepted
+unfolding lengthRefusal refuseIf between
+twenty-pairs = refl
+
+twenty-one-pairs : lengthRefusal (replicate 126 0) ≡ Refused 10 126
+unfolding lengthRefusal refuseIf between
+twenty-one-pairs = refl

@@ -2,3 +2,5 @@ mod Worked
 pub mod Sums
 pub mod Exact
 pub mod Lines
+pub mod Profile
+pub mod Signed
