@@ -5,7 +5,7 @@ use mathlib.Core.List.{List, [], _∷_}
 use Prim.Native.Nat.{ℕ, zero, suc, _+_, _≤_}
 use native.Mathlib.Decide.{ℕ-discrete}
 use native.Mathlib.Omega.{arith}
-use Rattle.lists.specs.Lists.{Each, done, also}
+use Rattle.lists.specs.Lists.{done, also}
 use Rattle.station.specs.Parameters.{Parameters}
 use Rattle.acceptance.specs.Fit.{energy}
 use Rattle.formulas.specs.Levels.{Line}

@@ -56,6 +56,11 @@ r1-energy : dropped (thermalEnergy (asParameters r1) (asAmounts r1) 1 1) ≡ 423
 unfolding thermalEnergy adders maintenance rise dropped quotient sumTo find
 r1-energy = refl
 
+-- fuel and emission a micro-dollar dearer: no term rounds to cents by itself
+dearer : dropped (thermalEnergy (asParameters r1) (asAmounts (says FU 1 1 4000001 ∷ says FU 1 2 1000001 ∷ r1)) 1 1) ≡ 42300016
+unfolding thermalEnergy adders maintenance rise dropped quotient sumTo find
+dearer = refl
+
 -- fuel 2,000.00, emission 500.00, maintenance 800.00
 r1-start : dropped (startCost (asParameters r1) (asAmounts r1) 1) ≡ 3300000000
 unfolding startCost heatCost adders startMaintenance dropped quotient sumTo find
