@@ -13,8 +13,7 @@ use Rattle.records.specs.Table.{table, rowOf, fieldOf}
 use Rattle.records.specs.Record.{mark, size, offsetIn, offset, read, value, inRange, rangesHold}
 use Rattle.records.proofs.Record.{field-in}
 use Rattle.acceptance.specs.Fit.{levelsOf, holds, fieldFits, ruleFits, fits}
-use Rattle.acceptance.specs.declared.Tried.{Tried}
-use Rattle.acceptance.specs.Looked.{Known, triedAs}
+use Rattle.acceptance.specs.Looked.{Known, tried, triedAs}
 
 or-false : (a : Bool) → a || false ≡ a
 or-false true = refl
@@ -115,9 +114,6 @@ module _ (t : ℕ) (s : List ℕ) (known : Known t) where
   pub fits-rq : true ≡ fits t 6 s
   unfolding fits ruleFits fieldFits allBelow among value read offset offsetIn fieldOf rowOf table
   fits-rq = by-technology (λ t. true ≡ fits t 6 s) refl refl refl t known
-
-abbrev tried : ℕ → Bool → Tried
-tried n b = record { len = n; fits = b }
 
 -- a record whose mark was read
 pub at-mark : (t k m n : ℕ) (s : List ℕ) {b : Bool} → size m ≡ n → b ≡ fits t m s → k ≡ mark s → k ≡ m → tried n b ≡ triedAs t (mark s) s

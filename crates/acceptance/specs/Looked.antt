@@ -21,8 +21,12 @@ abbrev pub Known : ℕ → Type 0
 Known t = (1 ≤ t) × (t ≤ 3)
 
 -- a record's length, and whether it fits
+abbrev pub tried : ℕ → Bool → Tried
+tried n b = record { len = n; fits = b }
+
+-- of a record of mark k at the front of s
 abbrev pub triedAs : ℕ → ℕ → List ℕ → Tried
-triedAs t k s = record { len = size k; fits = fits t k s }
+triedAs t k s = tried (size k) (fits t k s)
 
 -- a slot of value v is empty, or the record that stands at its place fits
 abbrev pub heldFits : ℕ → List ℕ → ℕ → Bool

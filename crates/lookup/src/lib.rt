@@ -7,8 +7,8 @@ ghost use lib.ListN.{length, replicate};
 ghost use Rattle.fields.specs.Numbers.{number};
 ghost use Rattle.records.specs.declared.Answer.the-variants.{Accepted};
 ghost use Rattle.records.specs.Record.{mark};
-ghost use Rattle.records.specs.Dossier.{records, scan};
-ghost use Rattle.station.specs.Current.{current, twins, readable, lookupBytes};
+ghost use Rattle.records.specs.Dossier.{records};
+ghost use Rattle.station.specs.Current.{current, readable, lookupBytes};
 ghost use Rattle.index.specs.declared.Passed.the-variants.{Ended};
 ghost use Rattle.index.specs.Slots.{slot};
 ghost use Rattle.lookup.specs.Parts.{scanned, placeOf, placeAt, bytesOf, partAt, currentPart, lookupPart, Indexed};
@@ -111,7 +111,7 @@ pub fn hp<'a>(d: &'a [u8], index: &[u16], n: usize) -> &'a [u8]
     requires { ⌜ Indexed (now d) (now index) × (1 ≤ n) × (n ≤ 21) ⌝ }
     ensures { λ r. ⌜ now r ≡ current 2 n (records (now (d .entry))) ⌝ }
 {
-    part_at(d, index, index::slot_hp(n), records::HP.length)
+    part_at(d, index, index::keys::slot_hp(n), records::HP.length)
 }
 
 // The current FU of a profile.
@@ -119,7 +119,7 @@ pub fn fu<'a>(d: &'a [u8], index: &[u16], p: usize) -> &'a [u8]
     requires { ⌜ Indexed (now d) (now index) × (1 ≤ p) × (p ≤ 4) ⌝ }
     ensures { λ r. ⌜ now r ≡ current 3 p (records (now (d .entry))) ⌝ }
 {
-    part_at(d, index, index::slot_fu(p), records::FU.length)
+    part_at(d, index, index::keys::slot_fu(p), records::FU.length)
 }
 
 // The current AD of a profile, cost and level.
@@ -127,7 +127,7 @@ pub fn ad<'a>(d: &'a [u8], index: &[u16], p: usize, c: usize, v: usize) -> &'a [
     requires { ⌜ Indexed (now d) (now index) × (1 ≤ p) × (p ≤ 4) × (1 ≤ c) × (c ≤ 5) × (1 ≤ v) × (v ≤ 4) ⌝ }
     ensures { λ r. ⌜ now r ≡ current 4 (p * 65536 + c * 256 + v) (records (now (d .entry))) ⌝ }
 {
-    part_at(d, index, index::slot_ad(p, c, v), records::AD.length)
+    part_at(d, index, index::keys::slot_ad(p, c, v), records::AD.length)
 }
 
 // The current MM of a profile and item.
@@ -135,7 +135,7 @@ pub fn mm<'a>(d: &'a [u8], index: &[u16], p: usize, j: usize) -> &'a [u8]
     requires { ⌜ Indexed (now d) (now index) × (1 ≤ p) × (p ≤ 4) × (1 ≤ j) × (j ≤ 8) ⌝ }
     ensures { λ r. ⌜ now r ≡ current 5 (p * 256 + j) (records (now (d .entry))) ⌝ }
 {
-    part_at(d, index, index::slot_mm(p, j), records::MM.length)
+    part_at(d, index, index::keys::slot_mm(p, j), records::MM.length)
 }
 
 // The current RQ of a request.
@@ -143,7 +143,7 @@ pub fn rq<'a>(d: &'a [u8], index: &[u16], n: usize) -> &'a [u8]
     requires { ⌜ Indexed (now d) (now index) × (1 ≤ n) × (n ≤ 16) ⌝ }
     ensures { λ r. ⌜ now r ≡ current 6 n (records (now (d .entry))) ⌝ }
 {
-    part_at(d, index, index::slot_rq(n), records::RQ.length)
+    part_at(d, index, index::keys::slot_rq(n), records::RQ.length)
 }
 
 // The current HR of an hour of the window.
@@ -151,7 +151,7 @@ pub fn hr<'a>(d: &'a [u8], index: &[u16], n: usize) -> &'a [u8]
     requires { ⌜ Indexed (now d) (now index) × (1 ≤ n) × (n ≤ 168) ⌝ }
     ensures { λ r. ⌜ now r ≡ current 7 n (records (now (d .entry))) ⌝ }
 {
-    part_at(d, index, index::slot_hr(n), records::HR.length)
+    part_at(d, index, index::keys::slot_hr(n), records::HR.length)
 }
 
 // The current CH of an interval.
@@ -159,7 +159,7 @@ pub fn ch<'a>(d: &'a [u8], index: &[u16], n: usize) -> &'a [u8]
     requires { ⌜ Indexed (now d) (now index) × (1 ≤ n) × (n ≤ 2016) ⌝ }
     ensures { λ r. ⌜ now r ≡ current 8 n (records (now (d .entry))) ⌝ }
 {
-    part_at(d, index, index::slot_ch(n), records::CH.length)
+    part_at(d, index, index::keys::slot_ch(n), records::CH.length)
 }
 
 // The current TH of a condition and level.
@@ -167,7 +167,7 @@ pub fn th<'a>(d: &'a [u8], index: &[u16], c: usize, v: usize) -> &'a [u8]
     requires { ⌜ Indexed (now d) (now index) × (1 ≤ c) × (c ≤ 3) × (1 ≤ v) × (v ≤ 4) ⌝ }
     ensures { λ r. ⌜ now r ≡ current 9 (c * 256 + v) (records (now (d .entry))) ⌝ }
 {
-    part_at(d, index, index::slot_th(c, v), records::TH.length)
+    part_at(d, index, index::keys::slot_th(c, v), records::TH.length)
 }
 
 // The slot of a mark and key.
@@ -176,28 +176,28 @@ pub fn slot_of(kind: usize, n: usize) -> usize
     ensures { λ r. ⌜ r ≡ slot kind n ⌝ }
 {
     if kind == 2 {
-        return index::slot_hp(n);
+        return index::keys::slot_hp(n);
     }
     if kind == 3 {
-        return index::slot_fu(n);
+        return index::keys::slot_fu(n);
     }
     if kind == 4 {
-        return index::slot_ad(n / 65536, n / 256 % 256, n % 256);
+        return index::keys::slot_ad(n / 65536, n / 256 % 256, n % 256);
     }
     if kind == 5 {
-        return index::slot_mm(n / 256, n % 256);
+        return index::keys::slot_mm(n / 256, n % 256);
     }
     if kind == 6 {
-        return index::slot_rq(n);
+        return index::keys::slot_rq(n);
     }
     if kind == 7 {
-        return index::slot_hr(n);
+        return index::keys::slot_hr(n);
     }
     if kind == 8 {
-        return index::slot_ch(n);
+        return index::keys::slot_ch(n);
     }
     if kind == 9 {
-        return index::slot_th(n / 256, n % 256);
+        return index::keys::slot_th(n / 256, n % 256);
     }
     0
 }

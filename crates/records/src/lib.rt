@@ -221,13 +221,18 @@ pub fn zero_or(s: &[u8], at: usize, low: u16, high: u16) -> bool
     (x == 0) | ((low <= x) & (x <= high))
 }
 
-// A price, held plus 2^31.
+// The range of a price, -200,000 to 200,000 cents, held plus 2^31.
+pub const LOWEST_PRICE: u64 = 2147283648;
+
+pub const HIGHEST_PRICE: u64 = 2147683648;
+
+// Whether a price, held plus 2^31, is in its range.
 pub fn price(s: &[u8], at: usize) -> bool
     requires { ⌜ at + 2 < 65536 ⌝ }
     ensures { λ r. ⌜ r ≡ between 2147283648 2147683648 (biased (number at 4 (now (s .entry)))) ⌝ }
 {
     let x = ((fields::u32_at(s, at) as u64) + 2147483648) % 4294967296;
-    (2147283648 <= x) & (x <= 2147683648)
+    (LOWEST_PRICE <= x) & (x <= HIGHEST_PRICE)
 }
 
 // The ranges of each mark.

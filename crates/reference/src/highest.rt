@@ -1,6 +1,6 @@
 // The sum of the highest of some prices, by the price that parts them from the others: it is found by halving the range.
 ghost use mathlib.Core.Path.{_≡_};
-ghost use Prim.Native.Nat.{_+_, _*_, _≤_};
+ghost use Prim.Native.Nat.{_*_, _≤_};
 ghost use lib.ListN.{length};
 ghost use Rattle.lists.specs.Lists.{Each};
 ghost use Rattle.formulas.specs.Sums.{sumHighest};

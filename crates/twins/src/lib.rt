@@ -1,7 +1,7 @@
 // 4: mark, key and issue seen before.
 ghost use mathlib.Core.Path.{_≡_};
 ghost use mathlib.Core.List.{[]};
-ghost use Prim.Native.Nat.{_+_, _<_, _≤_};
+ghost use Prim.Native.Nat.{_≤_};
 ghost use lib.ListN.{length};
 ghost use Rattle.records.specs.declared.Answer.the-variants.{Accepted};
 ghost use Rattle.records.specs.Dossier.{records, scan};
@@ -52,7 +52,7 @@ fn search(d: &[u8], links: &mut [u16], ids: &mut [u64], roots: usize) -> Answer
         if rest.len() < 11 {
             return Answer::Accepted;
         }
-        let s = index::entry_at(rest);
+        let s = index::reader::entry_at(rest);
         let next = at + s.len;
         let x = (s.slot as u64) * 4294967296 + (fields::u32_at(rest, 2) as u64);
         if enter(links, ids, roots, count, x) {

@@ -1,0 +1,55 @@
+use Rattle.acceptance.proofs.Unfit.{empty-next}
+use Rattle.acceptance.specs.Looked.{slotsEmpty}
+use Rattle.lists.specs.Tests.{allBelow}
+use lib.Dec.{eqb}
+use Prim.Native.Nat.{_≤_, _-_}
+use native.Mathlib.Omega.{arith}
+use borrow.Author.Needs.{needs}
+use mathlib.Core.Path.{_≡_, refl, ap, _∙_}
+use Rattle.acceptance.proofs.technology.slots_empty.Statement.{statement}
+use Rattle.acceptance.proofs.technology.slots_empty.Tie as tie
+
+abbrev Inv-loop : tie.InvT-loop
+Inv-loop index j n any₀ i₀ any i = (i ≤ n) × (eqb any 0 ≡ slotsEmpty index j i)
+
+abbrev μ-loop : tie.MeasureT-loop
+μ-loop index j n any₀ i₀ any i = n - i
+
+loop-holds : tie.Need-loop-holds Inv-loop μ-loop
+loop-holds c = (omega arith, unfold slotsEmpty allBelow in refl)
+
+add-any : tie.Need-add-any Inv-loop μ-loop
+add-any c = omega arith
+
+mul-any : tie.Need-mul-any Inv-loop μ-loop
+mul-any c = search needs
+
+shared-slice-read-any : tie.Need-shared-slice-read-any Inv-loop μ-loop
+shared-slice-read-any c = search needs
+
+add-i : tie.Need-add-i Inv-loop μ-loop
+add-i c = omega arith
+
+loop-less : tie.Need-loop-less Inv-loop μ-loop
+loop-less c = omega arith
+
+loop-again : tie.Need-loop-again Inv-loop μ-loop
+loop-again c = (omega arith, empty-next (c .before .before .before .args .index .now) (c .before .before .before .args .j) (c .before .before .loop .i) (c .before .before .loop .any) (c .before .before .loop .inv .1))
+
+returns : tie.Need-returns Inv-loop μ-loop
+returns c = c .before .loop .inv .1 ∙ ap (slotsEmpty (c .before .before .args .index .now) (c .before .before .args .j)) (omega arith)
+
+pub slots-empty-spec : {M : Type 1} → statement M
+slots-empty-spec =
+    tie.close
+    (tie.spec
+    Inv-loop
+    μ-loop
+    loop-holds
+    add-any
+    mul-any
+    shared-slice-read-any
+    add-i
+    loop-less
+    loop-again
+    returns)

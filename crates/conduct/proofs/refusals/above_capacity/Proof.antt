@@ -1,0 +1,86 @@
+use borrow.Author.Needs.{needs}
+use mathlib.Core.Path.{_≡_, ap, sym, _∙_}
+use Prim.Native.Nat.{_-_, _/_, _≤_}
+use native.Mathlib.Omega.{arith}
+use lib.ListN.{length}
+use Rattle.fields.specs.Numbers.{number}
+use Rattle.records.specs.Dossier.{records}
+use Rattle.station.specs.Parameters.{parameters, capacity as capacityOf}
+use Rattle.station.proofs.Fields.{capacity-at}
+use Rattle.conduct.specs.Refusals.{aboveCapacity}
+use Rattle.conduct.proofs.Turns.{all-left, above-stop, above-next, above-end}
+use Rattle.conduct.proofs.refusals.above_capacity.Statement.{statement}
+use Rattle.conduct.proofs.refusals.above_capacity.Tie as tie
+
+abbrev Inv-loop : tie.InvT-loop
+Inv-loop d index offer capacity pairs k₀ k =
+    (k ≤ pairs) × (pairs ≤ 20) × (capacity ≡ capacityOf (parameters (records d))) × (aboveCapacity (parameters (records d)) offer k (pairs - k) ≡ aboveCapacity (parameters (records d)) offer 0 pairs)
+
+abbrev μ-loop : tie.MeasureT-loop
+μ-loop d index offer capacity pairs k₀ k = pairs - k
+
+rs-requires : tie.Need-rs-requires Inv-loop μ-loop
+rs-requires c κs = c .before .before .before .pre .0
+
+u16-at-requires : tie.Need-u16-at-requires Inv-loop μ-loop
+u16-at-requires c κs = search needs
+
+cast-capacity : tie.Need-cast-capacity Inv-loop μ-loop
+cast-capacity c = search needs
+
+loop-holds : tie.Need-loop-holds Inv-loop μ-loop
+loop-holds c = (omega arith, omega (arith, c .before .before .before .before .before .pre .1), c .u16-at .ensures ∙ ap (number 7 2) (c .before .rs .ensures) ∙ sym (capacity-at (records (c .before .before .before .before .before .args .d .now))), all-left (aboveCapacity _ _ 0) _)
+
+quantity-at-requires : tie.Need-quantity-at-requires Inv-loop μ-loop
+quantity-at-requires c κs = search needs
+
+mul-t12 : tie.Need-mul-t12 Inv-loop μ-loop
+mul-t12 c = search needs
+
+returns : tie.Need-returns Inv-loop μ-loop
+returns c =
+    let i = c .before .before .before .loop in
+    let a = c .before .before .before .before .before .before .before .before .before .args in
+    above-stop (parameters (records (a .d .now))) (a .offer .now) (length (a .offer .now) / 6) (i .k) _ _ (c .before .before .loop-test .taken) (i .inv .2) (c .before .quantity-at .ensures) (c .if1 .taken)
+    ∙ i .inv .3
+
+add-k : tie.Need-add-k Inv-loop μ-loop
+add-k c = search needs
+
+loop-less : tie.Need-loop-less Inv-loop μ-loop
+loop-less c = search needs
+
+loop-again : tie.Need-loop-again Inv-loop μ-loop
+loop-again c =
+    let i = c .before .before .before .loop in
+    let a = c .before .before .before .before .before .before .before .before .before .args in (
+      omega arith,
+      omega arith,
+      i .inv .2,
+      above-next (parameters (records (a .d .now))) (a .offer .now) (length (a .offer .now) / 6) (i .k) _ _ (c .before .before .loop-test .taken) (i .inv .2) (c .before .quantity-at .ensures) (c .if1 .left)
+          ∙ i .inv .3,
+    )
+
+returns-2 : tie.Need-returns-2 Inv-loop μ-loop
+returns-2 c =
+    let i = c .before .loop in
+    let a = c .before .before .before .before .before .before .before .args in
+    above-end (parameters (records (a .d .now))) (a .offer .now) (length (a .offer .now) / 6) (i .k) (c .loop-test .left) ∙ i .inv .3
+
+pub above-capacity-spec : {M : Type 1} → statement M
+above-capacity-spec =
+    tie.close
+    (tie.spec
+    Inv-loop
+    μ-loop
+    rs-requires
+    u16-at-requires
+    cast-capacity
+    loop-holds
+    quantity-at-requires
+    mul-t12
+    returns
+    add-k
+    loop-less
+    loop-again
+    returns-2)

@@ -1,0 +1,84 @@
+use borrow.Author.Needs.{needs}
+use borrow.Author.Tests.{not-true, not-false}
+use mathlib.Core.Path.{_≡_, refl, sym, _∙_}
+use Prim.Native.Nat.{_-_, _/_, _≤_}
+use native.Mathlib.Omega.{arith}
+use lib.ListN.{length}
+use Rattle.conduct.specs.Test.{before}
+use Rattle.conduct.specs.Refusals.{priceBefore, malformed}
+use Rattle.conduct.proofs.Turns.{all-left, before-next, priceBefore-next, malformed-stop, malformed-next, malformed-end}
+use Rattle.conduct.proofs.refusals.malformed.Statement.{statement}
+use Rattle.conduct.proofs.refusals.malformed.Tie as tie
+
+abbrev Inv-loop : tie.InvT-loop
+Inv-loop offer pairs low₀ last₀ k₀ low last k =
+    (k ≤ pairs) × (pairs ≤ 20) × (low ≡ before offer k) × (last ≡ priceBefore offer k) × (malformed offer k (pairs - k) ≡ malformed offer 0 pairs)
+
+abbrev μ-loop : tie.MeasureT-loop
+μ-loop offer pairs low₀ last₀ k₀ low last k = pairs - k
+
+loop-holds : tie.Need-loop-holds Inv-loop μ-loop
+unfolding before priceBefore
+loop-holds c = (omega arith, omega (arith, c .before .pre), refl, refl, all-left (malformed _ 0) _)
+
+quantity-at-requires : tie.Need-quantity-at-requires Inv-loop μ-loop
+quantity-at-requires c κs = search needs
+
+price-at-requires : tie.Need-price-at-requires Inv-loop μ-loop
+price-at-requires c κs = search needs
+
+pair-holds-requires : tie.Need-pair-holds-requires Inv-loop μ-loop
+pair-holds-requires c κs = search needs
+
+mul-t11 : tie.Need-mul-t11 Inv-loop μ-loop
+mul-t11 c = search needs
+
+returns : tie.Need-returns Inv-loop μ-loop
+returns c =
+    let i = c .before .before .before .before .before .loop in
+    let o = c .before .before .before .before .before .before .before .args .offer .now in
+    malformed-stop o (length o / 6) (i .k) (i .low) (i .last) _ _ (c .before .before .before .before .loop-test .taken) (i .inv .2) (i .inv .3) (c .before .before .before .quantity-at .ensures) (c .before .before .price-at .ensures .0)
+    (sym (c .before .pair-holds .ensures) ∙ not-true _ (c .if1 .taken))
+    ∙ i .inv .4
+
+add-k : tie.Need-add-k Inv-loop μ-loop
+add-k c = search needs
+
+loop-less : tie.Need-loop-less Inv-loop μ-loop
+loop-less c = search needs
+
+loop-again : tie.Need-loop-again Inv-loop μ-loop
+loop-again c =
+    let i = c .before .before .before .before .before .loop in
+    let o = c .before .before .before .before .before .before .before .args .offer .now in (
+      omega arith,
+      omega arith,
+      c .before .before .before .quantity-at .ensures ∙ before-next o (i .k),
+      c .before .before .price-at .ensures .0 ∙ priceBefore-next o (i .k),
+      malformed-next o (length o / 6) (i .k) (i .low) (i .last) _ _ (c .before .before .before .before .loop-test .taken) (i .inv .2) (i .inv .3) (c .before .before .before .quantity-at .ensures) (c .before .before .price-at .ensures .0)
+          (sym (c .before .pair-holds .ensures) ∙ not-false _ (c .if1 .left))
+          ∙ i .inv .4,
+    )
+
+returns-2 : tie.Need-returns-2 Inv-loop μ-loop
+returns-2 c =
+    let i = c .before .loop in
+    let o = c .before .before .before .args .offer .now in
+    malformed-end o (length o / 6) (i .k) (c .loop-test .left) ∙ i .inv .4
+
+pub malformed-spec : {M : Type 1} → statement M
+malformed-spec =
+    tie.close
+    (tie.spec
+    Inv-loop
+    μ-loop
+    loop-holds
+    quantity-at-requires
+    price-at-requires
+    pair-holds-requires
+    mul-t11
+    returns
+    add-k
+    loop-less
+    loop-again
+    returns-2)

@@ -1,0 +1,81 @@
+use mathlib.Core.Path.{sym, _∙_}
+use Rattle.conduct.specs.Refusals.{offerRefusal}
+use Rattle.conduct.proofs.Turns.{refused-first, accepted-then, length-accepted}
+use borrow.Author.Needs.{needs}
+use Rattle.conduct.proofs.refusals.offer_refusal.Statement.{statement}
+use Rattle.conduct.proofs.refusals.offer_refusal.Tie as tie
+
+condition-refusal-requires : tie.Need-condition-refusal-requires
+condition-refusal-requires c κs = search needs
+
+enum-known-number : tie.Need-enum-known-number
+enum-known-number c = search needs
+
+enum-told : tie.Need-enum-told
+enum-told c = search needs
+
+length-refusal-requires : tie.Need-length-refusal-requires
+length-refusal-requires c κs = search needs
+
+enum-known-number-2 : tie.Need-enum-known-number-2
+enum-known-number-2 c = search needs
+
+enum-told-2 : tie.Need-enum-told-2
+enum-told-2 c = search needs
+
+malformed-requires : tie.Need-malformed-requires
+malformed-requires c κs = length-accepted _ (sym (c .before .before .length-refusal .ensures) ∙ c .enum-told2 .given .1)
+
+enum-known-number-3 : tie.Need-enum-known-number-3
+enum-known-number-3 c = search needs
+
+enum-told-3 : tie.Need-enum-told-3
+enum-told-3 c = search needs
+
+above-capacity-requires : tie.Need-above-capacity-requires
+above-capacity-requires c κs =
+    (c .before .before .before .before .before .before .before .before .before .before .before .before .pre, length-accepted _ (sym (c .before .before .before .before .before .length-refusal .ensures) ∙ c .before .before .before .enum-told2 .given .1))
+
+returns : tie.Need-returns
+unfolding offerRefusal
+returns c = refused-first _ (sym (c .before .before .before .condition-refusal .ensures) ∙ c .before .number .given .1)
+
+returns-2 : tie.Need-returns-2
+unfolding offerRefusal
+returns-2 c =
+    refused-first _ (sym (c .before .before .before .length-refusal .ensures) ∙ c .before .number2 .given .1)
+    ∙ accepted-then _ (sym (c .before .before .before .before .before .before .condition-refusal .ensures) ∙ c .before .before .before .before .enum-told .given .1)
+
+returns-3 : tie.Need-returns-3
+unfolding offerRefusal
+returns-3 c =
+    refused-first _ (sym (c .before .before .before .malformed .ensures) ∙ c .before .number3 .given .1)
+    ∙ accepted-then _ (sym (c .before .before .before .before .before .before .length-refusal .ensures) ∙ c .before .before .before .before .enum-told2 .given .1)
+    ∙ accepted-then _ (sym (c .before .before .before .before .before .before .before .before .before .condition-refusal .ensures) ∙ c .before .before .before .before .before .before .before .enum-told .given .1)
+
+returns-4 : tie.Need-returns-4
+unfolding offerRefusal
+returns-4 c =
+    c .above-capacity .ensures
+    ∙ accepted-then _ (sym (c .before .before .before .malformed .ensures) ∙ c .before .enum-told3 .given .1)
+    ∙ accepted-then _ (sym (c .before .before .before .before .before .before .length-refusal .ensures) ∙ c .before .before .before .before .enum-told2 .given .1)
+    ∙ accepted-then _ (sym (c .before .before .before .before .before .before .before .before .before .condition-refusal .ensures) ∙ c .before .before .before .before .before .before .before .enum-told .given .1)
+
+pub offer-refusal-spec : {M : Type 1} → statement M
+offer-refusal-spec =
+    tie.close
+    (tie.spec
+    condition-refusal-requires
+    enum-known-number
+    enum-told
+    length-refusal-requires
+    enum-known-number-2
+    enum-told-2
+    malformed-requires
+    enum-known-number-3
+    enum-told-3
+    above-capacity-requires
+    returns
+    returns-2
+    returns-3
+    returns-4)

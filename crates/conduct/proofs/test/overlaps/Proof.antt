@@ -1,0 +1,10 @@
+-- `overlaps` meets its contract.
+use Rattle.conduct.proofs.Limits.{overlap-tests}
+use Rattle.conduct.proofs.test.overlaps.Statement.{statement}
+use Rattle.conduct.proofs.test.overlaps.Tie as tie
+
+returns : tie.Need-returns
+returns c = overlap-tests (c .args .low) (c .args .high) (c .args .from) (c .args .to)
+
+pub overlaps-spec : {M : Type 1} → statement M
+overlaps-spec = tie.close (tie.spec returns)

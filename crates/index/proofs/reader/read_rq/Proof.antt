@@ -1,0 +1,30 @@
+use mathlib.Core.Path.{sym, _∙_}
+use Rattle.records.specs.Table.{table, rowOf}
+use Rattle.records.specs.Record.{widths, size}
+use Rattle.index.proofs.Entries.{as-short, as-whole, as-outside}
+use borrow.Author.Needs.{needs}
+use Rattle.index.proofs.reader.read_rq.Statement.{statement}
+use Rattle.index.proofs.reader.read_rq.Tie as tie
+
+returns : tie.Need-returns
+unfolding size widths rowOf table
+returns c = as-short 6 _ (c .if1 .taken)
+
+rq-ok-requires : tie.Need-rq-ok-requires
+rq-ok-requires c κs = search needs
+
+entry-rq-requires : tie.Need-entry-rq-requires
+entry-rq-requires c κs = search needs
+
+returns-2 : tie.Need-returns-2
+unfolding size widths rowOf table
+returns-2 c = as-whole 6 _ (c .before .before .before .if1 .left) (sym (c .before .before .rq-ok .ensures) ∙ c .before .if2 .taken) (c .entry-rq .ensures)
+
+returns-3 : tie.Need-returns-3
+unfolding size widths rowOf table
+returns-3 c = as-outside 6 _ (c .before .before .if1 .left) (sym (c .before .rq-ok .ensures) ∙ c .if2 .left)
+
+pub read-rq-spec : {M : Type 1} → statement M
+read-rq-spec =
+    tie.close
+    (tie.spec returns rq-ok-requires entry-rq-requires returns-2 returns-3)

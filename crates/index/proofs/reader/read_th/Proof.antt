@@ -1,0 +1,30 @@
+use mathlib.Core.Path.{sym, _∙_}
+use Rattle.records.specs.Table.{table, rowOf}
+use Rattle.records.specs.Record.{widths, size}
+use Rattle.index.proofs.Entries.{as-short, as-whole, as-outside}
+use borrow.Author.Needs.{needs}
+use Rattle.index.proofs.reader.read_th.Statement.{statement}
+use Rattle.index.proofs.reader.read_th.Tie as tie
+
+returns : tie.Need-returns
+unfolding size widths rowOf table
+returns c = as-short 9 _ (c .if1 .taken)
+
+th-ok-requires : tie.Need-th-ok-requires
+th-ok-requires c κs = search needs
+
+entry-th-requires : tie.Need-entry-th-requires
+entry-th-requires c κs = search needs
+
+returns-2 : tie.Need-returns-2
+unfolding size widths rowOf table
+returns-2 c = as-whole 9 _ (c .before .before .before .if1 .left) (sym (c .before .before .th-ok .ensures) ∙ c .before .if2 .taken) (c .entry-th .ensures)
+
+returns-3 : tie.Need-returns-3
+unfolding size widths rowOf table
+returns-3 c = as-outside 9 _ (c .before .before .if1 .left) (sym (c .before .th-ok .ensures) ∙ c .if2 .left)
+
+pub read-th-spec : {M : Type 1} → statement M
+read-th-spec =
+    tie.close
+    (tie.spec returns th-ok-requires entry-th-requires returns-2 returns-3)

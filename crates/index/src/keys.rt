@@ -1,0 +1,61 @@
+// The slot of a key, by mark.
+ghost use mathlib.Core.Path.{_≡_};
+ghost use Prim.Native.Nat.{_+_, _*_, _<_};
+ghost use Rattle.index.specs.Slots.{slot};
+
+// The slot of a key, by mark. Key fields count from 1, so a mark's slots begin one field of each below the number that is added.
+pub fn slot_hp(n: usize) -> usize
+    requires { ⌜ n < 16777216 ⌝ }
+    ensures { λ r. ⌜ r ≡ slot 2 n ⌝ }
+{
+    n
+}
+
+pub fn slot_fu(n: usize) -> usize
+    requires { ⌜ n < 16777216 ⌝ }
+    ensures { λ r. ⌜ r ≡ slot 3 n ⌝ }
+{
+    21 + n
+}
+
+pub fn slot_rq(n: usize) -> usize
+    requires { ⌜ n < 16777216 ⌝ }
+    ensures { λ r. ⌜ r ≡ slot 6 n ⌝ }
+{
+    137 + n
+}
+
+pub fn slot_hr(n: usize) -> usize
+    requires { ⌜ n < 16777216 ⌝ }
+    ensures { λ r. ⌜ r ≡ slot 7 n ⌝ }
+{
+    153 + n
+}
+
+pub fn slot_ch(n: usize) -> usize
+    requires { ⌜ n < 16777216 ⌝ }
+    ensures { λ r. ⌜ r ≡ slot 8 n ⌝ }
+{
+    321 + n
+}
+
+pub fn slot_ad(p: usize, c: usize, v: usize) -> usize
+    requires { ⌜ (p < 256) × (c < 256) × (v < 256) ⌝ }
+    ensures { λ r. ⌜ r ≡ slot 4 (p * 65536 + c * 256 + v) ⌝ }
+{
+    1 + p * 20 + c * 4 + v
+}
+
+pub fn slot_mm(p: usize, j: usize) -> usize
+    requires { ⌜ (p < 65536) × (j < 256) ⌝ }
+    ensures { λ r. ⌜ r ≡ slot 5 (p * 256 + j) ⌝ }
+{
+    97 + p * 8 + j
+}
+
+pub fn slot_th(c: usize, v: usize) -> usize
+    requires { ⌜ (c < 65536) × (v < 256) ⌝ }
+    ensures { λ r. ⌜ r ≡ slot 9 (c * 256 + v) ⌝ }
+{
+    2333 + c * 4 + v
+}
