@@ -29,18 +29,21 @@ pub fn points_of(d: &[u8], index: &[u16]) -> usize
     n
 }
 
+// What output rises by from one point to the next, 0 where it doesn't.
 fn output_rise(a: u16, b: u16) -> u16
     ensures { λ r. ⌜ r ≡ b - a ⌝ }
 {
     if a < b { b - a } else { 0 }
 }
 
+// The same of heat.
 fn heat_rise(a: u32, b: u32) -> u32
     ensures { λ r. ⌜ r ≡ b - a ⌝ }
 {
     if a < b { b - a } else { 0 }
 }
 
+// Slopes are compared by multiplying across: a rise of heat by one of output, which fits 64 bits.
 fn product(h: u32, w: u16) -> u64
     ensures { λ r. ⌜ r ≡ h * w ⌝ }
 {

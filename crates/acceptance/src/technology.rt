@@ -32,6 +32,7 @@ fn field_fits(used: bool, positive: bool, x: u32) -> bool
     if used { !positive | (0 < x) } else { x == 0 }
 }
 
+// RS: what the technology uses is above 0, but for the heats, and the rest is 0.
 fn rs_fits(t: u8, s: &[u8]) -> bool
     requires { ⌜ Known t ⌝ }
     ensures { λ r. ⌜ r ≡ fits t 1 (now (s .entry)) ⌝ }
@@ -45,6 +46,7 @@ fn rs_fits(t: u8, s: &[u8]) -> bool
         & field_fits(t == 3, true, fields::u16_at(s, 29) as u32)
 }
 
+// AD: its level is held, and cost 5 is nuclear and level 1.
 fn ad_fits(t: u8, s: &[u8]) -> bool
     requires { ⌜ Known t ⌝ }
     ensures { λ r. ⌜ r ≡ fits t 4 (now (s .entry)) ⌝ }
@@ -53,6 +55,7 @@ fn ad_fits(t: u8, s: &[u8]) -> bool
     level_held(t, level) & ((fields::u8_at(s, 7) != 5) | ((t == 2) & (level == 1)))
 }
 
+// What comes of a trial.
 fn trial(len: usize, fits: bool) -> Tried
     ensures { λ r. ⌜ r ≡ tried len fits ⌝ }
 {
@@ -95,6 +98,7 @@ fn tried_at(t: u8, s: &[u8]) -> Tried
     trial(records::UNKNOWN.length, true)
 }
 
+// One of two numbers, without a branch.
 pub fn choose(b: bool, x: usize, y: usize) -> usize
     ensures { λ r. ⌜ r ≡ cond b x y ⌝ }
 {

@@ -1,4 +1,4 @@
-// The slot of a key, by mark.
+// Where a key's slot lies in the index.
 ghost use mathlib.Core.Path.{_≡_};
 ghost use Prim.Native.Nat.{_+_, _*_, _<_};
 ghost use Rattle.index.specs.Slots.{slot};

@@ -103,6 +103,7 @@ pub const TH: MarkShape = MarkShape {
 // A constant table holds them by kind: the mark's place in the table of specs/. A read at a variable place writes the whole table first.
 pub const MARKS: [MarkShape; 10] = [UNKNOWN, RS, HP, FU, AD, MM, RQ, HR, CH, TH];
 
+// The row of a kind.
 pub fn mark_shape(kind: usize) -> MarkShape
     requires { ⌜ kind < 10 ⌝ }
     ensures { λ r. ⌜ r ≡ shapeOf kind ⌝ }
