@@ -95,10 +95,16 @@ fn check(random: &mut Random, dossier: &[u8]) -> Check {
     Ok(())
 }
 
-/// 210,000 dossiers with an hour.
+/// 210,000 sound dossiers with an hour.
+#[test]
+fn sound_dossiers() {
+    let make = |random: &mut Random| sound::sound(random).bytes();
+    run("levels of sound dossiers", 70_000, make, check);
+}
+
 #[test]
 fn dossiers_of_every_sort() {
-    run("levels", 70_000, make::dossier, check);
+    run("levels", 20_000, make::dossier, check);
 }
 
 #[test]
