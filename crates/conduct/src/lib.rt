@@ -1,6 +1,6 @@
 // The conduct test. The definitions are in specs/, their laws in proofs/.
-pub mod refusals;
-pub mod test;
+mod refusals;
+mod test;
 
 ghost use mathlib.Core.Path.{_≡_};
 ghost use Prim.Native.Nat.{_<_};

@@ -14,7 +14,7 @@ use crate::keys::slot_rq;
 use crate::keys::slot_th;
 
 // CH
-pub fn entry_ch(s: &[u8]) -> Entry
+fn entry_ch(s: &[u8]) -> Entry
     ensures { λ r. ⌜ r ≡ entryAs 8 (now (s .entry)) ⌝ }
 {
     Entry {
@@ -23,7 +23,7 @@ pub fn entry_ch(s: &[u8]) -> Entry
     }
 }
 
-pub fn read_ch(s: &[u8]) -> Reading
+fn read_ch(s: &[u8]) -> Reading
     ensures { λ r. ⌜ r ≡ readingAs 8 (now (s .entry)) ⌝ }
 {
     if s.len() < records::CH.length {
@@ -37,7 +37,7 @@ pub fn read_ch(s: &[u8]) -> Reading
 }
 
 // HR
-pub fn entry_hr(s: &[u8]) -> Entry
+fn entry_hr(s: &[u8]) -> Entry
     ensures { λ r. ⌜ r ≡ entryAs 7 (now (s .entry)) ⌝ }
 {
     Entry {
@@ -46,7 +46,7 @@ pub fn entry_hr(s: &[u8]) -> Entry
     }
 }
 
-pub fn read_hr(s: &[u8]) -> Reading
+fn read_hr(s: &[u8]) -> Reading
     ensures { λ r. ⌜ r ≡ readingAs 7 (now (s .entry)) ⌝ }
 {
     if s.len() < records::HR.length {
@@ -60,7 +60,7 @@ pub fn read_hr(s: &[u8]) -> Reading
 }
 
 // HP
-pub fn entry_hp(s: &[u8]) -> Entry
+fn entry_hp(s: &[u8]) -> Entry
     ensures { λ r. ⌜ r ≡ entryAs 2 (now (s .entry)) ⌝ }
 {
     Entry {
@@ -69,7 +69,7 @@ pub fn entry_hp(s: &[u8]) -> Entry
     }
 }
 
-pub fn read_hp(s: &[u8]) -> Reading
+fn read_hp(s: &[u8]) -> Reading
     ensures { λ r. ⌜ r ≡ readingAs 2 (now (s .entry)) ⌝ }
 {
     if s.len() < records::HP.length {
@@ -83,7 +83,7 @@ pub fn read_hp(s: &[u8]) -> Reading
 }
 
 // FU
-pub fn entry_fu(s: &[u8]) -> Entry
+fn entry_fu(s: &[u8]) -> Entry
     ensures { λ r. ⌜ r ≡ entryAs 3 (now (s .entry)) ⌝ }
 {
     Entry {
@@ -92,7 +92,7 @@ pub fn entry_fu(s: &[u8]) -> Entry
     }
 }
 
-pub fn read_fu(s: &[u8]) -> Reading
+fn read_fu(s: &[u8]) -> Reading
     ensures { λ r. ⌜ r ≡ readingAs 3 (now (s .entry)) ⌝ }
 {
     if s.len() < records::FU.length {
@@ -106,7 +106,7 @@ pub fn read_fu(s: &[u8]) -> Reading
 }
 
 // AD
-pub fn entry_ad(s: &[u8]) -> Entry
+fn entry_ad(s: &[u8]) -> Entry
     ensures { λ r. ⌜ r ≡ entryAs 4 (now (s .entry)) ⌝ }
 {
     Entry {
@@ -119,7 +119,7 @@ pub fn entry_ad(s: &[u8]) -> Entry
     }
 }
 
-pub fn read_ad(s: &[u8]) -> Reading
+fn read_ad(s: &[u8]) -> Reading
     ensures { λ r. ⌜ r ≡ readingAs 4 (now (s .entry)) ⌝ }
 {
     if s.len() < records::AD.length {
@@ -133,7 +133,7 @@ pub fn read_ad(s: &[u8]) -> Reading
 }
 
 // MM
-pub fn entry_mm(s: &[u8]) -> Entry
+fn entry_mm(s: &[u8]) -> Entry
     ensures { λ r. ⌜ r ≡ entryAs 5 (now (s .entry)) ⌝ }
 {
     Entry {
@@ -142,7 +142,7 @@ pub fn entry_mm(s: &[u8]) -> Entry
     }
 }
 
-pub fn read_mm(s: &[u8]) -> Reading
+fn read_mm(s: &[u8]) -> Reading
     ensures { λ r. ⌜ r ≡ readingAs 5 (now (s .entry)) ⌝ }
 {
     if s.len() < records::MM.length {
@@ -156,7 +156,7 @@ pub fn read_mm(s: &[u8]) -> Reading
 }
 
 // RQ
-pub fn entry_rq(s: &[u8]) -> Entry
+fn entry_rq(s: &[u8]) -> Entry
     ensures { λ r. ⌜ r ≡ entryAs 6 (now (s .entry)) ⌝ }
 {
     Entry {
@@ -165,7 +165,7 @@ pub fn entry_rq(s: &[u8]) -> Entry
     }
 }
 
-pub fn read_rq(s: &[u8]) -> Reading
+fn read_rq(s: &[u8]) -> Reading
     ensures { λ r. ⌜ r ≡ readingAs 6 (now (s .entry)) ⌝ }
 {
     if s.len() < records::RQ.length {
@@ -179,7 +179,7 @@ pub fn read_rq(s: &[u8]) -> Reading
 }
 
 // TH
-pub fn entry_th(s: &[u8]) -> Entry
+fn entry_th(s: &[u8]) -> Entry
     ensures { λ r. ⌜ r ≡ entryAs 9 (now (s .entry)) ⌝ }
 {
     Entry {
@@ -188,7 +188,7 @@ pub fn entry_th(s: &[u8]) -> Entry
     }
 }
 
-pub fn read_th(s: &[u8]) -> Reading
+fn read_th(s: &[u8]) -> Reading
     ensures { λ r. ⌜ r ≡ readingAs 9 (now (s .entry)) ⌝ }
 {
     if s.len() < records::TH.length {
@@ -202,7 +202,7 @@ pub fn read_th(s: &[u8]) -> Reading
 }
 
 // RS
-pub fn entry_rs(s: &[u8]) -> Entry
+fn entry_rs(s: &[u8]) -> Entry
     ensures { λ r. ⌜ r ≡ entryAs 1 (now (s .entry)) ⌝ }
 {
     Entry {
@@ -211,7 +211,7 @@ pub fn entry_rs(s: &[u8]) -> Entry
     }
 }
 
-pub fn read_rs(s: &[u8]) -> Reading
+fn read_rs(s: &[u8]) -> Reading
     ensures { λ r. ⌜ r ≡ readingAs 1 (now (s .entry)) ⌝ }
 {
     if s.len() < records::RS.length {

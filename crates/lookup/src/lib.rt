@@ -73,7 +73,7 @@ fn place_in(end: usize, v: u16, len: usize) -> Part
 }
 
 // The same of slot j.
-pub fn place_at(end: usize, index: &[u16], j: usize, len: usize) -> Part
+fn place_at(end: usize, index: &[u16], j: usize, len: usize) -> Part
     requires { ⌜ (j < length (now index)) × (len < 65536) ⌝ }
     ensures { λ r. ⌜ r ≡ placeAt end (now (index .entry)) j len ⌝ }
 {
@@ -81,7 +81,7 @@ pub fn place_at(end: usize, index: &[u16], j: usize, len: usize) -> Part
 }
 
 // The bytes of a part.
-pub fn bytes_of(d: &[u8], part: Part) -> &[u8]
+fn bytes_of(d: &[u8], part: Part) -> &[u8]
     requires { ⌜ part .start + part .length ≤ length (now d) ⌝ }
     ensures { λ r. ⌜ now r ≡ bytesOf (now (d .entry)) part ⌝ }
 {
@@ -171,7 +171,7 @@ pub fn th<'a>(d: &'a [u8], index: &[u16], c: usize, v: usize) -> &'a [u8]
 }
 
 // The slot of a mark and key.
-pub fn slot_of(kind: usize, n: usize) -> usize
+fn slot_of(kind: usize, n: usize) -> usize
     requires { ⌜ (n < 16777216) × (kind < 10) ⌝ }
     ensures { λ r. ⌜ r ≡ slot kind n ⌝ }
 {
@@ -203,7 +203,7 @@ pub fn slot_of(kind: usize, n: usize) -> usize
 }
 
 // Where the current record of a mark and key stands; a number that is no key has none.
-pub fn place_of(d: &[u8], index: &[u16], kind: usize, n: usize) -> Part
+fn place_of(d: &[u8], index: &[u16], kind: usize, n: usize) -> Part
     requires { ⌜ Indexed (now d) (now index) × (kind < 10) ⌝ }
     ensures { λ r. ⌜ r ≡ currentPart kind n (records (now (d .entry))) ⌝ }
 {
@@ -226,7 +226,7 @@ pub fn current_of<'a>(d: &'a [u8], index: &[u16], kind: usize, n: usize) -> &'a 
 }
 
 // The lookup by kind and key number, as start and length.
-pub fn lookup_part(d: &[u8], kind: usize, n: usize) -> Part
+fn lookup_part(d: &[u8], kind: usize, n: usize) -> Part
     requires { ⌜ kind < 10 ⌝ }
     ensures { λ r. ⌜ r ≡ lookupPart (now (d .entry)) kind n ⌝ }
 {
@@ -244,7 +244,7 @@ pub fn lookup_part(d: &[u8], kind: usize, n: usize) -> Part
 }
 
 // A key's bytes as a number.
-pub fn key_number(key: &[u8]) -> usize
+fn key_number(key: &[u8]) -> usize
     requires { ⌜ length (now key) ≤ 3 ⌝ }
     ensures { λ r. ⌜ r ≡ number 0 (length (now (key .entry))) (now (key .entry)) ⌝ }
 {

@@ -112,7 +112,7 @@ pub fn mark_shape(kind: usize) -> MarkShape
 }
 
 // Whether a number is within the bounds of a key field.
-pub fn in_field(m: MarkShape, i: usize, x: usize) -> bool
+fn in_field(m: MarkShape, i: usize, x: usize) -> bool
     requires { ⌜ i < 3 ⌝ }
     ensures { λ r. ⌜ r ≡ keyField m i x ⌝ }
 {
@@ -120,7 +120,7 @@ pub fn in_field(m: MarkShape, i: usize, x: usize) -> bool
 }
 
 // Whether a number, cut into key fields, is a key of a mark of this shape.
-pub fn in_fields(m: MarkShape, n: usize) -> bool
+fn in_fields(m: MarkShape, n: usize) -> bool
     ensures { λ r. ⌜ r ≡ keyFits m n ⌝ }
 {
     if m.highest[1] == 0 {
@@ -182,14 +182,14 @@ pub fn kind_at(s: &[u8]) -> usize
 }
 
 // Whether the number in one, two, four and eight bytes is between two others.
-pub fn in1(s: &[u8], at: usize, low: u16, high: u16) -> bool
+fn in1(s: &[u8], at: usize, low: u16, high: u16) -> bool
     ensures { λ r. ⌜ r ≡ between low high (number at 1 (now (s .entry))) ⌝ }
 {
     let x = fields::u8_at(s, at) as u16;
     (low <= x) & (x <= high)
 }
 
-pub fn in2(s: &[u8], at: usize, low: u16, high: u16) -> bool
+fn in2(s: &[u8], at: usize, low: u16, high: u16) -> bool
     requires { ⌜ at < 65536 ⌝ }
     ensures { λ r. ⌜ r ≡ between low high (number at 2 (now (s .entry))) ⌝ }
 {
@@ -197,7 +197,7 @@ pub fn in2(s: &[u8], at: usize, low: u16, high: u16) -> bool
     (low <= x) & (x <= high)
 }
 
-pub fn in4(s: &[u8], at: usize, low: u32, high: u32) -> bool
+fn in4(s: &[u8], at: usize, low: u32, high: u32) -> bool
     requires { ⌜ at + 2 < 65536 ⌝ }
     ensures { λ r. ⌜ r ≡ between low high (number at 4 (now (s .entry))) ⌝ }
 {
@@ -205,7 +205,7 @@ pub fn in4(s: &[u8], at: usize, low: u32, high: u32) -> bool
     (low <= x) & (x <= high)
 }
 
-pub fn in8(s: &[u8], at: usize, low: u64, high: u64) -> bool
+fn in8(s: &[u8], at: usize, low: u64, high: u64) -> bool
     requires { ⌜ at + 6 < 65536 ⌝ }
     ensures { λ r. ⌜ r ≡ between low high (number at 8 (now (s .entry))) ⌝ }
 {
@@ -214,7 +214,7 @@ pub fn in8(s: &[u8], at: usize, low: u64, high: u64) -> bool
 }
 
 // The same of two bytes, or 0.
-pub fn zero_or(s: &[u8], at: usize, low: u16, high: u16) -> bool
+fn zero_or(s: &[u8], at: usize, low: u16, high: u16) -> bool
     requires { ⌜ at < 65536 ⌝ }
     ensures { λ r. ⌜ r ≡ (eqb (number at 2 (now (s .entry))) 0 || between low high (number at 2 (now (s .entry)))) ⌝ }
 {
@@ -228,7 +228,7 @@ pub const LOWEST_PRICE: u64 = 2147283648;
 pub const HIGHEST_PRICE: u64 = 2147683648;
 
 // Whether a price, held plus 2^31, is in its range.
-pub fn price(s: &[u8], at: usize) -> bool
+fn price(s: &[u8], at: usize) -> bool
     requires { ⌜ at + 2 < 65536 ⌝ }
     ensures { λ r. ⌜ r ≡ between 2147283648 2147683648 (biased (number at 4 (now (s .entry)))) ⌝ }
 {
