@@ -19,7 +19,7 @@ use Rattle.records.specs.Table.{Field, table, rowOf, fieldOf, RQ}
 use Rattle.records.specs.Record.{mark, size, offset, isMoney, keyWidth, moneyByte, issue, keyOf, read, value, inRange, agrees, rangesHold, fault}
 use Rattle.records.specs.Dossier.{firstOf, restOf, recordsIn, records, moneyAtIn, moneyAt}
 use Rattle.records.specs.Raise.{Rise, stays, rises, limitOf, Rising, Raised, RaiseFor}
-use Rattle.records.proofs.Record.{before-fields, in-key, in-field, size-ge, mark-take, mark-alike, money-range}
+use Rattle.records.proofs.Record.{before-fields, in-key, in-field, size-ge, mark-take, mark-alike, money-range, agrees-alike}
 
 pub rise-le : {u a b : ℕ} → Rise u a b → a ≤ b
 rise-le (stays e) = omega arith
@@ -72,19 +72,6 @@ module _ {t : ℕ} {r s : List ℕ} (q : Raised t r s) where
       (λ e. rise-range (fieldOf (mark r) j) (money-range (mark r) j e) (q .rising j e) h)
       (λ e. rw (← raised-same j e) h)
 
-  agrees-stays : agrees (mark r) r ≡ true → agrees (mark r) s ≡ true
-  unfolding agrees
-  agrees-stays = go (eqb (mark r) RQ) refl
-    where
-      same : (j : ℕ) → mark r ≡ RQ → isMoney (fieldOf RQ j .role) ≡ false → value RQ j r ≡ value RQ j s
-      same j e m = subst (λ (k : ℕ). value k j r ≡ value k j s) e (raised-same j (rw e m))
-
-      go : (b : Bool) → eqb (mark r) RQ ≡ b → not b || leb (value RQ 1 r) (value RQ 2 r) ≡ true → not b || leb (value RQ 1 s) (value RQ 2 s) ≡ true
-      go true e h =
-          unfold fieldOf rowOf table in
-          (rw (← same 1 (eqb-true (mark r) RQ e) refl, ← same 2 (eqb-true (mark r) RQ e) refl) h)
-      go false e h = refl
-
   pub ranges-stay : rangesHold (mark r) r ≡ true → rangesHold (mark r) s ≡ true
   unfolding rangesHold
   ranges-stay h =
@@ -93,7 +80,7 @@ module _ {t : ℕ} {r s : List ℕ} (q : Raised t r s) where
       let g : ℕ → Bool = λ j. inRange (fieldOf (mark r) j) (value (mark r) j s) in
       and-both (allBelow n g) (agrees (mark r) s)
       (at-below n g (λ j p. range-stays j (below-at n f (and-left (allBelow n f) (agrees (mark r) r) h) j p)))
-      (agrees-stays (and-right (allBelow n f) (agrees (mark r) r) h))
+      (rw (← agrees-alike (mark r) r s (λ j e. raised-same j e)) (and-right (allBelow n f) (agrees (mark r) r) h))
 
   -- a record without fault stays so
   pub fault-stays : fault r ≡ 0 → fault s ≡ 0

@@ -12,11 +12,11 @@ use Rattle.lists.proofs.Tests.{and-left, and-right, below-same}
 use Rattle.fields.specs.Numbers.{number}
 use Rattle.fields.proofs.Numbers.{number-same}
 use Rattle.records.specs.declared.Found.the-variants.{Record, Faulty}
-use Rattle.records.specs.Table.{table, rowOf, fieldOf, RQ}
+use Rattle.records.specs.Table.{table, rowOf, fieldOf}
 use Rattle.records.specs.Record.{markIn, mark, size, offset, read, value, inRange, agrees, rangesHold, fault}
 use Rattle.records.specs.Dossier.{firstOf}
 use Rattle.records.specs.Walk.{found}
-use Rattle.records.proofs.Record.{mark-take, size-ge, within-record}
+use Rattle.records.proofs.Record.{mark-take, size-ge, within-record, agrees-alike}
 use Rattle.records.specs.Shapes.{begins}
 
 -- ---- a record cut from the rest says what the rest says
@@ -28,20 +28,12 @@ pub value-take : (k i : ℕ) (s : List ℕ) → value k i (take (size k) s) ≡ 
 unfolding value read
 value-take k i s = rw (number-take (size k) (offset k i) (fieldOf k i .width) s (within-record k i)) refl
 
-agrees-take : (k : ℕ) (s : List ℕ) → agrees k (take (size k) s) ≡ agrees k s
-unfolding agrees
-agrees-take k s = go (eqb k RQ) refl
-  where
-    go : (b : Bool) → eqb k RQ ≡ b → not b || leb (value RQ 1 (take (size k) s)) (value RQ 2 (take (size k) s)) ≡ not b || leb (value RQ 1 s) (value RQ 2 s)
-    go true e = rw (eqb-true k RQ e, value-take RQ 1 s, value-take RQ 2 s) refl
-    go false e = refl
-
 ranges-take : (k : ℕ) (s : List ℕ) → rangesHold k (take (size k) s) ≡ rangesHold k s
 unfolding rangesHold
 ranges-take k s =
     ap₂ (λ (a b : Bool). a && b)
     (below-same (length (rowOf k .fields)) (λ i. inRange (fieldOf k i) (value k i (take (size k) s))) (λ i. inRange (fieldOf k i) (value k i s)) (λ i. ap (inRange (fieldOf k i)) (value-take k i s)))
-    (agrees-take k s)
+    (agrees-alike k (take (size k) s) s (λ j e. value-take k j s))
 
 short : (n m : ℕ) (s : List ℕ) → m ≤ n → ltb (length (take n s)) m ≡ ltb (length s) m
 short n m s h = go (ltb (length s) m) refl
@@ -84,6 +76,6 @@ begun a b s e =
     (eqb-true (getD s 0 0) a (and-left (eqb (getD s 0 0) a) (eqb (getD s 1 0) b) e))
     (eqb-true (getD s 1 0) b (and-right (eqb (getD s 0 0) a) (eqb (getD s 1 0) b) e))
 
-pub no-mark : (s : List ℕ) → begins s 82 83 ≡ false → begins s 72 80 ≡ false → begins s 70 85 ≡ false → begins s 65 68 ≡ false → begins s 77 77 ≡ false → begins s 82 81 ≡ false → begins s 72 82 ≡ false → begins s 67 72 ≡ false → begins s 84 72 ≡ false → mark s ≡ 0
+pub no-mark : (s : List ℕ) → begins s 82 83 ≡ false → begins s 72 80 ≡ false → begins s 70 85 ≡ false → begins s 65 68 ≡ false → begins s 77 77 ≡ false → begins s 82 81 ≡ false → begins s 72 82 ≡ false → begins s 67 72 ≡ false → begins s 84 72 ≡ false → begins s 70 80 ≡ false → mark s ≡ 0
 unfolding mark markIn table
-no-mark s a b c d e f g h i = rw (a, b, c, d, e, f, g, h, i) refl
+no-mark s a b c d e f g h i j = rw (a, b, c, d, e, f, g, h, i, j) refl

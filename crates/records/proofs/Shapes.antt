@@ -5,7 +5,7 @@ use Prim.Native.Nat.{ℕ, zero, suc, _<_}
 use native.Mathlib.Omega.{arith}
 use lib.ListN.{length, getD}
 use Rattle.records.specs.declared.MarkShape.{MarkShape}
-use Rattle.records.specs.Table.{table, noRow, rowOf}
+use Rattle.records.specs.Table.{table, noRow, rowOf, kinds}
 use Rattle.records.specs.Record.{size, keyWidth}
 use Rattle.records.specs.Shapes.{shape, shapes, shapeOf}
 
@@ -15,7 +15,7 @@ getD-map f (a ∷ l) x y zero h = refl
 getD-map f (a ∷ l) x y (suc k) h = getD-map f l x y k (omega arith)
 
 -- row k of the list of shapes is the shape of mark k
-pub shape-at : (k : ℕ) (z : MarkShape) → k < 10 → getD shapes k z ≡ shapeOf k
+pub shape-at : (k : ℕ) (z : MarkShape) → k < kinds → getD shapes k z ≡ shapeOf k
 unfolding shapes shapeOf rowOf table
 shape-at k z h = getD-map shape (noRow ∷ table) noRow z k h
 

@@ -7,7 +7,7 @@ use lib.Dec.{leb, ltb, eqb}
 use lib.ListN.{length, getD}
 use Rattle.lists.specs.Tests.{allBelow, between}
 use Rattle.fields.specs.Numbers.{number, biased}
-use Rattle.records.specs.Table.{Role, key, plain, money, Field, Row, table, rowOf, fieldOf, RQ}
+use Rattle.records.specs.Table.{Role, key, plain, money, Field, Row, table, rowOf, fieldOf, hydro, RS, RQ}
 
 -- ---- "Each begins with a two-byte ASCII mark and a 4-byte issue number."
 
@@ -103,9 +103,12 @@ value k i r = read (fieldOf k i) (offset k i) r
 unfoldable pub inRange : Field → ℕ → Bool
 inRange f x = f .orZero && eqb x 0 || between (f .lowest) (f .highest) x
 
--- the one rule between fields: RQ's "first not after last"
+-- the rules between fields: RQ's "first not after last"; of RS, a window "up to 4,000" for hydroelectric alone, else to 168
 unfoldable pub agrees : ℕ → List ℕ → Bool
-agrees k r = not (eqb k RQ) || leb (value RQ 1 r) (value RQ 2 r)
+agrees k r =
+    cond (eqb k RQ) (leb (value RQ 1 r) (value RQ 2 r))
+    (cond (eqb k RS) (eqb (value RS 0 r) hydro || leb (value RS 8 r) 168)
+    true)
 
 -- no field is outside its range, "RQ's first hour after its last among them"
 unfoldable pub rangesHold : ℕ → List ℕ → Bool

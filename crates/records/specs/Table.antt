@@ -39,9 +39,13 @@ nuclear = 2
 abbrev pub storage : ℕ
 storage = 3
 
--- all three
+-- document 02, request 1: 4 hydroelectric
+abbrev pub hydro : ℕ
+hydro = 4
+
+-- all four
 abbrev pub allTechnologies : List ℕ
-allTechnologies = thermal ∷ nuclear ∷ storage ∷ []
+allTechnologies = thermal ∷ nuclear ∷ storage ∷ hydro ∷ []
 
 -- ---- kinds of field
 
@@ -104,7 +108,7 @@ noRow = row 0 0 allTechnologies []
 abbrev pub rs : Row
 rs =
     row 82 83 allTechnologies
-    (field 1 1 3  -- 0 technology
+    (field 1 1 4  -- 0 technology
     ∷ field 2 1 20000  -- 1 capacity, 0.1 MW
     ∷ needed (thermal ∷ nuclear ∷ []) (zeroOr 2 500 2000)  -- 2 performance factor, thousandths
     ∷ only (thermal ∷ []) (upTo 4 20000000)  -- 3 start heat, MJ per start
@@ -112,7 +116,7 @@ rs =
     ∷ needed (nuclear ∷ []) (upTo 4 1000000)  -- 5 incremental fuel, mg of uranium per MWh
     ∷ needed (storage ∷ []) (upTo 4 1000000)  -- 6 state of charge, 0.1 MWh
     ∷ needed (storage ∷ []) (zeroOr 2 500 1000)  -- 7 charging efficiency, thousandths
-    ∷ needed (storage ∷ []) (upTo 2 168)  -- 8 window, hours
+    ∷ needed (storage ∷ hydro ∷ []) (upTo 2 4000)  -- 8 window, hours; to 168 unless hydro (`agrees`)
     ∷ [])
 
 -- HP, 13
@@ -129,7 +133,7 @@ abbrev pub fu : Row
 fu =
     row 70 85 allTechnologies
     (keyed 1 1 4  -- 0 profile
-    ∷ amount 4 400000000  -- 1 fuel, micro-dollars per GJ, per kg of uranium or, for storage, per MWh charged
+    ∷ only (thermal ∷ nuclear ∷ storage ∷ []) (amount 4 400000000)  -- 1 fuel, micro-dollars per GJ, per kg of uranium or, for storage, per MWh charged
     ∷ only (thermal ∷ []) (amount 4 400000000)  -- 2 emission, micro-dollars per GJ
     ∷ [])
 
@@ -193,9 +197,17 @@ th =
     ∷ any4  -- 4 floor, cents, any
     ∷ [])
 
+-- FP, 12; document 02, request 1
+abbrev pub fp : Row
+fp =
+    row 70 80 (hydro ∷ [])
+    (keyed 2 1 4000  -- 0 place
+    ∷ price  -- 1 price
+    ∷ [])
+
 -- all of them
 unfoldable pub table : List Row
-table = rs ∷ hp ∷ fu ∷ ad ∷ mm ∷ rq ∷ hr ∷ ch ∷ th ∷ []
+table = rs ∷ hp ∷ fu ∷ ad ∷ mm ∷ rq ∷ hr ∷ ch ∷ th ∷ fp ∷ []
 
 -- ---- a mark is named by its place in the table, from 1; 0 is an unknown mark
 
@@ -234,6 +246,14 @@ CH = 8
 -- a threshold of the test
 abbrev pub TH : ℕ
 TH = 9
+
+-- a price of the forecast
+abbrev pub FP : ℕ
+FP = 10
+
+-- a mark's number is below this
+abbrev pub kinds : ℕ
+kinds = 11
 
 -- the row of mark k
 unfoldable pub rowOf : ℕ → Row

@@ -6,6 +6,7 @@ ghost use lib.Dec.{eqb};
 ghost use lib.ListN.{getD};
 ghost use Rattle.lists.specs.Tests.{between};
 ghost use Rattle.fields.specs.Numbers.{number, biased};
+ghost use Rattle.records.specs.Table.{kinds};
 ghost use Rattle.records.specs.Record.{mark, rangesHold};
 ghost use Rattle.records.specs.Shapes.{begins, shapeOf, keyField, keyFits, keyTest};
 
@@ -100,12 +101,19 @@ pub const TH: MarkShape = MarkShape {
     highest: [3, 4, 0],
 };
 
+pub const FP: MarkShape = MarkShape {
+    length: 12,
+    width: 2,
+    lowest: [1, 0, 0],
+    highest: [4000, 0, 0],
+};
+
 // A constant table holds them by kind: the mark's place in the table of specs/. A read at a variable place writes the whole table first.
-pub const MARKS: [MarkShape; 10] = [UNKNOWN, RS, HP, FU, AD, MM, RQ, HR, CH, TH];
+pub const MARKS: [MarkShape; 11] = [UNKNOWN, RS, HP, FU, AD, MM, RQ, HR, CH, TH, FP];
 
 // The row of a kind.
 pub fn mark_shape(kind: usize) -> MarkShape
-    requires { ⌜ kind < 10 ⌝ }
+    requires { ⌜ kind < kinds ⌝ }
     ensures { λ r. ⌜ r ≡ shapeOf kind ⌝ }
 {
     MARKS[kind]
@@ -134,7 +142,7 @@ fn in_fields(m: MarkShape, n: usize) -> bool
 
 // Whether a number is a key of a mark.
 pub fn in_key(kind: usize, n: usize) -> bool
-    requires { ⌜ kind < 10 ⌝ }
+    requires { ⌜ kind < kinds ⌝ }
     ensures { λ r. ⌜ r ≡ keyTest kind n ⌝ }
 {
     (0 < kind) & in_fields(mark_shape(kind), n)
@@ -162,6 +170,9 @@ pub fn kind_at(s: &[u8]) -> usize
     }
     if is_mark(s, b"HR") {
         return 7;
+    }
+    if is_mark(s, b"FP") {
+        return 10;
     }
     if is_mark(s, b"FU") {
         return 3;
@@ -251,6 +262,13 @@ pub fn hr_ok(s: &[u8]) -> bool
     in1(s, 6, m.lowest[0], m.highest[0]) & price(s, 7)
 }
 
+pub fn fp_ok(s: &[u8]) -> bool
+    ensures { λ r. ⌜ r ≡ rangesHold 10 (now (s .entry)) ⌝ }
+{
+    let m = FP;
+    in2(s, 6, m.lowest[0], m.highest[0]) & price(s, 8)
+}
+
 pub fn hp_ok(s: &[u8]) -> bool
     ensures { λ r. ⌜ r ≡ rangesHold 2 (now (s .entry)) ⌝ }
 {
@@ -312,7 +330,7 @@ pub fn th_ok(s: &[u8]) -> bool
 pub fn rs_ok(s: &[u8]) -> bool
     ensures { λ r. ⌜ r ≡ rangesHold 1 (now (s .entry)) ⌝ }
 {
-    in1(s, 6, 1, 3)
+    in1(s, 6, 1, 4)
         & in2(s, 7, 1, 20000)
         & zero_or(s, 9, 500, 2000)
         & in4(s, 11, 0, 20000000)
@@ -320,5 +338,6 @@ pub fn rs_ok(s: &[u8]) -> bool
         & in4(s, 19, 0, 1000000)
         & in4(s, 23, 0, 1000000)
         & zero_or(s, 27, 500, 1000)
-        & in2(s, 29, 0, 168)
+        & in2(s, 29, 0, 4000)
+        & ((fields::u8_at(s, 6) == 4) | (fields::u16_at(s, 29) <= 168))
 }

@@ -3,10 +3,10 @@ use mathlib.Core.Path.{_≡_, refl}
 use mathlib.Core.List.{List}
 use Prim.Native.Nat.{ℕ}
 use Rattle.fields.specs.Numbers.{number, biased}
-use Rattle.records.specs.Table.{table, rowOf, fieldOf, RS, HP, FU, AD, MM, RQ, HR, CH, TH}
+use Rattle.records.specs.Table.{table, rowOf, fieldOf, RS, HP, FU, AD, MM, RQ, HR, CH, TH, FP}
 use Rattle.records.specs.Record.{offsetIn, offset, read, value}
 use Rattle.station.specs.Current.{current}
-use Rattle.station.specs.Parameters.{parameters, amounts, adderKey, itemKey, thresholdKey, technology, capacity, factor, startHeat, noLoadHeat, incrementalFuel, charge, efficiency, window, output, heat, fuel, emission, adder, costC, outputW, intervalT, hoursPerStartS, firstHour, lastHour, requested, hourPrice, chargePrice, chargeEnergy, percent, margin, floor}
+use Rattle.station.specs.Parameters.{parameters, amounts, adderKey, itemKey, thresholdKey, technology, capacity, factor, startHeat, noLoadHeat, incrementalFuel, charge, efficiency, window, output, heat, fuel, emission, adder, costC, outputW, intervalT, hoursPerStartS, firstHour, lastHour, requested, hourPrice, chargePrice, chargeEnergy, percent, margin, floor, placePrice}
 
 module _ (l : List (List ℕ)) where
   pub technology-at : technology (parameters l) ≡ number 6 1 (current RS 0 l)
@@ -116,3 +116,7 @@ module _ (l : List (List ℕ)) where
   pub floor-at : (c v : ℕ) → floor (parameters l) c v ≡ number 14 4 (current TH (thresholdKey c v) l)
   unfolding parameters value read offset offsetIn fieldOf rowOf table
   floor-at c v = refl
+
+  pub placePrice-at : (n : ℕ) → placePrice (amounts l) n ≡ biased (number 8 4 (current FP n l))
+  unfolding amounts value read offset offsetIn fieldOf rowOf table
+  placePrice-at n = refl

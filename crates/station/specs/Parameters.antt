@@ -2,7 +2,7 @@
 use mathlib.Core.Bool.{Bool, cond}
 use mathlib.Core.List.{List}
 use Prim.Native.Nat.{ℕ, _+_, _*_, _≤_}
-use Rattle.records.specs.Table.{fieldOf, RS, HP, FU, AD, MM, RQ, HR, CH, TH}
+use Rattle.records.specs.Table.{fieldOf, RS, HP, FU, AD, MM, RQ, HR, CH, TH, FP}
 use Rattle.records.specs.Record.{isMoney, value}
 use Rattle.station.specs.Current.{current, present}
 
@@ -35,7 +35,7 @@ Higher a b = (k n i : ℕ) → a .of k n i ≤ b .of k n i
 
 -- ---- RS
 
--- 1 thermal, 2 nuclear, 3 storage
+-- 1 thermal, 2 nuclear, 3 storage, 4 hydroelectric
 abbrev pub technology : Parameters → ℕ
 technology s = s .says RS 0 0
 
@@ -170,3 +170,9 @@ margin s c v = s .says TH (thresholdKey c v) 3
 -- cents
 abbrev pub floor : Parameters → ℕ → ℕ → ℕ
 floor s c v = s .says TH (thresholdKey c v) 4
+
+-- ---- FP, by place of the forecast
+
+-- cents per MWh, plus 2^31
+abbrev pub placePrice : Amounts → ℕ → ℕ
+placePrice m n = m .of FP n 1
