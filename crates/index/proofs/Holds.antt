@@ -7,7 +7,7 @@ use native.Mathlib.Nat.{zero-add, le-refl}
 use native.Mathlib.Decide.{ℕ-discrete}
 use native.Mathlib.Omega.{arith}
 use lib.Dec.{leb, ltb, eqb}
-use lib.ListN.{length, getD, set, take, drop, length-append, length-set}
+use lib.ListN.{length, getD, set, take, drop, length-append, length-set, length-replicate, getD-replicate}
 use lib.Seq.{take-at, drop-at, getD-set-same, getD-set-other}
 use borrow.Author.Tests.{le-ltb, le-leb, lt-leb, ne-eqb, ltb-true, leb-true, leb-false, eqb-true}
 use Rattle.lists.specs.Lists.{Each, done, also, joined}
@@ -26,8 +26,8 @@ use Rattle.records.proofs.Record.{size-ge}
 use Rattle.records.proofs.Read.{number-take}
 use Rattle.station.specs.Current.{matches, better, currentFrom, current, startFrom, startOf, twin, anyTwin, twins}
 use Rattle.station.proofs.Current.{matches-mark, matches-key, matches-self}
-use Rattle.index.specs.Slots.{slot, heldIssue, newer, Kept, kept, keepStep}
-use Rattle.index.proofs.Slots.{InKey, in-key, slot-lt, slot-apart}
+use Rattle.index.specs.Slots.{slot, heldIssue, newer, Kept, kept, fresh, keepStep}
+use Rattle.index.proofs.Slots.{InKey, in-key, slot-apart}
 
 -- a slot's value v holds record c, which stands at q, before place p of the dossier
 pub data Holds (len : ℕ) (d : List ℕ) (p v : ℕ) (c : List ℕ) (q : ℕ) : Type 0 where
@@ -72,14 +72,15 @@ at-place front r rest = rw (drop-at front (r ++ rest) (length front) refl) (take
 ends : (front r rest : List ℕ) → length front + length r ≤ length (front ++ (r ++ rest))
 ends front r rest = omega (arith, length-append front (r ++ rest), length-append r rest)
 
-kept-length : (d : List ℕ) (x : Kept) (p : ℕ) (r : List ℕ) → length (x .slots) ≡ 2350 → length (keepStep d x p r .slots) ≡ 2350
-kept-length d x p r e = unfold keepStep in (simp length-set e)
+kept-length : (d : List ℕ) (x : Kept) (p : ℕ) (r : List ℕ) → length (keepStep d x p r .slots) ≡ length (x .slots)
+kept-length d x p r = unfold keepStep in (length-set (x .slots) _ _)
 
-module _ (d : List ℕ) (k n : ℕ) (i : InKey k n) where
+-- of a mark and key that have a slot among w
+module _ (d : List ℕ) (k n : ℕ) (i : InKey k n) (w : ℕ) (fit : slot k n < w) where
   abbrev Held : ℕ → ℕ → List ℕ → ℕ → Type 0
   Held p v c q = Holds (size k) d p v c q
 
-  step-holds : (front r rest : List ℕ) (x : Kept) (c : List ℕ) (q : ℕ) → front ++ (r ++ rest) ≡ d → length (x .slots) ≡ 2350 → Good r
+  step-holds : (front r rest : List ℕ) (x : Kept) (c : List ℕ) (q : ℕ) → front ++ (r ++ rest) ≡ d → length (x .slots) ≡ w → Good r
       → Held (length front) (getD (x .slots) (slot k n) 0) c q
       → Held (length front + length r) (getD (keepStep d x (length front) r .slots) (slot k n) 0) (better k n c r) (cond (matches k n r && leb (issue c) (issue r)) (length front) q)
   unfolding keepStep better
@@ -111,7 +112,7 @@ module _ (d : List ℕ) (k n : ℕ) (i : InKey k n) where
       go : (m : Bool) → matches k n r ≡ m
           → Held (p + length r) (getD (set ix (slot (mark r) (keyOf r)) (next (slot (mark r) (keyOf r)))) (slot k n) 0) (cond (m && leb (issue c) (issue r)) r c) (cond (m && leb (issue c) (issue r)) p q)
       go true e =
-          rw (matches-mark k n r e, matches-key k n r e, getD-set-same ix (slot k n) (next (slot k n)) 0 (omega (arith, len, slot-lt k n i)), takes (size k) (size-ge k) d p (getD ix (slot k n) 0) c r q within old)
+          rw (matches-mark k n r e, matches-key k n r e, getD-set-same ix (slot k n) (next (slot k n)) 0 (omega (arith, len, fit)), takes (size k) (size-ge k) d p (getD ix (slot k n) 0) c r q within old)
           (pick (matches-mark k n r e) (leb (issue c) (issue r)))
       go false e =
           rw (getD-set-other ix (slot (mark r) (keyOf r)) (slot k n) (next (slot (mark r) (keyOf r))) 0 apart)
@@ -122,7 +123,7 @@ module _ (d : List ℕ) (k n : ℕ) (i : InKey k n) where
               let z = slot-apart k n (mark r) (keyOf r) i (in-key r (good .0)) w in
               false≢true (sym e ∙ ap₂ (λ (x y : ℕ). matches x y r) (z .0) (z .1) ∙ matches-self r)
 
-  slots-from : (front : List ℕ) (l : List (List ℕ)) (x : Kept) (c : List ℕ) (q : ℕ) → front ++ joined l ≡ d → Each Good l → length (x .slots) ≡ 2350
+  slots-from : (front : List ℕ) (l : List (List ℕ)) (x : Kept) (c : List ℕ) (q : ℕ) → front ++ joined l ≡ d → Each Good l → length (x .slots) ≡ w
       → Held (length front) (getD (x .slots) (slot k n) 0) c q
       → Held (length front + length (joined l)) (getD (folded (keepStep d) (length front) x l .slots) (slot k n) 0) (currentFrom k n c l) (startFrom k n c q (length front) l)
   unfolding folded currentFrom startFrom joined
@@ -132,7 +133,7 @@ module _ (d : List ℕ) (k n : ℕ) (i : InKey k n) where
       let b : length (front ++ r) ≡ length front + length r = length-append front r in
       let at = cond (matches k n r && leb (issue c) (issue r)) (length front) q in
       let y = keepStep d x (length front) r in
-      let z = slots-from (front ++ r) l y (better k n c r) at (append-assoc front r (joined l) ∙ whole) e (kept-length d x (length front) r len)
+      let z = slots-from (front ++ r) l y (better k n c r) at (append-assoc front r (joined l) ∙ whole) e (kept-length d x (length front) r ∙ len)
       (rw b (step-holds front r (joined l) x c q whole len g old)) in
       subst (λ (p : ℕ). Held p (getD (folded (keepStep d) (length front + length r) y l .slots) (slot k n) 0) (currentFrom k n (better k n c r) l) (startFrom k n (better k n c r) at (length front + length r) l)) (omega (arith, a))
       (rw b at z)
@@ -145,12 +146,12 @@ good-records d h = go (scan-each 0 (records d) h) (records-whole d (scan-each 0 
     go (also {a = r} f e) (also w m) = also (f, w) (go e m)
 
 -- the index of a clean dossier, from an empty one
-pub index-holds : (d ix : List ℕ) → scan 0 (records d) ≡ Accepted → length ix ≡ 2350 → ((j : ℕ) → getD ix j 0 ≡ 0) → (k n : ℕ) → InKey k n
-    → Holds (size k) d (length d) (getD (folded (keepStep d) 0 (kept ix true) (records d) .slots) (slot k n) 0) (current k n (records d)) (startOf k n (records d))
+pub index-holds : (d : List ℕ) (w : ℕ) → scan 0 (records d) ≡ Accepted → (k n : ℕ) → InKey k n → slot k n < w
+    → Holds (size k) d (length d) (getD (folded (keepStep d) 0 (fresh w) (records d) .slots) (slot k n) 0) (current k n (records d)) (startOf k n (records d))
 unfolding current startOf
-index-holds d ix s len z k n i =
-    let a = slots-from d k n i [] (records d) (kept ix true) [] 0 (joined-records d) (good-records d s) len (absent (z (slot k n)) refl refl) in
-    subst (λ (p : ℕ). Holds (size k) d p (getD (folded (keepStep d) 0 (kept ix true) (records d) .slots) (slot k n) 0) (currentFrom k n [] (records d)) (startFrom k n [] 0 0 (records d))) (zero-add (length (joined (records d))) ∙ ap length (joined-records d)) a
+index-holds d w s k n i fit =
+    let a = slots-from d k n i w fit [] (records d) (fresh w) [] 0 (joined-records d) (good-records d s) (length-replicate {A = ℕ} w 0) (absent (getD-replicate w (slot k n) 0 0 fit) refl refl) in
+    subst (λ (p : ℕ). Holds (size k) d p (getD (folded (keepStep d) 0 (fresh w) (records d) .slots) (slot k n) 0) (currentFrom k n [] (records d)) (startFrom k n [] 0 0 (records d))) (zero-add (length (joined (records d))) ∙ ap length (joined-records d)) a
 
 -- ---- where every issue rose
 
@@ -194,15 +195,35 @@ module _ (d : List ℕ) where
   still p x [] e = e
   still p x (r ∷ l) e = and-left (x .rising) (ltb (held-at (x .slots) r) (issue r + 1)) (still (p + length r) (keepStep d x p r) l e)
 
-  rising-from : (front : List ℕ) (x : Kept) (seen : List (List ℕ)) {l : List (List ℕ)} → front ++ joined l ≡ d → length (x .slots) ≡ 2350 → Each Good l → Each (Under (x .slots)) seen → folded (keepStep d) (length front) x l .rising ≡ true → twins (length front) seen l ≡ Accepted
+  still-complete : (p : ℕ) (x : Kept) (l : List (List ℕ)) → folded (keepStep d) p x l .complete ≡ true → x .complete ≡ true
+  unfolding folded keepStep
+  still-complete p x [] e = e
+  still-complete p x (r ∷ l) e = and-left (x .complete) (ltb (slot (mark r) (keyOf r)) (length (x .slots))) (still-complete (p + length r) (keepStep d x p r) l e)
+
+  -- the first record has a slot
+  first-slot : (p : ℕ) (x : Kept) (r : List ℕ) (l : List (List ℕ)) → folded (keepStep d) p x (r ∷ l) .complete ≡ true → slot (mark r) (keyOf r) < length (x .slots)
+  unfolding folded
+  first-slot p x r l e =
+      ltb-true (slot (mark r) (keyOf r)) (length (x .slots))
+      (and-right (x .complete) (ltb (slot (mark r) (keyOf r)) (length (x .slots))) (unfold keepStep in (still-complete (p + length r) (keepStep d x p r) l e)))
+
+  -- where the index is complete, every record has one
+  pub complete-slots : (p : ℕ) (x : Kept) (l : List (List ℕ)) → folded (keepStep d) p x l .complete ≡ true → Each (λ r. slot (mark r) (keyOf r) < length (x .slots)) l
+  unfolding folded
+  complete-slots p x [] e = done
+  complete-slots p x (r ∷ l) e =
+      also {a = r} (first-slot p x r l e)
+      (each-map (λ s h. rw (← kept-length d x p r) h) (complete-slots (p + length r) (keepStep d x p r) l e))
+
+  rising-from : (front : List ℕ) (x : Kept) (seen : List (List ℕ)) {l : List (List ℕ)} → front ++ joined l ≡ d → Each Good l → Each (Under (x .slots)) seen → folded (keepStep d) (length front) x l .complete ≡ true → folded (keepStep d) (length front) x l .rising ≡ true → twins (length front) seen l ≡ Accepted
   unfolding folded twins joined
-  rising-from front x seen whole len done u e = refl
-  rising-from front x seen whole len (also {a = r} {l = l} g m) u e =
+  rising-from front x seen whole done u w e = refl
+  rising-from front x seen whole (also {a = r} {l = l} g m) u w e =
       parts-orElse (refuseIf (anyTwin r seen) 4 p) (twins (p + length r) (r ∷ seen) l)
       (refuseIf-not (anyTwin r seen) 4 p (no-twin r (x .slots) below u))
       (rw (length-append front r) at
-      (rising-from (front ++ r) (keepStep d x p r) (r ∷ seen) (append-assoc front r (joined l) ∙ whole) (kept-length d x p r len) m
-      (also {a = r} mine (each-map more u)) (rw (length-append front r) e)))
+      (rising-from (front ++ r) (keepStep d x p r) (r ∷ seen) (append-assoc front r (joined l) ∙ whole) m
+      (also {a = r} mine (each-map more u)) (rw (length-append front r) w) (rw (length-append front r) e)))
     where
       p : ℕ
       p = length front
@@ -211,7 +232,7 @@ module _ (d : List ℕ) where
       j = slot (mark r) (keyOf r)
 
       j-lt : j < length (x .slots)
-      j-lt = omega (arith, len, slot-lt (mark r) (keyOf r) (in-key r (g .0)))
+      j-lt = first-slot p x r l w
 
       below : held-at (x .slots) r < issue r + 1
       below =
@@ -231,10 +252,10 @@ module _ (d : List ℕ) where
       more : (s : List ℕ) → Under (x .slots) s → Under (keepStep d x p r .slots) s
       more s h = unfold keepStep in (omega (arith, h, grows d (x .slots) j (slot (mark s) (keyOf s)) p j-lt here))
 
-pub rising-twins : (d ix : List ℕ) → scan 0 (records d) ≡ Accepted → length ix ≡ 2350 → folded (keepStep d) 0 (kept ix true) (records d) .rising ≡ true → twins 0 [] (records d) ≡ Accepted
-rising-twins d ix s len e = rising-from d [] (kept ix true) [] (joined-records d) len (good-records d s) done e
+pub rising-twins : (d ix : List ℕ) → scan 0 (records d) ≡ Accepted → folded (keepStep d) 0 (kept ix true true) (records d) .complete ≡ true → folded (keepStep d) 0 (kept ix true true) (records d) .rising ≡ true → twins 0 [] (records d) ≡ Accepted
+rising-twins d ix s w e = rising-from d [] (kept ix true true) [] (joined-records d) (good-records d s) done w e
 
 pub folded-length : (d : List ℕ) (p : ℕ) (x : Kept) (l : List (List ℕ)) → length (folded (keepStep d) p x l .slots) ≡ length (x .slots)
 unfolding folded
 folded-length d p x [] = refl
-folded-length d p x (r ∷ l) = folded-length d (p + length r) (keepStep d x p r) l ∙ (unfold keepStep in (length-set (x .slots) _ _))
+folded-length d p x (r ∷ l) = folded-length d (p + length r) (keepStep d x p r) l ∙ kept-length d x p r

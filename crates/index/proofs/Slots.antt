@@ -1,4 +1,4 @@
--- Laws of the slots: in range they are below 2350, and no two keys share one.
+-- Laws of the slots: where they lie, and no two keys share one.
 use mathlib.Core.Path.{_≡_, refl, ap, sym, subst, _∙_}
 use mathlib.Core.Bool.{Bool, true, false, cond, _&&_, not, _||_}
 use mathlib.Core.List.{List, [], _∷_}
@@ -11,11 +11,11 @@ use Rattle.lists.specs.Tests.{allBelow, between, everyOf}
 use Rattle.lists.proofs.Tests.{and-left, and-right, and-both, between-low, between-high, in-between, below-at, everyOf-at}
 use Rattle.fields.specs.Numbers.{number}
 use Rattle.records.specs.declared.MarkShape.{MarkShape}
-use Rattle.records.specs.Table.{Row, table, rowOf, fieldOf}
+use Rattle.records.specs.Table.{Row, table, rowOf, fieldOf, FP, kinds}
 use Rattle.records.specs.Record.{markIn, mark, widths, size, offsetIn, offset, read, value, keyIn, keyWidth, keyOf, inRange, rangesHold, fault}
 use Rattle.records.specs.Shapes.{shape, shapeOf, keyField, keyFits, keyTest}
 use Rattle.records.proofs.Record.{faultless, field-in}
-use Rattle.index.specs.Slots.{slot}
+use Rattle.index.specs.Slots.{slot, narrow, wide}
 
 -- ---- the marks
 
@@ -29,26 +29,27 @@ in-lt k [] a b h = omega arith
 in-lt k (x ∷ l) a b h =
     cond-lt (eqb a (x .first) && eqb b (x .second)) k (markIn (suc k) l a b) (k + suc (length l)) (omega arith) (omega (arith, in-lt (suc k) l a b (omega arith)))
 
-pub mark-lt : (s : List ℕ) → mark s < 10
+pub mark-lt : (s : List ℕ) → mark s < kinds
 unfolding mark table
 mark-lt s = in-lt 1 table (getD s 0 0) (getD s 1 0) (lit< tt)
 
-pub by-mark : (P : ℕ → Type 0) → P 1 → P 2 → P 3 → P 4 → P 5 → P 6 → P 7 → P 8 → P 9 → (k : ℕ) → (k ≡ 0 → ⊥) → k < 10 → P k
-by-mark P a b c d e f g h i zero z l = absurd (z refl)
-by-mark P a b c d e f g h i (suc zero) z l = a
-by-mark P a b c d e f g h i (suc (suc zero)) z l = b
-by-mark P a b c d e f g h i (suc (suc (suc zero))) z l = c
-by-mark P a b c d e f g h i (suc (suc (suc (suc zero)))) z l = d
-by-mark P a b c d e f g h i (suc (suc (suc (suc (suc zero))))) z l = e
-by-mark P a b c d e f g h i (suc (suc (suc (suc (suc (suc zero)))))) z l = f
-by-mark P a b c d e f g h i (suc (suc (suc (suc (suc (suc (suc zero))))))) z l = g
-by-mark P a b c d e f g h i (suc (suc (suc (suc (suc (suc (suc (suc zero)))))))) z l = h
-by-mark P a b c d e f g h i (suc (suc (suc (suc (suc (suc (suc (suc (suc zero))))))))) z l = i
-by-mark P a b c d e f g h i (suc (suc (suc (suc (suc (suc (suc (suc (suc (suc k)))))))))) z l = absurd (omega arith)
+pub by-mark : (P : ℕ → Type 0) → P 1 → P 2 → P 3 → P 4 → P 5 → P 6 → P 7 → P 8 → P 9 → P 10 → (k : ℕ) → (k ≡ 0 → ⊥) → k < kinds → P k
+by-mark P a b c d e f g h i j zero z l = absurd (z refl)
+by-mark P a b c d e f g h i j (suc zero) z l = a
+by-mark P a b c d e f g h i j (suc (suc zero)) z l = b
+by-mark P a b c d e f g h i j (suc (suc (suc zero))) z l = c
+by-mark P a b c d e f g h i j (suc (suc (suc (suc zero)))) z l = d
+by-mark P a b c d e f g h i j (suc (suc (suc (suc (suc zero))))) z l = e
+by-mark P a b c d e f g h i j (suc (suc (suc (suc (suc (suc zero)))))) z l = f
+by-mark P a b c d e f g h i j (suc (suc (suc (suc (suc (suc (suc zero))))))) z l = g
+by-mark P a b c d e f g h i j (suc (suc (suc (suc (suc (suc (suc (suc zero)))))))) z l = h
+by-mark P a b c d e f g h i j (suc (suc (suc (suc (suc (suc (suc (suc (suc zero))))))))) z l = i
+by-mark P a b c d e f g h i j (suc (suc (suc (suc (suc (suc (suc (suc (suc (suc zero)))))))))) z l = j
+by-mark P a b c d e f g h i j (suc (suc (suc (suc (suc (suc (suc (suc (suc (suc (suc k))))))))))) z l = absurd (omega arith)
 
-pub size-11 : (k : ℕ) → (k ≡ 0 → ⊥) → k < 10 → 11 ≤ size k
+pub size-11 : (k : ℕ) → (k ≡ 0 → ⊥) → k < kinds → 11 ≤ size k
 unfolding size widths rowOf table
-size-11 = by-mark (λ k. 11 ≤ size k) (lit≤ tt) (lit≤ tt) (lit≤ tt) (lit≤ tt) (lit≤ tt) (lit≤ tt) (lit≤ tt) (lit≤ tt) (lit≤ tt)
+size-11 = by-mark (λ k. 11 ≤ size k) (lit≤ tt) (lit≤ tt) (lit≤ tt) (lit≤ tt) (lit≤ tt) (lit≤ tt) (lit≤ tt) (lit≤ tt) (lit≤ tt) (lit≤ tt)
 
 -- ---- keys: the numbers within the bounds of the code's table
 
@@ -67,7 +68,7 @@ none m i = eqb (getD (m .highest) i 0) 0
 -- a number is a key of mark k
 pub record InKey (k n : ℕ) : Type 0 where
   pub known : 1 ≤ k
-  pub low : k < 10
+  pub low : k < kinds
   pub spans : Spans (none (shapeOf k) 1) (none (shapeOf k) 2) (shapeOf k) n
 
 span-of : {lo hi x : ℕ} → between lo hi x ≡ true → (lo ≤ x) × (x ≤ hi)
@@ -82,7 +83,7 @@ unfolding keyField
 to-span m i x e = span-of e
 
 -- the test of the code decides it
-pub test-key : (k n : ℕ) → k < 10 → keyTest k n ≡ true → InKey k n
+pub test-key : (k n : ℕ) → k < kinds → keyTest k n ≡ true → InKey k n
 unfolding keyTest keyFits
 test-key k n h e =
     record { known = ltb-true 0 k (and-left (ltb 0 k) (keyFits (shapeOf k) n) e); low = h; spans = go (shapeOf k) (none (shapeOf k) 1) (none (shapeOf k) 2) (and-right (ltb 0 k) (keyFits (shapeOf k) n) e) }
@@ -136,6 +137,10 @@ module _ (r : List ℕ) where
   unfolding Keyed Spans shapeOf shape keyWidth keyIn inRange value read offset offsetIn fieldOf rowOf table
   keyed-ch h = span-of (field-in 8 0 r h (lit< tt))
 
+  keyed-fp : Keyed r 10
+  unfolding Keyed Spans shapeOf shape keyWidth keyIn inRange value read offset offsetIn fieldOf rowOf table
+  keyed-fp h = span-of (field-in 10 0 r h (lit< tt))
+
   keyed-mm : Keyed r 5
   unfolding Keyed Spans shapeOf shape keyWidth keyIn inRange value read offset offsetIn fieldOf rowOf table number
   keyed-mm h =
@@ -165,34 +170,34 @@ in-key r e =
     record {
       known = omega (arith, f .known);
       low = mark-lt r;
-      spans = by-mark (Keyed r) (keyed-rs r) (keyed-hp r) (keyed-fu r) (keyed-ad r) (keyed-mm r) (keyed-rq r) (keyed-hr r) (keyed-ch r) (keyed-th r) (mark r) (f .known) (mark-lt r) (f .ranges);
+      spans = by-mark (Keyed r) (keyed-rs r) (keyed-hp r) (keyed-fu r) (keyed-ad r) (keyed-mm r) (keyed-rq r) (keyed-hr r) (keyed-ch r) (keyed-th r) (keyed-fp r) (mark r) (f .known) (mark-lt r) (f .ranges);
     }
 
 -- ---- no two keys share a slot
 
 -- where the slots of a mark begin and end
 unfoldable pub low : ℕ → ℕ
-low k = getD (0 ∷ 0 ∷ 1 ∷ 22 ∷ 26 ∷ 106 ∷ 138 ∷ 154 ∷ 322 ∷ 2338 ∷ []) k 0
+low k = getD (0 ∷ 0 ∷ 1 ∷ 22 ∷ 26 ∷ 106 ∷ 138 ∷ 154 ∷ 322 ∷ 2338 ∷ 2350 ∷ []) k 0
 
 unfoldable pub high : ℕ → ℕ
-high k = getD (0 ∷ 0 ∷ 21 ∷ 25 ∷ 105 ∷ 137 ∷ 153 ∷ 321 ∷ 2337 ∷ 2349 ∷ []) k 0
+high k = getD (0 ∷ 0 ∷ 21 ∷ 25 ∷ 105 ∷ 137 ∷ 153 ∷ 321 ∷ 2337 ∷ 2349 ∷ 6349 ∷ []) k 0
 
-pub at-mark : (P : ℕ → Type 0) (k n : ℕ) → InKey k n → P 1 → P 2 → P 3 → P 4 → P 5 → P 6 → P 7 → P 8 → P 9 → P k
-at-mark P k n p a b c d e f g h i = by-mark P a b c d e f g h i k (λ z. omega (arith, z, p .known)) (p .low)
+pub at-mark : (P : ℕ → Type 0) (k n : ℕ) → InKey k n → P 1 → P 2 → P 3 → P 4 → P 5 → P 6 → P 7 → P 8 → P 9 → P 10 → P k
+at-mark P k n p a b c d e f g h i j = by-mark P a b c d e f g h i j k (λ z. omega (arith, z, p .known)) (p .low)
 
 pub limits : (k n : ℕ) → InKey k n → (low k ≤ slot k n) × (slot k n ≤ high k)
 unfolding Spans shapeOf shape rowOf table slot low high
-limits k n p = at-mark (λ j. InKey j n → (low j ≤ slot j n) × (slot j n ≤ high j)) k n p (λ q. (omega (arith, q .spans), omega (arith, q .spans))) (λ q. (omega (arith, q .spans), omega (arith, q .spans))) (λ q. (omega (arith, q .spans), omega (arith, q .spans))) (λ q. (omega (arith, q .spans), omega (arith, q .spans))) (λ q. (omega (arith, q .spans), omega (arith, q .spans))) (λ q. (omega (arith, q .spans), omega (arith, q .spans))) (λ q. (omega (arith, q .spans), omega (arith, q .spans))) (λ q. (omega (arith, q .spans), omega (arith, q .spans))) (λ q. (omega (arith, q .spans), omega (arith, q .spans))) p
+limits k n p = at-mark (λ j. InKey j n → (low j ≤ slot j n) × (slot j n ≤ high j)) k n p (λ q. (omega (arith, q .spans), omega (arith, q .spans))) (λ q. (omega (arith, q .spans), omega (arith, q .spans))) (λ q. (omega (arith, q .spans), omega (arith, q .spans))) (λ q. (omega (arith, q .spans), omega (arith, q .spans))) (λ q. (omega (arith, q .spans), omega (arith, q .spans))) (λ q. (omega (arith, q .spans), omega (arith, q .spans))) (λ q. (omega (arith, q .spans), omega (arith, q .spans))) (λ q. (omega (arith, q .spans), omega (arith, q .spans))) (λ q. (omega (arith, q .spans), omega (arith, q .spans))) (λ q. (omega (arith, q .spans), omega (arith, q .spans))) p
 
 all-le : (l : List ℕ) (m : ℕ) → everyOf (λ x. leb x m) l ≡ true → leb 0 m ≡ true → (k : ℕ) → getD l k 0 ≤ m
 all-le l m e z k = leb-true (getD l k 0) m (everyOf-at (λ x. leb x m) l 0 z e k)
 
-pub slot-lt : (k n : ℕ) → InKey k n → slot k n < 2350
+pub slot-lt : (k n : ℕ) → InKey k n → slot k n < wide
 unfolding high
 slot-lt k n p = omega (arith, limits k n p .1, high-le k)
   where
-    high-le : (k : ℕ) → high k ≤ 2349
-    high-le k = unfold high everyOf in all-le (0 ∷ 0 ∷ 21 ∷ 25 ∷ 105 ∷ 137 ∷ 153 ∷ 321 ∷ 2337 ∷ 2349 ∷ []) 2349 refl refl k
+    high-le : (k : ℕ) → high k ≤ 6349
+    high-le k = unfold high everyOf in all-le (0 ∷ 0 ∷ 21 ∷ 25 ∷ 105 ∷ 137 ∷ 153 ∷ 321 ∷ 2337 ∷ 2349 ∷ 6349 ∷ []) 6349 refl refl k
 
 three : (a b c x y z : ℕ) → Span (shapeOf 4) 0 a × Span (shapeOf 4) 1 b × Span (shapeOf 4) 2 c → Span (shapeOf 4) 0 x × Span (shapeOf 4) 1 y × Span (shapeOf 4) 2 z → 1 + a * 20 + b * 4 + c ≡ 1 + x * 20 + y * 4 + z → (a ≡ x) × (b ≡ y) × (c ≡ z)
 unfolding shapeOf shape rowOf table
@@ -212,17 +217,22 @@ unfolding Spans shapeOf shape rowOf table slot
 same-key k n m p =
     at-mark (λ j. InKey j n → InKey j m → slot j n ≡ slot j m → n ≡ m) k n p (λ p q e. omega (arith, p .spans, q .spans, e)) (λ p q e. omega (arith, p .spans, q .spans, e)) (λ p q e. omega (arith, p .spans, q .spans, e))
     (λ p q e. three-same n m (three (n / 65536) (n / 256 % 256) (n % 256) (m / 65536) (m / 256 % 256) (m % 256) (p .spans) (q .spans) e))
-    (λ p q e. omega (arith, p .spans, q .spans, e)) (λ p q e. omega (arith, p .spans, q .spans, e)) (λ p q e. omega (arith, p .spans, q .spans, e)) (λ p q e. omega (arith, p .spans, q .spans, e)) (λ p q e. omega (arith, p .spans, q .spans, e)) p
+    (λ p q e. omega (arith, p .spans, q .spans, e)) (λ p q e. omega (arith, p .spans, q .spans, e)) (λ p q e. omega (arith, p .spans, q .spans, e)) (λ p q e. omega (arith, p .spans, q .spans, e)) (λ p q e. omega (arith, p .spans, q .spans, e)) (λ p q e. omega (arith, p .spans, q .spans, e)) p
 
 apartTest : ℕ → ℕ → Bool
 apartTest k j = not (ltb 0 k && ltb k j) || ltb (high k) (low j)
 
-ordered : (k j : ℕ) → 1 ≤ k → k < j → j < 10 → high k < low j
+ordered : (k j : ℕ) → 1 ≤ k → k < j → j < kinds → high k < low j
 unfolding apartTest high low allBelow
 ordered k j a b c =
     let t : not (ltb 0 k && ltb k j) || ltb (high k) (low j) ≡ true =
-    below-at 10 (λ x. apartTest x j) (below-at 10 (λ y. allBelow 10 (λ x. apartTest x y)) refl j c) k (omega arith) in
+    below-at kinds (λ x. apartTest x j) (below-at kinds (λ y. allBelow kinds (λ x. apartTest x y)) refl j c) k (omega arith) in
     ltb-true (high k) (low j) (rw (lt-ltb 0 k (omega arith), lt-ltb k j b) at t)
+
+-- of every mark but FP
+pub slot-narrow : (k n : ℕ) → InKey k n → k < FP → slot k n < narrow
+unfolding high low
+slot-narrow k n p h = omega (arith, limits k n p .1, ordered k FP (p .known) h (lit< tt))
 
 pub slot-apart : (k n j m : ℕ) → InKey k n → InKey j m → slot k n ≡ slot j m → (k ≡ j) × (n ≡ m)
 slot-apart k n j m p q e = go (ltb k j) refl (ltb j k) refl

@@ -1,12 +1,15 @@
 -- One turn of the pass.
 use mathlib.Core.Path.{_≡_, refl, ap, ap₂, subst, _∙_}
-use mathlib.Core.Bool.{Bool, true, _&&_}
-use mathlib.Core.List.{List}
-use Prim.Native.Nat.{ℕ, _+_, _-_, _≤_, _<_}
+use mathlib.Core.Bool.{Bool, true, false, _&&_}
+use mathlib.Core.List.{List, [], _∷_}
+use Prim.Native.Nat.{ℕ, zero, suc, _+_, _-_, _≤_, _<_}
 use native.Mathlib.Omega.{arith}
 use lib.Dec.{ltb}
-use lib.ListN.{length, getD, set, take, drop, length-drop}
+use lib.ListN.{length, getD, set, take, drop, length-drop, List·getD-eq-default}
 use lib.Seq.{take-all}
+use borrow.Author.Tests.{lt-ltb, le-ltb}
+use Rattle.lists.proofs.Tests.{and-true, and-false}
+use Rattle.records.specs.Table.{kinds}
 use Rattle.fields.specs.Numbers.{number}
 use Rattle.records.specs.declared.Found.the-variants.{Record}
 use Rattle.records.specs.Record.{mark, size, issue, keyWidth, keyOf, fault}
@@ -16,12 +19,12 @@ use Rattle.records.proofs.Record.{mark-take, size-ge, key-ends, faultless}
 use Rattle.records.proofs.Walk.{found-record, found-within, Rest, next}
 use Rattle.records.proofs.Read.{number-take}
 use Rattle.index.specs.Slots.{slotAt, slot, heldIssue, newer, kept, keepStep}
-use Rattle.index.proofs.Slots.{mark-lt, size-11, in-key, slot-lt}
+use Rattle.index.proofs.Slots.{mark-lt, size-11}
 
 pub tail : (d : List ℕ) (at : ℕ) → take (length d - at) (drop at d) ≡ drop at d
 tail d at = take-all (length d - at) (drop at d) (simp length-drop (omega arith))
 
-pub bounds : (d : List ℕ) (at k n : ℕ) → found (drop at d) ≡ Record k n → (1 ≤ n) × (n ≤ length d - at) × (k < 10)
+pub bounds : (d : List ℕ) (at k n : ℕ) → found (drop at d) ≡ Record k n → (1 ≤ n) × (n ≤ length d - at) × (k < kinds)
 bounds d at k n e =
     let w = found-within (drop at d) k n e in
     (w .0, simp length-drop at (w .1), rw (found-record (drop at d) k n e .0) (mark-lt (drop at d)))
@@ -52,22 +55,38 @@ module _ (s : List ℕ) (k n : ℕ) (e : found s ≡ Record k n) where
   its-slot =
       ap₂ slot its-mark (ap (λ (x : ℕ). number 6 (keyWidth x) (take n s)) its-mark ∙ number-take n 6 (keyWidth k) s (omega (arith, key-ends k, ap size (found-record s k n e .0), found-record s k n e .1)))
 
-  pub slot-below : slotAt k s < 2350
-  slot-below = rw (← its-slot) (slot-lt (mark (take n s)) (keyOf (take n s)) (in-key (take n s) its-fault))
-
-  step-is : (d ix : List ℕ) (b : Bool) (p : ℕ) → keepStep d (kept ix b) p (take n s) ≡ kept (set ix (slotAt k s) (newer (heldIssue d (getD ix (slotAt k s) 0)) (number 2 4 s + 1) (getD ix (slotAt k s) 0) (p + 1))) (b && ltb (heldIssue d (getD ix (slotAt k s) 0)) (number 2 4 s + 1))
+  step-is : (d ix : List ℕ) (b c : Bool) (p : ℕ) → keepStep d (kept ix b c) p (take n s) ≡ kept (set ix (slotAt k s) (newer (heldIssue d (getD ix (slotAt k s) 0)) (number 2 4 s + 1) (getD ix (slotAt k s) 0) (p + 1))) (b && ltb (heldIssue d (getD ix (slotAt k s) 0)) (number 2 4 s + 1)) (c && ltb (slotAt k s) (length ix))
   unfolding keepStep
-  step-is d ix b p = rw (its-slot, its-issue) refl
+  step-is d ix b c p = rw (its-slot, its-issue) refl
 
-pub turn : (d ix₀ ix : List ℕ) (at k n : ℕ) (b : Bool) {j w a g : ℕ} → at < length d → Rest (keepStep d) (kept ix₀ true) d at (kept ix b) → found (drop at d) ≡ Record k n
-    → j ≡ slotAt k (take (length d - at) (drop at d)) → w ≡ number 2 4 (take (length d - at) (drop at d)) → a ≡ heldIssue d (getD ix j 0) → g ≡ newer a (w + 1) (getD ix j 0) (at + 1)
-    → Rest (keepStep d) (kept ix₀ true) d (at + n) (kept (set ix j g) (b && ltb a (w + 1)))
-turn d ix₀ ix at k n b h r e ej ew ea eg =
-    let ej′ = ej ∙ ap (slotAt k) (tail d at) in
-    let ew′ = ew ∙ ap (number 2 4) (tail d at) in
-    rw (eg, ea, ej′, ew′)
-    (subst (Rest (keepStep d) (kept ix₀ true) d (at + n)) (step-is (drop at d) k n e d ix b at)
-    (next (keepStep d) (kept ix₀ true) d at (kept ix b) k n h r e))
+-- what lies beyond a list is not set
+set-beyond : (l : List ℕ) (i x : ℕ) → length l ≤ i → set l i x ≡ l
+set-beyond [] i x h = refl
+set-beyond (y ∷ l) zero x h = absurd (omega arith)
+set-beyond (y ∷ l) (suc i) x h = ap (λ (m : List ℕ). y ∷ m) (set-beyond l i x (omega arith))
 
-pub below : (d : List ℕ) (at k n : ℕ) {j : ℕ} → found (drop at d) ≡ Record k n → j ≡ slotAt k (take (length d - at) (drop at d)) → j < 2350
-below d at k n e ej = rw (ej, tail d at) (slot-below (drop at d) k n e)
+module _ (d ix₀ ix : List ℕ) (at k n : ℕ) (b c : Bool) (h : at < length d) (r : Rest (keepStep d) (kept ix₀ true true) d at (kept ix b c)) (e : found (drop at d) ≡ Record k n) {j : ℕ} (ej : j ≡ slotAt k (take (length d - at) (drop at d))) where
+  after : Rest (keepStep d) (kept ix₀ true true) d (at + n) (kept (set ix (slotAt k (drop at d)) (newer (heldIssue d (getD ix (slotAt k (drop at d)) 0)) (number 2 4 (drop at d) + 1) (getD ix (slotAt k (drop at d)) 0) (at + 1))) (b && ltb (heldIssue d (getD ix (slotAt k (drop at d)) 0)) (number 2 4 (drop at d) + 1)) (c && ltb (slotAt k (drop at d)) (length ix)))
+  after = subst (Rest (keepStep d) (kept ix₀ true true) d (at + n)) (step-is (drop at d) k n e d ix b c at) (next (keepStep d) (kept ix₀ true true) d at (kept ix b c) k n h r e)
+
+  ej′ : j ≡ slotAt k (drop at d)
+  ej′ = ej ∙ ap (slotAt k) (tail d at)
+
+  -- a record with a slot in the index
+  pub turn : {w a g : ℕ} → j < length ix → w ≡ number 2 4 (take (length d - at) (drop at d)) → a ≡ heldIssue d (getD ix j 0) → g ≡ newer a (w + 1) (getD ix j 0) (at + 1)
+      → Rest (keepStep d) (kept ix₀ true true) d (at + n) (kept (set ix j g) (b && ltb a (w + 1)) c)
+  turn z ew ea eg =
+      let ew′ = ew ∙ ap (number 2 4) (tail d at) in
+      let y : c && ltb (slotAt k (drop at d)) (length ix) ≡ c = rw (lt-ltb (slotAt k (drop at d)) (length ix) (rw ej′ at z)) (and-true c) in
+      rw (eg, ea, ej′, ew′) (rw y at after)
+
+  -- one without
+  pub turn-beyond : length ix ≤ j → Rest (keepStep d) (kept ix₀ true true) d (at + n) (kept ix b false)
+  unfolding heldIssue
+  turn-beyond z =
+      let q : ℕ = slotAt k (drop at d) in
+      let m : length ix ≤ q = rw ej′ at z in
+      let v : getD ix q 0 ≡ 0 = List·getD-eq-default ix 0 {n = q} m in
+      let x : b && ltb (heldIssue d (getD ix q 0)) (number 2 4 (drop at d) + 1) ≡ b = rw (v, lt-ltb 0 (number 2 4 (drop at d) + 1) (omega arith)) (and-true b) in
+      let y : c && ltb q (length ix) ≡ false = rw (le-ltb q (length ix) m) (and-false c) in
+      rw (set-beyond ix q (newer (heldIssue d (getD ix q 0)) (number 2 4 (drop at d) + 1) (getD ix q 0) (at + 1)) m, x, y) at after

@@ -1,9 +1,9 @@
 -- The index: a slot for each mark and key, which holds the current record so far.
-use mathlib.Core.Bool.{Bool, cond, _&&_, _||_}
+use mathlib.Core.Bool.{Bool, true, cond, _&&_, _||_}
 use mathlib.Core.List.{List}
 use Prim.Native.Nat.{ℕ, zero, suc, _+_, _*_, _/_, _%_}
 use lib.Dec.{leb, ltb, eqb}
-use lib.ListN.{length, getD, set}
+use lib.ListN.{length, getD, set, replicate}
 use Rattle.fields.specs.Numbers.{number}
 use Rattle.records.specs.Record.{head, mark, issue, keyWidth, keyOf}
 use Rattle.records.specs.Walk.{Step, Walked, ended, stopped}
@@ -23,7 +23,16 @@ slot (suc (suc (suc (suc (suc zero))))) n = 97 + n / 256 * 8 + n % 256
 slot (suc (suc (suc (suc (suc (suc zero)))))) n = 137 + n
 slot (suc (suc (suc (suc (suc (suc (suc zero))))))) n = 153 + n
 slot (suc (suc (suc (suc (suc (suc (suc (suc zero)))))))) n = 321 + n
-slot (suc (suc (suc (suc (suc (suc (suc (suc (suc k))))))))) n = 2333 + n / 256 * 4 + n % 256
+slot (suc (suc (suc (suc (suc (suc (suc (suc (suc zero))))))))) n = 2333 + n / 256 * 4 + n % 256
+slot (suc (suc (suc (suc (suc (suc (suc (suc (suc (suc k)))))))))) n = 2349 + n
+
+-- the slots of all marks but FP, whose slots come last: an index may do without them
+abbrev pub narrow : ℕ
+narrow = 2350
+
+-- and with them
+abbrev pub wide : ℕ
+wide = 6350
 
 -- of a record of mark k at the front of the rest of a dossier, read in place
 unfoldable pub slotAt : ℕ → List ℕ → ℕ
@@ -39,25 +48,30 @@ heldIssue d v = cond (eqb v 0 || ltb (length d) (v + 5)) 0 (number (v + 1) 4 d +
 abbrev pub newer : ℕ → ℕ → ℕ → ℕ → ℕ
 newer a b v w = cond (leb a b) w v
 
--- the index, and whether every issue so far was above all earlier ones of its mark and key
+-- the index, whether every issue so far was above all earlier ones of its mark and key, and whether every record had a slot in it
 pub record Kept : Type 0 where
   pub slots : List ℕ
   pub rising : Bool
+  pub complete : Bool
 
--- both at once
-abbrev pub kept : List ℕ → Bool → Kept
-kept l b = record { slots = l; rising = b }
+-- all three at once
+abbrev pub kept : List ℕ → Bool → Bool → Kept
+kept l b c = record { slots = l; rising = b; complete = c }
 
--- a record r at place p of dossier d goes into the slot of its mark and key, unless a higher issue is there
+-- an index of w empty slots, before the first record
+abbrev pub fresh : ℕ → Kept
+fresh w = kept (replicate w 0) true true
+
+-- a record r at place p of dossier d goes into the slot of its mark and key, unless a higher issue is there; one without a slot is passed over
 unfoldable pub keepStep : List ℕ → Step Kept
 keepStep d x p r =
     let j = slot (mark r) (keyOf r) in
     let v = getD (x .slots) j 0 in
-    kept (set (x .slots) j (newer (heldIssue d v) (issue r + 1) v (p + 1))) (x .rising && ltb (heldIssue d v) (issue r + 1))
+    kept (set (x .slots) j (newer (heldIssue d v) (issue r + 1) v (p + 1))) (x .rising && ltb (heldIssue d v) (issue r + 1)) (x .complete && ltb j (length (x .slots)))
 
 -- what the pass answers
 unfoldable pub passOf : Walked Kept → Passed
-passOf (ended x) = Ended (x .rising)
+passOf (ended x) = Ended (x .rising) (x .complete)
 passOf (stopped n p) = Stopped n p
 
 -- and the index that it leaves, l where it stopped

@@ -59,3 +59,10 @@ pub fn slot_th(c: usize, v: usize) -> usize
 {
     2333 + c * 4 + v
 }
+
+pub fn slot_fp(n: usize) -> usize
+    requires { ⌜ n < 16777216 ⌝ }
+    ensures { λ r. ⌜ r ≡ slot 10 n ⌝ }
+{
+    2349 + n
+}

@@ -6,6 +6,7 @@ use crate::Entry;
 use crate::Reading;
 use crate::keys::slot_ad;
 use crate::keys::slot_ch;
+use crate::keys::slot_fp;
 use crate::keys::slot_fu;
 use crate::keys::slot_hp;
 use crate::keys::slot_hr;
@@ -54,6 +55,29 @@ fn read_hr(s: &[u8]) -> Reading
     }
     if records::hr_ok(s) {
         Reading::Whole(entry_hr(s))
+    } else {
+        Reading::Fault(3)
+    }
+}
+
+// FP
+fn entry_fp(s: &[u8]) -> Entry
+    ensures { λ r. ⌜ r ≡ entryAs 10 (now (s .entry)) ⌝ }
+{
+    Entry {
+        len: records::FP.length,
+        slot: slot_fp(fields::u16_at(s, 6) as usize),
+    }
+}
+
+fn read_fp(s: &[u8]) -> Reading
+    ensures { λ r. ⌜ r ≡ readingAs 10 (now (s .entry)) ⌝ }
+{
+    if s.len() < records::FP.length {
+        return Reading::Fault(2);
+    }
+    if records::fp_ok(s) {
+        Reading::Whole(entry_fp(s))
     } else {
         Reading::Fault(3)
     }
@@ -243,6 +267,9 @@ pub fn read(rest: &[u8]) -> Reading
     if records::is_mark(rest, b"HR") {
         return read_hr(rest);
     }
+    if records::is_mark(rest, b"FP") {
+        return read_fp(rest);
+    }
     if records::is_mark(rest, b"FU") {
         return read_fu(rest);
     }
@@ -276,6 +303,9 @@ pub fn entry_at(rest: &[u8]) -> Entry
     }
     if records::is_mark(rest, b"HR") {
         return entry_hr(rest);
+    }
+    if records::is_mark(rest, b"FP") {
+        return entry_fp(rest);
     }
     if records::is_mark(rest, b"FU") {
         return entry_fu(rest);

@@ -2,25 +2,27 @@ use borrow.Author.Needs.{needs}
 use native.Mathlib.Omega.{arith}
 use mathlib.Core.Path.{_≡_, refl, sym, ap, _∙_}
 use mathlib.Core.Bool.{true}
+use mathlib.Core.Logic.{inl, inr}
 use mathlib.Core.List.{List}
 use Prim.Native.Nat.{ℕ, _≤_, _<_, _-_}
 use lib.ListN.{length, drop, take, length-set}
 use Rattle.records.specs.declared.Found.the-variants.{Record}
+use Rattle.records.specs.Table.{kinds}
 use Rattle.records.specs.Walk.{found}
 use Rattle.records.proofs.Walk.{Rest, start, stop, end}
 use Rattle.index.specs.declared.Reading.{Reading}
 use Rattle.index.specs.Slots.{slotAt, kept, keepStep, passOf, slotsOf}
 use Rattle.index.specs.Entries.{readingOf}
-use Rattle.index.proofs.Turn.{tail, bounds, long, turn, below}
+use Rattle.index.proofs.Turn.{tail, bounds, long, turn, turn-beyond}
 use Rattle.index.proofs.Entries.{whole-found, fault-found}
 use Rattle.index.proofs.pass.Statement.{statement}
 use Rattle.index.proofs.pass.Tie as tie
 
 abbrev Inv-loop : tie.InvT-loop
-Inv-loop d index₀ at₀ rising₀ index at rising = (at ≤ length d) × (length index ≡ length index₀) × Rest (keepStep d) (kept index₀ true) d at (kept index rising)
+Inv-loop d index₀ at₀ rising₀ complete₀ index at rising complete = (at ≤ length d) × (length index ≡ length index₀) × Rest (keepStep d) (kept index₀ true true) d at (kept index rising complete)
 
 abbrev μ-loop : tie.MeasureT-loop
-μ-loop d index₀ at₀ rising₀ index at rising = length d - at
+μ-loop d index₀ at₀ rising₀ complete₀ index at rising complete = length d - at
 
 loop-holds : tie.Need-loop-holds Inv-loop μ-loop
 loop-holds c = (search needs, refl, start _ _ _)
@@ -64,11 +66,8 @@ its-found c =
     let z = whole-found (drop (at-of (In c)) (d-of (In c))) (c .before .entry .given .0 .0) (read-of (c .before .before .before) (c .before .entry .given .1)) in
     (z .0, z .1, z .2 ∙ sym (ap (slotAt (z .0)) (tail (d-of (In c)) (at-of (In c)))))
 
-its : (c : tie.After-known-told Inv-loop μ-loop) → (1 ≤ len-of c) × (len-of c ≤ length (d-of (In c)) - at-of (In c)) × (its-found c .0 < 10)
+its : (c : tie.After-known-told Inv-loop μ-loop) → (1 ≤ len-of c) × (len-of c ≤ length (d-of (In c)) - at-of (In c)) × (its-found c .0 < kinds)
 its c = bounds (d-of (In c)) (at-of (In c)) _ _ (its-found c .1)
-
-slot-fits : (c : tie.After-known-told Inv-loop μ-loop) → slot-of c < 2350
-slot-fits c = below (d-of (In c)) (at-of (In c)) _ _ (its-found c .1) (its-found c .2)
 
 same-length : tie.Need-same-length Inv-loop μ-loop
 same-length c = search needs
@@ -86,10 +85,10 @@ add-issue : tie.Need-add-issue Inv-loop μ-loop
 add-issue c = search needs
 
 mul-v : tie.Need-mul-v Inv-loop μ-loop
-mul-v c = omega (arith, slot-fits (c .before .before))
+mul-v c = search needs
 
 slice-read-v : tie.Need-slice-read-v Inv-loop μ-loop
-slice-read-v c = omega (arith, slot-fits (c .before .before .before))
+slice-read-v c = search needs
 
 issue-held-requires : tie.Need-issue-held-requires Inv-loop μ-loop
 issue-held-requires c κs = search needs
@@ -104,23 +103,27 @@ newer-of-requires : tie.Need-newer-of-requires Inv-loop μ-loop
 newer-of-requires c κs = search needs
 
 mul-index : tie.Need-mul-index Inv-loop μ-loop
-mul-index c = omega (arith, slot-fits (c .before .before .before .before .before))
+mul-index c = search needs
 
 slice-write-index : tie.Need-slice-write-index Inv-loop μ-loop
-slice-write-index c = omega (arith, slot-fits (c .before .before .before .before .before))
+slice-write-index c = search needs
 
 add-at : tie.Need-add-at Inv-loop μ-loop
-add-at c = omega (arith, its (c .before .before .before .before .before .before))
+add-at c = omega (arith, its (c .before .before .before))
 
 loop-less : tie.Need-loop-less Inv-loop μ-loop
-loop-less c = omega (arith, its (c .before .before .before .before .before .before))
+loop-less c = omega (arith, its (c .before .before .before))
 
 loop-again : tie.Need-loop-again Inv-loop μ-loop
 loop-again c =
-    let k = c .before .before .before .before .before .before in
+    let k = c .before .before .before in
     let i = In k in
     let l = i .before .loop in
-    (omega (arith, its k), simp length-set (l .inv .1), turn (d-of i) _ (l .index) (l .at) (its-found k .0) (len-of k) (l .rising) (i .loop-test .taken) (l .inv .2) (its-found k .1) (its-found k .2) (c .before .before .before .before .u32-at .ensures) (c .before .before .issue-held .ensures) (c .before .newer-of .ensures))
+    let j = c .before .if2 in
+    elim (j .came) [
+      | inl x ↦ (omega (arith, its k), rw (x .5) (simp length-set (l .inv .1)), rw (x .5, x .6, x .7) (turn (d-of i) _ (l .index) (l .at) (its-found k .0) (len-of k) (l .rising) (l .complete) (i .loop-test .taken) (l .inv .2) (its-found k .1) (its-found k .2) (x .0 .taken) (x .1 .ensures) (x .3 .ensures) (x .4 .ensures)))
+      | inr x ↦ (omega (arith, its k), rw (x .1) (l .inv .1), rw (x .1, x .2, x .3) (turn-beyond (d-of i) _ (l .index) (l .at) (its-found k .0) (len-of k) (l .rising) (l .complete) (i .loop-test .taken) (l .inv .2) (its-found k .1) (its-found k .2) (x .0 .left)))
+    ]
 
 enum-known-number : tie.Need-enum-known-number Inv-loop μ-loop
 enum-known-number c = search needs
@@ -133,7 +136,7 @@ unfolding passOf slotsOf
 returns-2 c =
     let r = c .before .before .before in
     let i = r .before .before in
-    let e = stop (keepStep (d-of i)) (kept (i .before .before .before .before .args .index .now) true) (d-of i) (at-of i) _ _ (i .loop-test .taken) (i .before .loop .inv .2) (fault-found (drop (at-of i) (d-of i)) _ (read-of r (c .before .number .given .1))) in
+    let e = stop (keepStep (d-of i)) (kept (i .before .before .before .before .args .index .now) true true) (d-of i) (at-of i) _ _ (i .loop-test .taken) (i .before .loop .inv .2) (fault-found (drop (at-of i) (d-of i)) _ (read-of r (c .before .number .given .1))) in
     (sym (ap passOf e), sym (ap (slotsOf (i .before .loop .index)) e))
 
 same-length-3 : tie.Need-same-length-3 Inv-loop μ-loop
@@ -144,7 +147,7 @@ unfolding passOf slotsOf
 returns-3 c =
     let l = c .before .loop in
     let a = c .before .before .before .before .args in
-    let e = end (keepStep (a .d .now)) (kept (a .index .now) true) (a .d .now) (l .at) (kept (l .index) (l .rising)) (c .loop-test .left) (l .inv .2) in
+    let e = end (keepStep (a .d .now)) (kept (a .index .now) true true) (a .d .now) (l .at) (kept (l .index) (l .rising) (l .complete)) (c .loop-test .left) (l .inv .2) in
     (sym (ap passOf e), sym (ap (slotsOf (l .index)) e))
 
 pub pass-spec : {M : Type 1} → statement M

@@ -51,57 +51,68 @@ returns-4 c = c .entry-hr .ensures ∙ entry-as _ (begun 72 82 _ (sym (c .before
 is-mark-requires-5 : tie.Need-is-mark-requires-5
 is-mark-requires-5 c κs = search needs
 
-entry-fu-requires : tie.Need-entry-fu-requires
-entry-fu-requires c κs = search needs
+entry-fp-requires : tie.Need-entry-fp-requires
+entry-fp-requires c κs = search needs
 
 returns-5 : tie.Need-returns-5
 unfolding markIn table
-returns-5 c = c .entry-fu .ensures ∙ entry-as _ (begun 70 85 _ (sym (c .before .before .is-mark5 .ensures) ∙ c .before .if5 .taken))
+returns-5 c = c .entry-fp .ensures ∙ entry-as _ (begun 70 80 _ (sym (c .before .before .is-mark5 .ensures) ∙ c .before .if5 .taken))
 
 is-mark-requires-6 : tie.Need-is-mark-requires-6
 is-mark-requires-6 c κs = search needs
 
-entry-ad-requires : tie.Need-entry-ad-requires
-entry-ad-requires c κs = search needs
+entry-fu-requires : tie.Need-entry-fu-requires
+entry-fu-requires c κs = search needs
 
 returns-6 : tie.Need-returns-6
 unfolding markIn table
-returns-6 c = c .entry-ad .ensures ∙ entry-as _ (begun 65 68 _ (sym (c .before .before .is-mark6 .ensures) ∙ c .before .if6 .taken))
+returns-6 c = c .entry-fu .ensures ∙ entry-as _ (begun 70 85 _ (sym (c .before .before .is-mark6 .ensures) ∙ c .before .if6 .taken))
 
 is-mark-requires-7 : tie.Need-is-mark-requires-7
 is-mark-requires-7 c κs = search needs
 
-entry-mm-requires : tie.Need-entry-mm-requires
-entry-mm-requires c κs = search needs
+entry-ad-requires : tie.Need-entry-ad-requires
+entry-ad-requires c κs = search needs
 
 returns-7 : tie.Need-returns-7
 unfolding markIn table
-returns-7 c = c .entry-mm .ensures ∙ entry-as _ (begun 77 77 _ (sym (c .before .before .is-mark7 .ensures) ∙ c .before .if7 .taken))
+returns-7 c = c .entry-ad .ensures ∙ entry-as _ (begun 65 68 _ (sym (c .before .before .is-mark7 .ensures) ∙ c .before .if7 .taken))
 
 is-mark-requires-8 : tie.Need-is-mark-requires-8
 is-mark-requires-8 c κs = search needs
 
-entry-rq-requires : tie.Need-entry-rq-requires
-entry-rq-requires c κs = search needs
+entry-mm-requires : tie.Need-entry-mm-requires
+entry-mm-requires c κs = search needs
 
 returns-8 : tie.Need-returns-8
 unfolding markIn table
-returns-8 c = c .entry-rq .ensures ∙ entry-as _ (begun 82 81 _ (sym (c .before .before .is-mark8 .ensures) ∙ c .before .if8 .taken))
+returns-8 c = c .entry-mm .ensures ∙ entry-as _ (begun 77 77 _ (sym (c .before .before .is-mark8 .ensures) ∙ c .before .if8 .taken))
 
 is-mark-requires-9 : tie.Need-is-mark-requires-9
 is-mark-requires-9 c κs = search needs
 
-entry-rs-requires : tie.Need-entry-rs-requires
-entry-rs-requires c κs = search needs
+entry-rq-requires : tie.Need-entry-rq-requires
+entry-rq-requires c κs = search needs
 
 returns-9 : tie.Need-returns-9
 unfolding markIn table
-returns-9 c = c .entry-rs .ensures ∙ entry-as _ (begun 82 83 _ (sym (c .before .before .is-mark9 .ensures) ∙ c .before .if9 .taken))
+returns-9 c = c .entry-rq .ensures ∙ entry-as _ (begun 82 81 _ (sym (c .before .before .is-mark9 .ensures) ∙ c .before .if9 .taken))
+
+is-mark-requires-10 : tie.Need-is-mark-requires-10
+is-mark-requires-10 c κs = search needs
+
+entry-rs-requires : tie.Need-entry-rs-requires
+entry-rs-requires c κs = search needs
 
 returns-10 : tie.Need-returns-10
+unfolding markIn table
+returns-10 c = c .entry-rs .ensures ∙ entry-as _ (begun 82 83 _ (sym (c .before .before .is-mark10 .ensures) ∙ c .before .if10 .taken))
+
+returns-11 : tie.Need-returns-11
 unfolding slot slotAt size widths keyWidth keyIn rowOf table
-returns-10 c =
-    let c8 = c .before .before .before in
+returns-11 c =
+    let c9 = c .before .before .before in
+    let c8 = c9 .before .before .before in
     let c7 = c8 .before .before .before in
     let c6 = c7 .before .before .before in
     let c5 = c6 .before .before .before in
@@ -109,7 +120,7 @@ returns-10 c =
     let c3 = c4 .before .before .before in
     let c2 = c3 .before .before .before in
     let c1 = c2 .before .before .before in
-    entry-as {k = 0} _ (no-mark _ (sym (c .before .is-mark9 .ensures) ∙ c .if9 .left) (sym (c2 .before .is-mark2 .ensures) ∙ c2 .if2 .left) (sym (c5 .before .is-mark5 .ensures) ∙ c5 .if5 .left) (sym (c6 .before .is-mark6 .ensures) ∙ c6 .if6 .left) (sym (c7 .before .is-mark7 .ensures) ∙ c7 .if7 .left) (sym (c8 .before .is-mark8 .ensures) ∙ c8 .if8 .left) (sym (c4 .before .is-mark4 .ensures) ∙ c4 .if4 .left) (sym (c1 .before .is-mark .ensures) ∙ c1 .if1 .left) (sym (c3 .before .is-mark3 .ensures) ∙ c3 .if3 .left))
+    entry-as {k = 0} _ (no-mark _ (sym (c .before .is-mark10 .ensures) ∙ c .if10 .left) (sym (c2 .before .is-mark2 .ensures) ∙ c2 .if2 .left) (sym (c6 .before .is-mark6 .ensures) ∙ c6 .if6 .left) (sym (c7 .before .is-mark7 .ensures) ∙ c7 .if7 .left) (sym (c8 .before .is-mark8 .ensures) ∙ c8 .if8 .left) (sym (c9 .before .is-mark9 .ensures) ∙ c9 .if9 .left) (sym (c4 .before .is-mark4 .ensures) ∙ c4 .if4 .left) (sym (c1 .before .is-mark .ensures) ∙ c1 .if1 .left) (sym (c3 .before .is-mark3 .ensures) ∙ c3 .if3 .left) (sym (c5 .before .is-mark5 .ensures) ∙ c5 .if5 .left))
 
 pub entry-at-spec : {M : Type 1} → statement M
 entry-at-spec =
@@ -128,18 +139,21 @@ entry-at-spec =
     entry-hr-requires
     returns-4
     is-mark-requires-5
-    entry-fu-requires
+    entry-fp-requires
     returns-5
     is-mark-requires-6
-    entry-ad-requires
+    entry-fu-requires
     returns-6
     is-mark-requires-7
-    entry-mm-requires
+    entry-ad-requires
     returns-7
     is-mark-requires-8
-    entry-rq-requires
+    entry-mm-requires
     returns-8
     is-mark-requires-9
-    entry-rs-requires
+    entry-rq-requires
     returns-9
-    returns-10)
+    is-mark-requires-10
+    entry-rs-requires
+    returns-10
+    returns-11)

@@ -53,56 +53,67 @@ returns-5 c = c .read-hr .ensures ∙ reading-as 72 82 7 _ refl refl (c .before 
 is-mark-requires-5 : tie.Need-is-mark-requires-5
 is-mark-requires-5 c κs = search needs
 
-read-fu-requires : tie.Need-read-fu-requires
-read-fu-requires c κs = search needs
+read-fp-requires : tie.Need-read-fp-requires
+read-fp-requires c κs = search needs
 
 returns-6 : tie.Need-returns-6
 unfolding markIn table
-returns-6 c = c .read-fu .ensures ∙ reading-as 70 85 3 _ refl refl (c .before .before .before .before .before .before .before .before .before .before .before .before .before .before .before .before .if1 .left) (sym (c .before .before .is-mark5 .ensures) ∙ c .before .if6 .taken)
+returns-6 c = c .read-fp .ensures ∙ reading-as 70 80 10 _ refl refl (c .before .before .before .before .before .before .before .before .before .before .before .before .before .before .before .before .if1 .left) (sym (c .before .before .is-mark5 .ensures) ∙ c .before .if6 .taken)
 
 is-mark-requires-6 : tie.Need-is-mark-requires-6
 is-mark-requires-6 c κs = search needs
 
-read-ad-requires : tie.Need-read-ad-requires
-read-ad-requires c κs = search needs
+read-fu-requires : tie.Need-read-fu-requires
+read-fu-requires c κs = search needs
 
 returns-7 : tie.Need-returns-7
 unfolding markIn table
-returns-7 c = c .read-ad .ensures ∙ reading-as 65 68 4 _ refl refl (c .before .before .before .before .before .before .before .before .before .before .before .before .before .before .before .before .before .before .before .if1 .left) (sym (c .before .before .is-mark6 .ensures) ∙ c .before .if7 .taken)
+returns-7 c = c .read-fu .ensures ∙ reading-as 70 85 3 _ refl refl (c .before .before .before .before .before .before .before .before .before .before .before .before .before .before .before .before .before .before .before .if1 .left) (sym (c .before .before .is-mark6 .ensures) ∙ c .before .if7 .taken)
 
 is-mark-requires-7 : tie.Need-is-mark-requires-7
 is-mark-requires-7 c κs = search needs
 
-read-mm-requires : tie.Need-read-mm-requires
-read-mm-requires c κs = search needs
+read-ad-requires : tie.Need-read-ad-requires
+read-ad-requires c κs = search needs
 
 returns-8 : tie.Need-returns-8
 unfolding markIn table
-returns-8 c = c .read-mm .ensures ∙ reading-as 77 77 5 _ refl refl (c .before .before .before .before .before .before .before .before .before .before .before .before .before .before .before .before .before .before .before .before .before .before .if1 .left) (sym (c .before .before .is-mark7 .ensures) ∙ c .before .if8 .taken)
+returns-8 c = c .read-ad .ensures ∙ reading-as 65 68 4 _ refl refl (c .before .before .before .before .before .before .before .before .before .before .before .before .before .before .before .before .before .before .before .before .before .before .if1 .left) (sym (c .before .before .is-mark7 .ensures) ∙ c .before .if8 .taken)
 
 is-mark-requires-8 : tie.Need-is-mark-requires-8
 is-mark-requires-8 c κs = search needs
 
-read-rq-requires : tie.Need-read-rq-requires
-read-rq-requires c κs = search needs
+read-mm-requires : tie.Need-read-mm-requires
+read-mm-requires c κs = search needs
 
 returns-9 : tie.Need-returns-9
 unfolding markIn table
-returns-9 c = c .read-rq .ensures ∙ reading-as 82 81 6 _ refl refl (c .before .before .before .before .before .before .before .before .before .before .before .before .before .before .before .before .before .before .before .before .before .before .before .before .before .if1 .left) (sym (c .before .before .is-mark8 .ensures) ∙ c .before .if9 .taken)
+returns-9 c = c .read-mm .ensures ∙ reading-as 77 77 5 _ refl refl (c .before .before .before .before .before .before .before .before .before .before .before .before .before .before .before .before .before .before .before .before .before .before .before .before .before .if1 .left) (sym (c .before .before .is-mark8 .ensures) ∙ c .before .if9 .taken)
 
 is-mark-requires-9 : tie.Need-is-mark-requires-9
 is-mark-requires-9 c κs = search needs
 
-read-rs-requires : tie.Need-read-rs-requires
-read-rs-requires c κs = search needs
+read-rq-requires : tie.Need-read-rq-requires
+read-rq-requires c κs = search needs
 
 returns-10 : tie.Need-returns-10
 unfolding markIn table
-returns-10 c = c .read-rs .ensures ∙ reading-as 82 83 1 _ refl refl (c .before .before .before .before .before .before .before .before .before .before .before .before .before .before .before .before .before .before .before .before .before .before .before .before .before .before .before .before .if1 .left) (sym (c .before .before .is-mark9 .ensures) ∙ c .before .if10 .taken)
+returns-10 c = c .read-rq .ensures ∙ reading-as 82 81 6 _ refl refl (c .before .before .before .before .before .before .before .before .before .before .before .before .before .before .before .before .before .before .before .before .before .before .before .before .before .before .before .before .if1 .left) (sym (c .before .before .is-mark9 .ensures) ∙ c .before .if10 .taken)
+
+is-mark-requires-10 : tie.Need-is-mark-requires-10
+is-mark-requires-10 c κs = search needs
+
+read-rs-requires : tie.Need-read-rs-requires
+read-rs-requires c κs = search needs
 
 returns-11 : tie.Need-returns-11
-returns-11 c =
-    let c8 = c .before .before .before in
+unfolding markIn table
+returns-11 c = c .read-rs .ensures ∙ reading-as 82 83 1 _ refl refl (c .before .before .before .before .before .before .before .before .before .before .before .before .before .before .before .before .before .before .before .before .before .before .before .before .before .before .before .before .before .before .before .if1 .left) (sym (c .before .before .is-mark10 .ensures) ∙ c .before .if11 .taken)
+
+returns-12 : tie.Need-returns-12
+returns-12 c =
+    let c9 = c .before .before .before in
+    let c8 = c9 .before .before .before in
     let c7 = c8 .before .before .before in
     let c6 = c7 .before .before .before in
     let c5 = c6 .before .before .before in
@@ -110,7 +121,7 @@ returns-11 c =
     let c3 = c4 .before .before .before in
     let c2 = c3 .before .before .before in
     let c1 = c2 .before .before .before in
-    reading-unknown _ (c1 .before .before .before .if1 .left) (no-mark _ (sym (c .before .is-mark9 .ensures) ∙ c .if10 .left) (sym (c2 .before .is-mark2 .ensures) ∙ c2 .if3 .left) (sym (c5 .before .is-mark5 .ensures) ∙ c5 .if6 .left) (sym (c6 .before .is-mark6 .ensures) ∙ c6 .if7 .left) (sym (c7 .before .is-mark7 .ensures) ∙ c7 .if8 .left) (sym (c8 .before .is-mark8 .ensures) ∙ c8 .if9 .left) (sym (c4 .before .is-mark4 .ensures) ∙ c4 .if5 .left) (sym (c1 .before .is-mark .ensures) ∙ c1 .if2 .left) (sym (c3 .before .is-mark3 .ensures) ∙ c3 .if4 .left))
+    reading-unknown _ (c1 .before .before .before .if1 .left) (no-mark _ (sym (c .before .is-mark10 .ensures) ∙ c .if11 .left) (sym (c2 .before .is-mark2 .ensures) ∙ c2 .if3 .left) (sym (c6 .before .is-mark6 .ensures) ∙ c6 .if7 .left) (sym (c7 .before .is-mark7 .ensures) ∙ c7 .if8 .left) (sym (c8 .before .is-mark8 .ensures) ∙ c8 .if9 .left) (sym (c9 .before .is-mark9 .ensures) ∙ c9 .if10 .left) (sym (c4 .before .is-mark4 .ensures) ∙ c4 .if5 .left) (sym (c1 .before .is-mark .ensures) ∙ c1 .if2 .left) (sym (c3 .before .is-mark3 .ensures) ∙ c3 .if4 .left) (sym (c5 .before .is-mark5 .ensures) ∙ c5 .if6 .left))
 
 pub read-spec : {M : Type 1} → statement M
 read-spec =
@@ -130,18 +141,21 @@ read-spec =
     read-hr-requires
     returns-5
     is-mark-requires-5
-    read-fu-requires
+    read-fp-requires
     returns-6
     is-mark-requires-6
-    read-ad-requires
+    read-fu-requires
     returns-7
     is-mark-requires-7
-    read-mm-requires
+    read-ad-requires
     returns-8
     is-mark-requires-8
-    read-rq-requires
+    read-mm-requires
     returns-9
     is-mark-requires-9
-    read-rs-requires
+    read-rq-requires
     returns-10
-    returns-11)
+    is-mark-requires-10
+    read-rs-requires
+    returns-11
+    returns-12)
