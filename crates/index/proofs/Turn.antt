@@ -18,8 +18,8 @@ use Rattle.records.specs.Walk.{found}
 use Rattle.records.proofs.Record.{mark-take, size-ge, key-ends, faultless}
 use Rattle.records.proofs.Walk.{found-record, found-within, Rest, next}
 use Rattle.records.proofs.Read.{number-take}
-use Rattle.index.specs.Slots.{slotAt, slot, heldIssue, newer, kept, keepStep}
-use Rattle.index.proofs.Slots.{mark-lt, size-11}
+use Rattle.index.specs.Slots.{slotAt, slot, wide, heldIssue, newer, kept, keepStep}
+use Rattle.index.proofs.Slots.{mark-lt, size-11, in-key, slot-lt}
 
 pub tail : (d : List ℕ) (at : ℕ) → take (length d - at) (drop at d) ≡ drop at d
 tail d at = take-all (length d - at) (drop at d) (simp length-drop (omega arith))
@@ -54,6 +54,9 @@ module _ (s : List ℕ) (k n : ℕ) (e : found s ≡ Record k n) where
   unfolding keyOf slotAt
   its-slot =
       ap₂ slot its-mark (ap (λ (x : ℕ). number 6 (keyWidth x) (take n s)) its-mark ∙ number-take n 6 (keyWidth k) s (omega (arith, key-ends k, ap size (found-record s k n e .0), found-record s k n e .1)))
+
+  slot-below : slotAt k s < wide
+  slot-below = rw (← its-slot) (slot-lt (mark (take n s)) (keyOf (take n s)) (in-key (take n s) its-fault))
 
   step-is : (d ix : List ℕ) (b c : Bool) (p : ℕ) → keepStep d (kept ix b c) p (take n s) ≡ kept (set ix (slotAt k s) (newer (heldIssue d (getD ix (slotAt k s) 0)) (number 2 4 s + 1) (getD ix (slotAt k s) 0) (p + 1))) (b && ltb (heldIssue d (getD ix (slotAt k s) 0)) (number 2 4 s + 1)) (c && ltb (slotAt k s) (length ix))
   unfolding keepStep
@@ -90,3 +93,6 @@ module _ (d ix₀ ix : List ℕ) (at k n : ℕ) (b c : Bool) (h : at < length d)
       let x : b && ltb (heldIssue d (getD ix q 0)) (number 2 4 (drop at d) + 1) ≡ b = rw (v, lt-ltb 0 (number 2 4 (drop at d) + 1) (omega arith)) (and-true b) in
       let y : c && ltb q (length ix) ≡ false = rw (le-ltb q (length ix) m) (and-false c) in
       rw (set-beyond ix q (newer (heldIssue d (getD ix q 0)) (number 2 4 (drop at d) + 1) (getD ix q 0) (at + 1)) m, x, y) at after
+
+pub below : (d : List ℕ) (at k n : ℕ) {j : ℕ} → found (drop at d) ≡ Record k n → j ≡ slotAt k (take (length d - at) (drop at d)) → j < wide
+below d at k n e ej = rw (ej, tail d at) (slot-below (drop at d) k n e)

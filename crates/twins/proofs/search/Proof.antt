@@ -8,7 +8,7 @@ use lib.ListN.{length, drop, take}
 use Rattle.records.specs.declared.Found.the-variants.{Record}
 use Rattle.records.specs.Record.{mark}
 use Rattle.records.specs.Walk.{found}
-use Rattle.index.specs.Slots.{slotAt}
+use Rattle.index.specs.Slots.{slotAt, wide}
 use Rattle.index.proofs.Turn.{bounds, below, long}
 use Rattle.index.specs.declared.Entry.{Entry}
 use Rattle.twins.proofs.Loop.{Known, start, not-short, twin-there, none-there, clean-found, finish}
@@ -52,7 +52,7 @@ its-slot c = ap (λ (s : Entry). s .slot) (c .entry-at .ensures)
 its-found : (c : Turn) → found (drop (at-of c) (d-of c)) ≡ Record (mark (rest-of c)) (len-of c)
 its-found c = clean-found (d-of c) (at-of c) (In c .loop-test .taken) (At c .loop .inv .4) refl (ap (λ (s : Entry). s .len) (c .entry-at .ensures))
 
-slot-fits : (c : Turn) → c .entry-at .result .slot < 2350
+slot-fits : (c : Turn) → c .entry-at .result .slot < wide
 slot-fits c = below (d-of c) (at-of c) _ _ (its-found c) (its-slot c)
 
 -- it is within the dossier, and there is room for it
