@@ -11,13 +11,14 @@ use Rattle.lists.specs.Tests.{everyOf}
 use Rattle.lists.proofs.Tests.{everyOf-at}
 use Rattle.fields.specs.Numbers.{number}
 use Rattle.fields.proofs.Numbers.{number-join}
-use Rattle.records.specs.Table.{Row, table, noRow, rowOf}
+use Rattle.records.specs.Table.{Row, table, noRow, rowOf, kinds}
 use Rattle.records.specs.declared.Answer.{Answer}
 use Rattle.records.specs.declared.Answer.the-variants.{Accepted, Refused}
 use Rattle.records.specs.Record.{mark, keyIn, keyWidth}
 use Rattle.records.specs.Answers.{isAccepted}
 use Rattle.records.specs.Dossier.{records}
 use Rattle.station.specs.Current.{current, readable, lookup, lookupBytes}
+use Rattle.index.specs.Slots.{wide}
 use Rattle.lookup.specs.declared.Part.{Part}
 use Rattle.lookup.specs.Parts.{part, bytesOf, currentPart, lookupPart, indexOf}
 use Rattle.lookup.proofs.Parts.{current-bytes, current-ends}
@@ -42,7 +43,7 @@ width-le k = leb-true (keyWidth k) 3 (everyOf-at (λ (x : Row). leb (keyIn (x .f
 
 -- ---- the lookup by start and length
 
-module _ (d : List ℕ) (k n : ℕ) (b : k < 10) where
+module _ (d : List ℕ) (k n : ℕ) (b : k < kinds) where
   by-answer : (P : Part → List ℕ → Type 0) → (Accepted ≡ readable d → P (currentPart k n (records d)) (current k n (records d))) → P (part 0 0) [] → P (lookupPart d k n) (lookup d k n)
   unfolding lookupPart lookup
   by-answer P p q = go (readable d) refl
@@ -53,10 +54,10 @@ module _ (d : List ℕ) (k n : ℕ) (b : k < 10) where
 
   -- its bytes are the part that the lookup hands back
   pub lookup-bytes : bytesOf d (lookupPart d k n) ≡ lookup d k n
-  lookup-bytes = by-answer (λ p l. bytesOf d p ≡ l) (λ e. current-bytes d (indexOf d) (accepted-indexed d e) k n b) (unfold bytesOf in refl)
+  lookup-bytes = by-answer (λ p l. bytesOf d p ≡ l) (λ e. let a = accepted-indexed d e in current-bytes d (indexOf wide d) (a .0) k n b (λ z. a .1)) (unfold bytesOf in refl)
 
   pub lookup-ends : {p : Part} → p ≡ lookupPart d k n → p .start + p .length ≤ length d
-  lookup-ends q = rw q (by-answer (λ p l. p .start + p .length ≤ length d) (λ e. current-ends d (indexOf d) (accepted-indexed d e) k n b refl) (omega arith))
+  lookup-ends q = rw q (by-answer (λ p l. p .start + p .length ≤ length d) (λ e. let a = accepted-indexed d e in current-ends d (indexOf wide d) (a .0) k n b (λ z. a .1) refl) (omega arith))
 
 pub part-accepted : (d : List ℕ) (k n : ℕ) → Accepted ≡ readable d → currentPart k n (records d) ≡ lookupPart d k n
 unfolding lookupPart isAccepted
@@ -68,7 +69,7 @@ part-refused d k n m p e = rw (← e) refl
 
 -- ---- by the bytes of mark and key
 
-pub looked : (d m key : List ℕ) {k n : ℕ} {p : Part} {l : List ℕ} → k < 10 → l ≡ bytesOf d p → p ≡ lookupPart d k n → k ≡ mark m → n ≡ number 0 (length key) key → length m ≡ 2 → length key ≡ keyWidth k → l ≡ lookupBytes d m key
+pub looked : (d m key : List ℕ) {k n : ℕ} {p : Part} {l : List ℕ} → k < kinds → l ≡ bytesOf d p → p ≡ lookupPart d k n → k ≡ mark m → n ≡ number 0 (length key) key → length m ≡ 2 → length key ≡ keyWidth k → l ≡ lookupBytes d m key
 unfolding lookupBytes
 looked d m key {k} {n} b e q g i t w =
     e ∙ ap (bytesOf d) q ∙ lookup-bytes d k n b ∙ rw (eq-eqb (length m) 2 t, eq-eqb (length key) (keyWidth (mark m)) (w ∙ ap keyWidth g), g, i) refl

@@ -18,9 +18,9 @@ use Rattle.records.proofs.Walk.{walk-is-fold, outcome}
 use Rattle.station.specs.Current.{readable, twins}
 use Rattle.index.specs.declared.Passed.{Passed}
 use Rattle.index.specs.declared.Passed.the-variants.{Ended, Stopped}
-use Rattle.index.specs.Slots.{Kept, kept, keepStep, passOf, slotsOf}
-use Rattle.index.proofs.Holds.{rising-twins}
-use Rattle.lookup.specs.Parts.{scanned, indexOf, Indexed}
+use Rattle.index.specs.Slots.{narrow, wide, Kept, kept, fresh, keepStep, passOf, slotsOf}
+use Rattle.index.proofs.Holds.{rising-twins, complete-slots, folded-length}
+use Rattle.lookup.specs.Parts.{scanned, indexOf, Indexed, Complete}
 
 too-long : (d : List ℕ) → 60000 < length d → Refused 13 0 ≡ readable d
 unfolding readable refuseIf orElse
@@ -36,80 +36,92 @@ clean-answer d h e = after d h ∙ rw e refl
 
 -- ---- what the scan says
 
-abbrev none : List ℕ
-none = replicate 2350 0
+pub not-ended : {n p : ℕ} {b c : Bool} → Stopped n p ≡ Ended b c → ⊥
+not-ended e = let z : _≡_ {A = ℕ} 0 1 = ap (λ x. elim x [ Ended a b ↦ 1 | Stopped i j ↦ 0 ]) e in omega arith
 
-pub not-ended : {n p : ℕ} {b : Bool} → Stopped n p ≡ Ended b → ⊥
-not-ended e = let z : _≡_ {A = ℕ} 0 1 = ap (λ x. elim x [ Ended c ↦ 1 | Stopped i j ↦ 0 ]) e in omega arith
-
-module _ (d : List ℕ) where
-  pub scan-long : 60000 < length d → Stopped 13 0 ≡ scanned d
+module _ (d : List ℕ) (w : ℕ) where
+  pub scan-long : 60000 < length d → Stopped 13 0 ≡ scanned w d
   unfolding scanned
   scan-long h = rw (lt-ltb 60000 (length d) h) refl
 
-  scan-pass : length d ≤ 60000 → scanned d ≡ passOf (walk (keepStep d) (kept none true) d)
+  scan-pass : length d ≤ 60000 → scanned w d ≡ passOf (walk (keepStep d) (fresh w) d)
   unfolding scanned
   scan-pass h = rw (le-ltb 60000 (length d) h) refl
 
-  pub scan-short : {ix : List ℕ} {r : Passed} → ix ≡ none → length d ≤ 60000 → r ≡ passOf (walk (keepStep d) (kept ix true) d) → r ≡ scanned d
+  pub scan-short : {ix : List ℕ} {r : Passed} → ix ≡ replicate w 0 → length d ≤ 60000 → r ≡ passOf (walk (keepStep d) (kept ix true true) d) → r ≡ scanned w d
   scan-short z h e = e ∙ rw z (sym (scan-pass h))
 
   fold : Kept
-  fold = folded (keepStep d) 0 (kept none true) (records d)
+  fold = folded (keepStep d) 0 (fresh w) (records d)
 
-  way : (a : Answer) → scan 0 (records d) ≡ a → walk (keepStep d) (kept none true) d ≡ outcome a fold
+  way : (a : Answer) → scan 0 (records d) ≡ a → walk (keepStep d) (fresh w) d ≡ outcome a fold
   unfolding fold
-  way a e = walk-is-fold (keepStep d) (kept none true) d ∙ ap (λ (x : Answer). outcome x (folded (keepStep d) 0 (kept none true) (records d))) e
+  way a e = walk-is-fold (keepStep d) (fresh w) d ∙ ap (λ (x : Answer). outcome x (folded (keepStep d) 0 (fresh w) (records d))) e
 
   -- the pass ended: nothing was drawn
-  pass-ended : {b : Bool} → Ended b ≡ passOf (walk (keepStep d) (kept none true) d) → (scan 0 (records d) ≡ Accepted) × (b ≡ fold .rising)
+  pass-ended : {b c : Bool} → Ended b c ≡ passOf (walk (keepStep d) (fresh w) d) → (scan 0 (records d) ≡ Accepted) × (b ≡ fold .rising) × (c ≡ fold .complete)
   unfolding passOf outcome
-  pass-ended {b} e = go (scan 0 (records d)) refl
+  pass-ended {b} {c} e = go (scan 0 (records d)) refl
     where
-      go : (a : Answer) → scan 0 (records d) ≡ a → (scan 0 (records d) ≡ Accepted) × (b ≡ fold .rising)
-      go Accepted s = (s, ap (λ x. elim x [ Ended c ↦ c | Stopped i j ↦ b ]) (e ∙ ap passOf (way Accepted s)))
-      go (Refused m q) s = absurd (let z : _≡_ {A = ℕ} 1 0 = ap (λ x. elim x [ Ended c ↦ 1 | Stopped i j ↦ 0 ]) (e ∙ ap passOf (way (Refused m q) s)) in omega arith)
+      go : (a : Answer) → scan 0 (records d) ≡ a → (scan 0 (records d) ≡ Accepted) × (b ≡ fold .rising) × (c ≡ fold .complete)
+      go Accepted s =
+          let z = e ∙ ap passOf (way Accepted s) in
+          (s, ap (λ x. elim x [ Ended u v ↦ u | Stopped i j ↦ b ]) z, ap (λ x. elim x [ Ended u v ↦ v | Stopped i j ↦ c ]) z)
+      go (Refused m q) s = absurd (let z : _≡_ {A = ℕ} 1 0 = ap (λ x. elim x [ Ended u v ↦ 1 | Stopped i j ↦ 0 ]) (e ∙ ap passOf (way (Refused m q) s)) in omega arith)
 
   -- the pass stopped: at what is drawn first
-  pass-stopped : (n p : ℕ) → length d ≤ 60000 → Stopped n p ≡ passOf (walk (keepStep d) (kept none true) d) → Refused n p ≡ readable d
+  pass-stopped : (n p : ℕ) → length d ≤ 60000 → Stopped n p ≡ passOf (walk (keepStep d) (fresh w) d) → Refused n p ≡ readable d
   unfolding passOf outcome orElse
   pass-stopped n p h e = go (scan 0 (records d)) refl
     where
       go : (a : Answer) → scan 0 (records d) ≡ a → Refused n p ≡ readable d
-      go Accepted s = absurd (let z : _≡_ {A = ℕ} 0 1 = ap (λ x. elim x [ Ended b ↦ 1 | Stopped i j ↦ 0 ]) (e ∙ ap passOf (way Accepted s)) in omega arith)
+      go Accepted s = absurd (let z : _≡_ {A = ℕ} 0 1 = ap (λ x. elim x [ Ended u v ↦ 1 | Stopped i j ↦ 0 ]) (e ∙ ap passOf (way Accepted s)) in omega arith)
       go (Refused m q) s =
           let z : Stopped n p ≡ Stopped m q = e ∙ ap passOf (way (Refused m q) s) in
-          ap₂ (λ (x y : ℕ). Refused x y) (ap (λ x. elim x [ Ended b ↦ n | Stopped i j ↦ i ]) z) (ap (λ x. elim x [ Ended b ↦ p | Stopped i j ↦ j ]) z) ∙ sym (after d h ∙ rw s refl)
+          ap₂ (λ (x y : ℕ). Refused x y) (ap (λ x. elim x [ Ended u v ↦ n | Stopped i j ↦ i ]) z) (ap (λ x. elim x [ Ended u v ↦ p | Stopped i j ↦ j ]) z) ∙ sym (after d h ∙ rw s refl)
 
   -- the index that the pass leaves
-  pub pass-indexed : {ix x : List ℕ} {b : Bool} → ix ≡ none → length d ≤ 60000 → Ended b ≡ passOf (walk (keepStep d) (kept ix true) d) → x ≡ slotsOf x (walk (keepStep d) (kept ix true) d) → Indexed d x
+  pub pass-indexed : {ix x : List ℕ} {b c : Bool} → ix ≡ replicate w 0 → narrow ≤ w → length d ≤ 60000 → Ended b c ≡ passOf (walk (keepStep d) (kept ix true true) d) → x ≡ slotsOf x (walk (keepStep d) (kept ix true true) d) → Indexed d x × (c ≡ true → Complete d x)
   unfolding slotsOf outcome indexOf fold
-  pass-indexed {x = x} z h e i =
-      let s = pass-ended (rw z at e) .0 in
-      record { short = h; clean = s; here = (rw z at i) ∙ ap (slotsOf x) (way Accepted s) }
+  pass-indexed {x = x} {c = c} z r h e i =
+      let p = pass-ended (rw z at e) in
+      let f : x ≡ fold .slots = (rw z at i) ∙ ap (slotsOf x) (way Accepted (p .0)) in
+      let n : length x ≡ w = ap length f ∙ folded-length d 0 (fresh w) (records d) ∙ length-replicate {A = ℕ} w 0 in (
+        record { short = h; clean = p .0; roomy = omega (arith, r, n); here = f ∙ ap (λ (v : ℕ). folded (keepStep d) 0 (fresh v) (records d) .slots) (sym n) },
+        λ q. rw (n ∙ sym (length-replicate {A = ℕ} w 0)) (complete-slots d 0 (fresh w) (records d) (sym (p .2) ∙ q)),
+      )
 
   -- ---- from the scan to the answer
 
-  pub scan-stopped : {n p : ℕ} → Stopped n p ≡ scanned d → Refused n p ≡ readable d
+  pub scan-stopped : {n p : ℕ} → Stopped n p ≡ scanned w d → Refused n p ≡ readable d
   unfolding scanned
   scan-stopped {n} {p} e =
       split (ltb 60000 (length d))
       (λ t.
       let z : Stopped n p ≡ Stopped 13 0 = e ∙ rw t refl in
-      ap₂ (λ (x y : ℕ). Refused x y) (ap (λ x. elim x [ Ended b ↦ n | Stopped i j ↦ i ]) z) (ap (λ x. elim x [ Ended b ↦ p | Stopped i j ↦ j ]) z) ∙ too-long d (ltb-true 60000 (length d) t))
+      ap₂ (λ (x y : ℕ). Refused x y) (ap (λ x. elim x [ Ended u v ↦ n | Stopped i j ↦ i ]) z) (ap (λ x. elim x [ Ended u v ↦ p | Stopped i j ↦ j ]) z) ∙ too-long d (ltb-true 60000 (length d) t))
       (λ f. pass-stopped n p (ltb-false 60000 (length d) f) (e ∙ rw f refl))
 
-  pub scan-rising : Ended true ≡ scanned d → {x : List ℕ} → Indexed d x → Accepted ≡ readable d
+  pub scan-rising : Ended true true ≡ scanned w d → {x : List ℕ} → Indexed d x → Accepted ≡ readable d
   unfolding fold
   scan-rising e h =
-      sym (clean-answer d (h .short) (h .clean) ∙ rising-twins d none (h .clean) (length-replicate {A = ℕ} 2350 0) (sym (pass-ended (e ∙ scan-pass (h .short)) .1)))
+      let p = pass-ended (e ∙ scan-pass (h .short)) in
+      sym (clean-answer d (h .short) (h .clean) ∙ rising-twins d (replicate w 0) (h .clean) (sym (p .2)) (sym (p .1)))
 
-  pub scan-twins : {x : List ℕ} → Indexed d x → readable d ≡ twins 0 [] (records d)
-  scan-twins h = clean-answer d (h .short) (h .clean)
+pub scan-twins : (d : List ℕ) {x : List ℕ} → Indexed d x → readable d ≡ twins 0 [] (records d)
+scan-twins d h = clean-answer d (h .short) (h .clean)
 
 -- a dossier that draws none of 13 and 1 to 4 has its index
-pub accepted-indexed : (d : List ℕ) → Accepted ≡ readable d → Indexed d (indexOf d)
-unfolding readable
+pub accepted-indexed : (d : List ℕ) → Accepted ≡ readable d → Indexed d (indexOf wide d) × (wide ≤ length (indexOf wide d))
+unfolding readable indexOf
 accepted-indexed d e =
     let a = orElse-parts (refuseIf (ltb 60000 (length d)) 13 0) (orElse (scan 0 (records d)) (twins 0 [] (records d))) (sym e) in
-    record { short = ltb-false 60000 (length d) (not-refuseIf (ltb 60000 (length d)) 13 0 (a .0)); clean = orElse-parts (scan 0 (records d)) (twins 0 [] (records d)) (a .1) .0; here = refl }
+    let n : length (folded (keepStep d) 0 (fresh wide) (records d) .slots) ≡ wide = folded-length d 0 (fresh wide) (records d) ∙ length-replicate {A = ℕ} wide 0 in (
+      record {
+        short = ltb-false 60000 (length d) (not-refuseIf (ltb 60000 (length d)) 13 0 (a .0));
+        clean = orElse-parts (scan 0 (records d)) (twins 0 [] (records d)) (a .1) .0;
+        roomy = omega (arith, n);
+        here = ap (λ (v : ℕ). folded (keepStep d) 0 (fresh v) (records d) .slots) (sym n);
+      },
+      omega (arith, n),
+    )

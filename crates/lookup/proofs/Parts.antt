@@ -6,22 +6,22 @@ use Prim.Native.Nat.{ℕ, zero, suc, _+_, _-_, _*_, _/_, _%_, _≤_, _<_}
 use native.Mathlib.Nat.{add-sub-cancel-left}
 use native.Mathlib.Omega.{arith}
 use lib.Dec.{ltb, eqb, lit<, lit≤}
-use lib.ListN.{length, getD, take, drop, replicate, length-replicate, getD-replicate, List·getD-eq-default}
+use lib.ListN.{length, getD, take, drop}
 use borrow.Author.Tests.{ne-eqb, le-ltb, ltb-true, ltb-false}
 use Rattle.lists.specs.Lists.{Each, done, also}
 use Rattle.lists.proofs.Lists.{each-map}
 use Rattle.lists.proofs.Tests.{split, or-false-right}
-use Rattle.records.specs.Table.{table, rowOf}
-use Rattle.records.specs.Record.{mark, size, widths}
+use Rattle.records.specs.Table.{table, rowOf, FP, kinds}
+use Rattle.records.specs.Record.{mark, size, keyOf, widths}
 use Rattle.records.specs.Shapes.{shape, shapeOf, keyTest}
 use Rattle.records.specs.Dossier.{records}
 use Rattle.station.specs.Current.{matches, better, currentFrom, current, startFrom, startOf}
 use Rattle.station.proofs.Current.{matches-mark, matches-key}
-use Rattle.index.specs.Slots.{slot, kept}
-use Rattle.index.proofs.Slots.{Spans, InKey, at-mark, in-key, key-test, test-key, slot-lt}
-use Rattle.index.proofs.Holds.{Holds, absent, there, Good, good-records, index-holds, folded-length}
+use Rattle.index.specs.Slots.{slot, wide}
+use Rattle.index.proofs.Slots.{Spans, InKey, at-mark, in-key, key-test, test-key, slot-lt, slot-narrow}
+use Rattle.index.proofs.Holds.{Holds, absent, there, Good, good-records, index-holds}
 use Rattle.lookup.specs.declared.Part.{Part}
-use Rattle.lookup.specs.Parts.{part, bytesOf, currentPart, indexOf, placeAt, partAt, Indexed}
+use Rattle.lookup.specs.Parts.{part, bytesOf, currentPart, indexOf, placeAt, partAt, Indexed, Complete, Covers}
 
 -- ---- a part within the dossier
 
@@ -61,33 +61,20 @@ module _ (len : ℕ) (d : List ℕ) (v : ℕ) (c : List ℕ) (q : ℕ) where
   held-ends (absent e z y) = omega (arith, y, ap length z)
   held-ends (there e w l g) = w
 
-abbrev none : List ℕ
-none = replicate 2350 0
-
-all-zero : (j : ℕ) → getD none j 0 ≡ 0
-all-zero j = split (ltb j 2350) (λ e. getD-replicate 2350 j 0 0 (ltb-true j 2350 e)) (λ e. List·getD-eq-default none 0 {n = j} (omega (arith, length-replicate {A = ℕ} 2350 0, ltb-false j 2350 e)))
-
-pub index-length : (d ix : List ℕ) → Indexed d ix → length ix ≡ 2350
-unfolding indexOf
-index-length d ix h = ap length (h .here) ∙ folded-length d 0 (kept none true) (records d) ∙ length-replicate {A = ℕ} 2350 0
-
 module _ (d ix : List ℕ) (h : Indexed d ix) where
-  -- ---- a key: at its slot stands the current record
+  -- ---- a key with a slot in the index: there stands the current record
 
-  module _ (k n : ℕ) (i : InKey k n) where
+  module _ (k n : ℕ) (i : InKey k n) (fit : slot k n < length ix) where
     holds : Holds (size k) d (length d) (getD ix (slot k n) 0) (current k n (records d)) (startOf k n (records d))
     unfolding indexOf
     holds =
-        rw (h .here)
-        (index-holds d none (h .clean) (length-replicate {A = ℕ} 2350 0) all-zero k n i)
+        subst (λ (x : List ℕ). Holds (size k) d (length d) (getD x (slot k n) 0) (current k n (records d)) (startOf k n (records d))) (sym (h .here))
+        (index-holds d (length ix) (h .clean) k n i fit)
 
     pub place-current : {j len : ℕ} → j ≡ slot k n → len ≡ size k → placeAt (length d) ix j len ≡ currentPart k n (records d)
     unfolding currentPart
     place-current a b =
         rw (a, b) (held-place (size k) d (getD ix (slot k n) 0) (current k n (records d)) (startOf k n (records d)) ix (slot k n) refl (h .short) holds)
-
-    pub slot-within : {j : ℕ} → j ≡ slot k n → j < length ix
-    slot-within a = omega (arith, a, index-length d ix h, slot-lt k n i)
 
     pub part-current : {j len : ℕ} → j ≡ slot k n → len ≡ size k → partAt d ix j len ≡ current k n (records d)
     unfolding partAt currentPart
@@ -96,12 +83,27 @@ module _ (d ix : List ℕ) (h : Indexed d ix) where
     pub current-none : getD ix (slot k n) 0 ≡ 0 → current k n (records d) ≡ []
     current-none e = sym (part-current refl refl) ∙ part-none d ix (slot k n) (size k) e
 
+  -- every mark but FP has its slots in it
+  pub fits : (k n : ℕ) → InKey k n → k < FP → slot k n < length ix
+  fits k n i b = omega (arith, h .roomy, slot-narrow k n i b)
+
+  module _ (k n : ℕ) (b : k < FP) (i : InKey k n) where
+    pub slot-fits : {j : ℕ} → j ≡ slot k n → j < length ix
+    slot-fits a = rw a (fits k n i b)
+
+    pub part-found : {j len : ℕ} → j ≡ slot k n → len ≡ size k → partAt d ix j len ≡ current k n (records d)
+    part-found = part-current k n i (fits k n i b)
+
+  -- and FP, if it is covered
+  pub covered : (k n : ℕ) → InKey k n → Covers k ix → slot k n < length ix
+  covered k n i c =
+      split (ltb k FP)
+      (λ t. fits k n i (ltb-true k FP t))
+      (λ f. omega (arith, slot-lt k n i, c (omega (arith, ltb-false k FP f, i .low))))
+
   -- ---- no key: a clean dossier has no such record
 
-  module _ (k n : ℕ) (f : keyTest k n ≡ false) where
-    unmatched : {l : List (List ℕ)} → Each Good l → Each (λ r. matches k n r ≡ false) l
-    unmatched = each-map (λ r g. split (matches k n r) (λ m. absurd (true≢false (sym (key-test k n (subst (λ (x : ℕ). InKey x n) (matches-mark k n r m) (subst (λ (x : ℕ). InKey (mark r) x) (matches-key k n r m) (in-key r (g .0))))) ∙ f))) (λ m. m))
-
+  module _ (k n : ℕ) where
     none-current : (c : List ℕ) {l : List (List ℕ)} → Each (λ r. matches k n r ≡ false) l → currentFrom k n c l ≡ c
     unfolding currentFrom better
     none-current c done = refl
@@ -112,42 +114,61 @@ module _ (d ix : List ℕ) (h : Indexed d ix) where
     none-start c q p done = refl
     none-start c q p (also {a = r} m e) = rw m (none-start c q (p + length r) e)
 
+  module _ (k n : ℕ) (f : keyTest k n ≡ false) where
+    unmatched : {l : List (List ℕ)} → Each Good l → Each (λ r. matches k n r ≡ false) l
+    unmatched = each-map (λ r g. split (matches k n r) (λ m. absurd (true≢false (sym (key-test k n (subst (λ (x : ℕ). InKey x n) (matches-mark k n r m) (subst (λ (x : ℕ). InKey (mark r) x) (matches-key k n r m) (in-key r (g .0))))) ∙ f))) (λ m. m))
+
     pub no-key : part 0 0 ≡ currentPart k n (records d)
     unfolding currentPart current startOf
     no-key =
         let e = unmatched (good-records d (h .clean)) in
-        sym (ap₂ part (none-start [] 0 0 e) (ap length (none-current [] e)))
+        sym (ap₂ part (none-start k n [] 0 0 e) (ap length (none-current k n [] e)))
 
     no-bytes : [] ≡ current k n (records d)
     unfolding current
-    no-bytes = sym (none-current [] (unmatched (good-records d (h .clean))))
+    no-bytes = sym (none-current k n [] (unmatched (good-records d (h .clean))))
+
+  -- a key without a slot in a complete index: no record has it
+  pub beyond-index : Complete d ix → (k n : ℕ) → length ix ≤ slot k n → current k n (records d) ≡ []
+  unfolding current
+  beyond-index c k n b =
+      none-current k n []
+      (each-map (λ r x. split (matches k n r) (λ m. absurd (omega (arith, b, x, ap₂ slot (matches-mark k n r m) (matches-key k n r m)))) (λ m. m)) c)
 
   -- ---- of every number
 
-  pub current-bytes : (k n : ℕ) → k < 10 → bytesOf d (currentPart k n (records d)) ≡ current k n (records d)
-  unfolding bytesOf currentPart
-  current-bytes k n b =
-      split (keyTest k n)
-      (λ t. held-bytes (size k) d (getD ix (slot k n) 0) (current k n (records d)) (startOf k n (records d)) (holds k n (test-key k n b t)))
-      (λ f. ap (bytesOf d) (sym (no-key k n f)) ∙ no-bytes k n f)
+  module _ (k n : ℕ) (b : k < kinds) (c : Covers k ix) where
+    at-key : keyTest k n ≡ true → Holds (size k) d (length d) (getD ix (slot k n) 0) (current k n (records d)) (startOf k n (records d))
+    at-key t = let i = test-key k n b t in holds k n i (covered k n i c)
 
-  pub current-ends : (k n : ℕ) → k < 10 → {p : Part} → p ≡ currentPart k n (records d) → p .start + p .length ≤ length d
-  unfolding currentPart
-  current-ends k n b e =
-      rw e
-      (split (keyTest k n)
-      (λ t. held-ends (size k) d (getD ix (slot k n) 0) (current k n (records d)) (startOf k n (records d)) (holds k n (test-key k n b t)))
-      (λ f. omega (arith, ap (λ (p : Part). p .start) (no-key k n f), ap (λ (p : Part). p .length) (no-key k n f))))
+    pub current-bytes : bytesOf d (currentPart k n (records d)) ≡ current k n (records d)
+    unfolding bytesOf currentPart
+    current-bytes =
+        split (keyTest k n)
+        (λ t. held-bytes (size k) d (getD ix (slot k n) 0) (current k n (records d)) (startOf k n (records d)) (at-key t))
+        (λ f. ap (bytesOf d) (sym (no-key k n f)) ∙ no-bytes k n f)
+
+    pub current-ends : {p : Part} → p ≡ currentPart k n (records d) → p .start + p .length ≤ length d
+    unfolding currentPart
+    current-ends e =
+        rw e
+        (split (keyTest k n)
+        (λ t. held-ends (size k) d (getD ix (slot k n) 0) (current k n (records d)) (startOf k n (records d)) (at-key t))
+        (λ f. omega (arith, ap (λ (p : Part). p .start) (no-key k n f), ap (λ (p : Part). p .length) (no-key k n f))))
+
+-- every record has a slot in an index of all slots
+pub wide-complete : (d ix : List ℕ) → Indexed d ix → wide ≤ length ix → Complete d ix
+wide-complete d ix h w = each-map (λ r g. omega (arith, w, slot-lt (mark r) (keyOf r) (in-key r (g .0)))) (good-records d (h .clean))
 
 -- ---- keys and sizes fit
 
 pub key-small : (k n : ℕ) → InKey k n → n < 16777216
 unfolding Spans shapeOf shape rowOf table
-key-small k n p = at-mark (λ j. InKey j n → n < 16777216) k n p (λ q. omega (arith, q .spans)) (λ q. omega (arith, q .spans)) (λ q. omega (arith, q .spans)) (λ q. omega (arith, q .spans)) (λ q. omega (arith, q .spans)) (λ q. omega (arith, q .spans)) (λ q. omega (arith, q .spans)) (λ q. omega (arith, q .spans)) (λ q. omega (arith, q .spans)) p
+key-small k n p = at-mark (λ j. InKey j n → n < 16777216) k n p (λ q. omega (arith, q .spans)) (λ q. omega (arith, q .spans)) (λ q. omega (arith, q .spans)) (λ q. omega (arith, q .spans)) (λ q. omega (arith, q .spans)) (λ q. omega (arith, q .spans)) (λ q. omega (arith, q .spans)) (λ q. omega (arith, q .spans)) (λ q. omega (arith, q .spans)) (λ q. omega (arith, q .spans)) p
 
 pub size-small : (k n : ℕ) → InKey k n → size k < 65536
 unfolding size widths rowOf table
-size-small k n p = at-mark (λ j. size j < 65536) k n p (lit< tt) (lit< tt) (lit< tt) (lit< tt) (lit< tt) (lit< tt) (lit< tt) (lit< tt) (lit< tt)
+size-small k n p = at-mark (λ j. size j < 65536) k n p (lit< tt) (lit< tt) (lit< tt) (lit< tt) (lit< tt) (lit< tt) (lit< tt) (lit< tt) (lit< tt) (lit< tt)
 
 -- ---- keys by their fields
 
@@ -158,11 +179,11 @@ module _ (k : ℕ) where
   abbrev high : ℕ → ℕ
   high i = getD (shapeOf k .highest) i 0
 
-  pub one-field : (n : ℕ) → 1 ≤ k → k < 10 → eqb (high 1) 0 ≡ true → low 0 ≤ n → n ≤ high 0 → InKey k n
+  pub one-field : (n : ℕ) → 1 ≤ k → k < kinds → eqb (high 1) 0 ≡ true → low 0 ≤ n → n ≤ high 0 → InKey k n
   unfolding Spans
   one-field n a b e p q = record { known = a; low = b; spans = rw e (p, q) }
 
-  pub two-field : (x y : ℕ) → 1 ≤ k → k < 10 → eqb (high 1) 0 ≡ false → eqb (high 2) 0 ≡ true → low 0 ≤ x → x ≤ high 0 → low 1 ≤ y → y ≤ high 1 → high 1 < 256 → InKey k (x * 256 + y)
+  pub two-field : (x y : ℕ) → 1 ≤ k → k < kinds → eqb (high 1) 0 ≡ false → eqb (high 2) 0 ≡ true → low 0 ≤ x → x ≤ high 0 → low 1 ≤ y → y ≤ high 1 → high 1 < 256 → InKey k (x * 256 + y)
   unfolding Spans
   two-field x y a b e f p q r s t =
       let i : (x * 256 + y) / 256 ≡ x = omega arith in
@@ -182,21 +203,26 @@ pub interval-key : (n : ℕ) → 1 ≤ n → n ≤ 2016 → InKey 8 n
 unfolding shapeOf shape rowOf table
 interval-key n a b = one-field 8 n (lit≤ tt) (lit< tt) refl a b
 
+pub place-key : (n : ℕ) → 1 ≤ n → n ≤ 4000 → InKey FP n
+unfolding shapeOf shape rowOf table
+place-key n a b = one-field FP n (lit≤ tt) (lit< tt) refl a b
+
 -- ---- the slot by kind
 
 pub slot-kind : {k j n m r : ℕ} → r ≡ slot k m → m ≡ n → j ≡ k → r ≡ slot j n
 slot-kind e f g = e ∙ ap₂ slot (sym g) f
 
-pub slot-none : (k n : ℕ) → k < 10 → (k ≡ 2 → ⊥) → (k ≡ 3 → ⊥) → (k ≡ 4 → ⊥) → (k ≡ 5 → ⊥) → (k ≡ 6 → ⊥) → (k ≡ 7 → ⊥) → (k ≡ 8 → ⊥) → (k ≡ 9 → ⊥) → 0 ≡ slot k n
+pub slot-none : (k n : ℕ) → k < kinds → (k ≡ 2 → ⊥) → (k ≡ 3 → ⊥) → (k ≡ 4 → ⊥) → (k ≡ 5 → ⊥) → (k ≡ 6 → ⊥) → (k ≡ 7 → ⊥) → (k ≡ 8 → ⊥) → (k ≡ 9 → ⊥) → (k ≡ 10 → ⊥) → 0 ≡ slot k n
 unfolding slot
-slot-none zero n l a b c d e f g h = refl
-slot-none (suc zero) n l a b c d e f g h = refl
-slot-none (suc (suc zero)) n l a b c d e f g h = absurd (a refl)
-slot-none (suc (suc (suc zero))) n l a b c d e f g h = absurd (b refl)
-slot-none (suc (suc (suc (suc zero)))) n l a b c d e f g h = absurd (c refl)
-slot-none (suc (suc (suc (suc (suc zero))))) n l a b c d e f g h = absurd (d refl)
-slot-none (suc (suc (suc (suc (suc (suc zero)))))) n l a b c d e f g h = absurd (e refl)
-slot-none (suc (suc (suc (suc (suc (suc (suc zero))))))) n l a b c d e f g h = absurd (f refl)
-slot-none (suc (suc (suc (suc (suc (suc (suc (suc zero)))))))) n l a b c d e f g h = absurd (g refl)
-slot-none (suc (suc (suc (suc (suc (suc (suc (suc (suc zero))))))))) n l a b c d e f g h = absurd (h refl)
-slot-none (suc (suc (suc (suc (suc (suc (suc (suc (suc (suc k)))))))))) n l a b c d e f g h = absurd (omega arith)
+slot-none zero n l a b c d e f g h i = refl
+slot-none (suc zero) n l a b c d e f g h i = refl
+slot-none (suc (suc zero)) n l a b c d e f g h i = absurd (a refl)
+slot-none (suc (suc (suc zero))) n l a b c d e f g h i = absurd (b refl)
+slot-none (suc (suc (suc (suc zero)))) n l a b c d e f g h i = absurd (c refl)
+slot-none (suc (suc (suc (suc (suc zero))))) n l a b c d e f g h i = absurd (d refl)
+slot-none (suc (suc (suc (suc (suc (suc zero)))))) n l a b c d e f g h i = absurd (e refl)
+slot-none (suc (suc (suc (suc (suc (suc (suc zero))))))) n l a b c d e f g h i = absurd (f refl)
+slot-none (suc (suc (suc (suc (suc (suc (suc (suc zero)))))))) n l a b c d e f g h i = absurd (g refl)
+slot-none (suc (suc (suc (suc (suc (suc (suc (suc (suc zero))))))))) n l a b c d e f g h i = absurd (h refl)
+slot-none (suc (suc (suc (suc (suc (suc (suc (suc (suc (suc zero)))))))))) n l a b c d e f g h i = absurd (i refl)
+slot-none (suc (suc (suc (suc (suc (suc (suc (suc (suc (suc (suc k))))))))))) n l a b c d e f g h i = absurd (omega arith)

@@ -1,18 +1,21 @@
 -- The current records through the index, and where they lie in the dossier.
-use mathlib.Core.Bool.{true, cond, _||_}
+use mathlib.Core.Bool.{cond, _||_}
 use mathlib.Core.List.{List}
 use mathlib.Core.Path.{_≡_}
-use Prim.Native.Nat.{ℕ, _+_, _-_, _≤_}
+use Prim.Native.Nat.{ℕ, _+_, _-_, _≤_, _<_}
 use lib.Dec.{ltb, eqb}
 use lib.ListN.{length, getD, take, drop, replicate}
+use Rattle.lists.specs.Lists.{Each}
 use Rattle.records.specs.declared.Answer.the-variants.{Accepted}
+use Rattle.records.specs.Table.{FP}
+use Rattle.records.specs.Record.{mark, keyOf}
 use Rattle.records.specs.Answers.{isAccepted}
 use Rattle.records.specs.Dossier.{records, scan}
 use Rattle.records.specs.Walk.{folded, walk}
 use Rattle.station.specs.Current.{current, startOf, longest, readable}
 use Rattle.index.specs.declared.Passed.{Passed}
 use Rattle.index.specs.declared.Passed.the-variants.{Stopped}
-use Rattle.index.specs.Slots.{kept, keepStep, passOf}
+use Rattle.index.specs.Slots.{slot, narrow, wide, fresh, keepStep, passOf}
 use Rattle.lookup.specs.declared.Part.{Part}
 
 -- a part by its start and its length
@@ -33,13 +36,17 @@ lookupPart d k n = cond (isAccepted (readable d)) (currentPart k n (records d)) 
 
 -- ---- through the index
 
--- the index of a dossier
-unfoldable pub indexOf : List ℕ → List ℕ
-indexOf d = folded (keepStep d) 0 (kept (replicate 2350 0) true) (records d) .slots
+-- the index of w slots of a dossier
+unfoldable pub indexOf : ℕ → List ℕ → List ℕ
+indexOf w d = folded (keepStep d) 0 (fresh w) (records d) .slots
 
--- "13; records in turn with 1, 2, 3": the refusal, or whether every issue was above all earlier ones of its mark and key
-unfoldable pub scanned : List ℕ → Passed
-scanned d = cond (ltb longest (length d)) (Stopped 13 0) (passOf (walk (keepStep d) (kept (replicate 2350 0) true) d))
+-- "13; records in turn with 1, 2, 3": the refusal, or what a pass with w slots says of the issues and the slots
+unfoldable pub scanned : ℕ → List ℕ → Passed
+scanned w d = cond (ltb longest (length d)) (Stopped 13 0) (passOf (walk (keepStep d) (fresh w) d))
+
+-- an index before the pass: empty slots, with or without FP's
+abbrev pub Empty : List ℕ → Type 0
+Empty ix = (narrow ≤ length ix) × (ix ≡ replicate (length ix) 0)
 
 -- where the record of a slot of value v stands in a dossier of e bytes, n being its length; nowhere if there is none
 abbrev pub placeOf : ℕ → ℕ → ℕ → Part
@@ -57,4 +64,13 @@ partAt d ix j n = bytesOf d (placeAt (length d) ix j n)
 pub record Indexed (d ix : List ℕ) : Type 0 where
   pub short : length d ≤ 60000
   pub clean : scan 0 (records d) ≡ Accepted
-  pub here : ix ≡ indexOf d
+  pub roomy : narrow ≤ length ix
+  pub here : ix ≡ indexOf (length ix) d
+
+-- every record of the dossier has a slot in the index
+abbrev pub Complete : List ℕ → List ℕ → Type 0
+Complete d ix = Each (λ r. slot (mark r) (keyOf r) < length ix) (records d)
+
+-- the index has the slots of mark k
+abbrev pub Covers : ℕ → List ℕ → Type 0
+Covers k ix = k ≡ FP → wide ≤ length ix

@@ -1,17 +1,18 @@
 // The current records of a dossier: it is read once, for 13 and 1 to 4, and its index then gives each current record as a part of its bytes.
 ghost use mathlib.Core.Path.{_≡_};
-ghost use mathlib.Core.Bool.{Bool};
+ghost use mathlib.Core.Bool.{Bool, true};
 ghost use mathlib.Core.List.{[], _∷_};
 ghost use Prim.Native.Nat.{_+_, _*_, _/_, _%_, _<_, _≤_};
-ghost use lib.ListN.{length, replicate};
+ghost use lib.ListN.{length};
 ghost use Rattle.fields.specs.Numbers.{number};
 ghost use Rattle.records.specs.declared.Answer.the-variants.{Accepted};
+ghost use Rattle.records.specs.Table.{kinds};
 ghost use Rattle.records.specs.Record.{mark};
 ghost use Rattle.records.specs.Dossier.{records};
 ghost use Rattle.station.specs.Current.{current, readable, lookupBytes};
 ghost use Rattle.index.specs.declared.Passed.the-variants.{Ended};
 ghost use Rattle.index.specs.Slots.{slot};
-ghost use Rattle.lookup.specs.Parts.{scanned, placeOf, placeAt, bytesOf, partAt, currentPart, lookupPart, Indexed};
+ghost use Rattle.lookup.specs.Parts.{scanned, placeOf, placeAt, bytesOf, partAt, currentPart, lookupPart, Empty, Indexed, Complete, Covers};
 use index::Passed;
 use records::Answer;
 
@@ -23,8 +24,8 @@ pub struct Part {
 
 // The first part of it: 13, 1 to 3, and the index.
 pub fn scan(d: &[u8], index: &mut [u16]) -> Passed
-    requires { ⌜ now index ≡ replicate 2350 0 ⌝ }
-    ensures { λ r. ⌜ (r ≡ scanned (now (d .entry))) × ((b : Bool) → r ≡ Ended b → Indexed (now (d .entry)) (now (index .exit))) ⌝ }
+    requires { ⌜ Empty (now index) ⌝ }
+    ensures { λ r. ⌜ (r ≡ scanned (length (now (index .entry))) (now (d .entry))) × ((b c : Bool) → r ≡ Ended b c → Indexed (now (d .entry)) (now (index .exit)) × (c ≡ true → Complete (now (d .entry)) (now (index .exit)))) ⌝ }
 {
     if 60000 < d.len() {
         return Passed::Stopped {
@@ -38,12 +39,12 @@ pub fn scan(d: &[u8], index: &mut [u16]) -> Passed
 // A dossier is read: 13, 1 to 4, and its index. `judge` does the same by itself: the search for twins, called from two functions, keeps
 // a frame of its own, and its tables cost nothing where every issue rose.
 pub fn open(d: &[u8], index: &mut [u16]) -> Answer
-    requires { ⌜ now index ≡ replicate 2350 0 ⌝ }
+    requires { ⌜ Empty (now index) ⌝ }
     ensures { λ r. ⌜ (r ≡ readable (now (d .entry))) × (r ≡ Accepted → Indexed (now (d .entry)) (now (index .exit))) ⌝ }
 {
     match scan(d, index) {
-        Passed::Ended { rising } => {
-            if rising {
+        Passed::Ended { rising, complete } => {
+            if rising & complete {
                 Answer::Accepted
             } else {
                 twins::first_twin(d)
@@ -170,9 +171,21 @@ pub fn th<'a>(d: &'a [u8], index: &[u16], c: usize, v: usize) -> &'a [u8]
     part_at(d, index, index::keys::slot_th(c, v), records::TH.length)
 }
 
+// The current FP of a place, through an index of every record; a place without a slot there has none.
+pub fn fp<'a>(d: &'a [u8], index: &[u16], n: usize) -> &'a [u8]
+    requires { ⌜ Indexed (now d) (now index) × Complete (now d) (now index) × (1 ≤ n) × (n ≤ 4000) ⌝ }
+    ensures { λ r. ⌜ now r ≡ current 10 n (records (now (d .entry))) ⌝ }
+{
+    let j = index::keys::slot_fp(n);
+    if index.len() <= j {
+        return &d[..0];
+    }
+    part_at(d, index, j, records::FP.length)
+}
+
 // The slot of a mark and key.
 fn slot_of(kind: usize, n: usize) -> usize
-    requires { ⌜ (n < 16777216) × (kind < 10) ⌝ }
+    requires { ⌜ (n < 16777216) × (kind < kinds) ⌝ }
     ensures { λ r. ⌜ r ≡ slot kind n ⌝ }
 {
     if kind == 2 {
@@ -199,12 +212,15 @@ fn slot_of(kind: usize, n: usize) -> usize
     if kind == 9 {
         return index::keys::slot_th(n / 256, n % 256);
     }
+    if kind == 10 {
+        return index::keys::slot_fp(n);
+    }
     0
 }
 
 // Where the current record of a mark and key stands; a number that is no key has none.
 fn place_of(d: &[u8], index: &[u16], kind: usize, n: usize) -> Part
-    requires { ⌜ Indexed (now d) (now index) × (kind < 10) ⌝ }
+    requires { ⌜ Indexed (now d) (now index) × (kind < kinds) × Covers kind (now index) ⌝ }
     ensures { λ r. ⌜ r ≡ currentPart kind n (records (now (d .entry))) ⌝ }
 {
     if records::in_key(kind, n) {
@@ -217,22 +233,13 @@ fn place_of(d: &[u8], index: &[u16], kind: usize, n: usize) -> Part
     }
 }
 
-// The part of the dossier that holds the current record of a mark and key, empty if there is none.
-pub fn current_of<'a>(d: &'a [u8], index: &[u16], kind: usize, n: usize) -> &'a [u8]
-    requires { ⌜ Indexed (now d) (now index) × (n < 16777216) × (kind < 10) ⌝ }
-    ensures { λ r. ⌜ now r ≡ current kind n (records (now (d .entry))) ⌝ }
-{
-    bytes_of(d, place_of(d, index, kind, n))
-}
-
-// The lookup by kind and key number, as start and length.
-fn lookup_part(d: &[u8], kind: usize, n: usize) -> Part
-    requires { ⌜ kind < 10 ⌝ }
+// The lookup by kind and key number, as start and length, with an empty index for it.
+fn part_in(d: &[u8], index: &mut [u16], kind: usize, n: usize) -> Part
+    requires { ⌜ Empty (now index) × (kind < kinds) × Covers kind (now index) ⌝ }
     ensures { λ r. ⌜ r ≡ lookupPart (now (d .entry)) kind n ⌝ }
 {
-    let mut slots = [0u16; 2350];
-    match open(d, &mut slots) {
-        Answer::Accepted => place_of(d, &slots, kind, n),
+    match open(d, index) {
+        Answer::Accepted => place_of(d, index, kind, n),
         Answer::Refused {
             number: _,
             place: _,
@@ -241,6 +248,19 @@ fn lookup_part(d: &[u8], kind: usize, n: usize) -> Part
             length: 0,
         },
     }
+}
+
+// The same; only a lookup of FP needs its slots.
+fn lookup_part(d: &[u8], kind: usize, n: usize) -> Part
+    requires { ⌜ kind < kinds ⌝ }
+    ensures { λ r. ⌜ r ≡ lookupPart (now (d .entry)) kind n ⌝ }
+{
+    if kind == 10 {
+        let mut slots = [0u16; 6350];
+        return part_in(d, &mut slots, kind, n);
+    }
+    let mut slots = [0u16; 2350];
+    part_in(d, &mut slots, kind, n)
 }
 
 // A key's bytes as a number.

@@ -1,10 +1,11 @@
 use mathlib.Core.Path.{refl, _∙_}
 use Prim.Native.Nat.{ℕ, _+_, _*_, _≤_}
+use lib.Dec.{lit<}
 use Rattle.records.specs.Table.{table, rowOf}
 use Rattle.records.specs.Record.{widths, size}
 use Rattle.records.specs.Shapes.{shape, shapeOf}
 use Rattle.index.proofs.Slots.{InKey}
-use Rattle.lookup.proofs.Parts.{three-field, slot-within, part-current}
+use Rattle.lookup.proofs.Parts.{three-field, slot-fits, part-found}
 use borrow.Author.Needs.{needs}
 use Rattle.lookup.proofs.ad.Statement.{statement}
 use Rattle.lookup.proofs.ad.Tie as tie
@@ -17,11 +18,11 @@ slot-ad-requires : tie.Need-slot-ad-requires
 slot-ad-requires c κs = search needs
 
 part-at-requires : tie.Need-part-at-requires
-part-at-requires c κs = (slot-within _ _ (c .before .before .before .pre .0) 4 _ (key _ _ _ (c .before .before .before .pre .1) (c .before .before .before .pre .2) (c .before .before .before .pre .3) (c .before .before .before .pre .4) (c .before .before .before .pre .5) (c .before .before .before .pre .6)) (c .slot-ad .ensures), search needs)
+part-at-requires c κs = (slot-fits _ _ (c .before .before .before .pre .0) 4 _ (lit< tt) (key _ _ _ (c .before .before .before .pre .1) (c .before .before .before .pre .2) (c .before .before .before .pre .3) (c .before .before .before .pre .4) (c .before .before .before .pre .5) (c .before .before .before .pre .6)) (c .slot-ad .ensures), search needs)
 
 returns : tie.Need-returns
 unfolding size widths rowOf table
-returns c = c .part-at .ensures ∙ part-current _ _ (c .before .before .before .before .pre .0) 4 _ (key _ _ _ (c .before .before .before .before .pre .1) (c .before .before .before .before .pre .2) (c .before .before .before .before .pre .3) (c .before .before .before .before .pre .4) (c .before .before .before .before .pre .5) (c .before .before .before .before .pre .6)) (c .before .slot-ad .ensures) refl
+returns c = c .part-at .ensures ∙ part-found _ _ (c .before .before .before .before .pre .0) 4 _ (lit< tt) (key _ _ _ (c .before .before .before .before .pre .1) (c .before .before .before .before .pre .2) (c .before .before .before .before .pre .3) (c .before .before .before .before .pre .4) (c .before .before .before .before .pre .5) (c .before .before .before .before .pre .6)) (c .before .slot-ad .ensures) refl
 
 pub ad-spec : {M : Type 1} → statement M
 ad-spec = tie.close (tie.spec slot-ad-requires part-at-requires returns)

@@ -1,5 +1,6 @@
-use mathlib.Core.Path.{ap, sym, _∙_}
+use mathlib.Core.Path.{ap₂, sym, _∙_}
 use borrow.Author.Needs.{needs}
+use Rattle.lists.proofs.Tests.{and-left, and-right}
 use Rattle.records.proofs.Answers.{not-refused}
 use Rattle.index.specs.declared.Passed.the-variants.{Ended}
 use Rattle.lookup.proofs.Opening.{scan-stopped, scan-rising, scan-twins}
@@ -13,7 +14,7 @@ enum-known-rising : tie.Need-enum-known-rising
 enum-known-rising c = search needs
 
 first-twin-requires : tie.Need-first-twin-requires
-first-twin-requires c κs = let i = c .before .before .before .before .before .before .scan .ensures .1 _ (c .before .before .rising .given .1) in (i .short, i .clean)
+first-twin-requires c κs = let i = c .before .before .before .before .before .before .scan .ensures .1 _ _ (c .before .before .rising .given .1) .0 in (i .short, i .clean)
 
 enum-known-number : tie.Need-enum-known-number
 enum-known-number c = search needs
@@ -24,8 +25,10 @@ same-length c = search needs
 returns : tie.Need-returns
 returns c =
     let s = c .before .before .before .before .before .before .scan in
-    let g = c .before .before .rising .given .1 in
-    (scan-rising _ (ap Ended (sym (c .if1 .taken)) ∙ sym g ∙ s .ensures .0) (s .ensures .1 _ g), λ _. s .ensures .1 _ g)
+    let g = c .before .before .rising .given in
+    let i = s .ensures .1 _ _ (g .1) .0 in
+    let t = c .if1 .taken in
+    (scan-rising _ _ (ap₂ Ended (sym (and-left (g .0 .0) (g .0 .1 .0) t)) (sym (and-right (g .0 .0) (g .0 .1 .0) t)) ∙ sym (g .1) ∙ s .ensures .0) i, λ _. i)
 
 same-length-2 : tie.Need-same-length-2
 same-length-2 c = search needs
@@ -33,14 +36,14 @@ same-length-2 c = search needs
 returns-2 : tie.Need-returns-2
 returns-2 c =
     let s = c .before .before .before .before .before .before .before .scan in
-    let g = c .before .before .before .rising .given .1 in
-    (c .first-twin .ensures ∙ sym (scan-twins _ (s .ensures .1 _ g)), λ _. s .ensures .1 _ g)
+    let i = s .ensures .1 _ _ (c .before .before .before .rising .given .1) .0 in
+    (c .first-twin .ensures ∙ sym (scan-twins _ i), λ _. i)
 
 same-length-3 : tie.Need-same-length-3
 same-length-3 c = search needs
 
 returns-3 : tie.Need-returns-3
-returns-3 c = (scan-stopped _ (sym (c .before .number .given .1) ∙ c .before .before .before .before .before .scan .ensures .0), λ e. absurd (not-refused _ _ e))
+returns-3 c = (scan-stopped _ _ (sym (c .before .number .given .1) ∙ c .before .before .before .before .before .scan .ensures .0), λ e. absurd (not-refused _ _ e))
 
 pub open-spec : {M : Type 1} → statement M
 open-spec =

@@ -5,7 +5,7 @@ use Rattle.records.specs.Record.{widths, size}
 use Rattle.records.specs.Shapes.{shape, shapeOf}
 use Rattle.index.specs.Slots.{slot}
 use Rattle.index.proofs.Slots.{InKey}
-use Rattle.lookup.proofs.Parts.{one-field, slot-within, part-current}
+use Rattle.lookup.proofs.Parts.{one-field, slot-fits, part-found}
 use borrow.Author.Needs.{needs}
 use Rattle.lookup.proofs.rs.Statement.{statement}
 use Rattle.lookup.proofs.rs.Tie as tie
@@ -16,11 +16,11 @@ key = one-field 1 0 (lit≤ tt) (lit< tt) refl (lit≤ tt) (lit≤ tt)
 
 part-at-requires : tie.Need-part-at-requires
 unfolding slot
-part-at-requires c κs = (slot-within _ _ (c .before .before .pre) 1 _ key refl, search needs)
+part-at-requires c κs = (slot-fits _ _ (c .before .before .pre) 1 _ (lit< tt) key refl, search needs)
 
 returns : tie.Need-returns
 unfolding slot size widths rowOf table
-returns c = c .part-at .ensures ∙ part-current _ _ (c .before .before .before .pre) 1 _ key refl refl
+returns c = c .part-at .ensures ∙ part-found _ _ (c .before .before .before .pre) 1 _ (lit< tt) key refl refl
 
 pub rs-spec : {M : Type 1} → statement M
 rs-spec = tie.close (tie.spec part-at-requires returns)

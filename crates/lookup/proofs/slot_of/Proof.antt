@@ -53,8 +53,14 @@ slot-th-requires c κs = search needs
 returns-8 : tie.Need-returns-8
 returns-8 c = slot-kind (c .slot-th .ensures) (omega arith) (c .before .if8 .taken)
 
+slot-fp-requires : tie.Need-slot-fp-requires
+slot-fp-requires c κs = search needs
+
 returns-9 : tie.Need-returns-9
-returns-9 c = slot-none _ _ (c .before .before .before .before .before .before .before .before .pre .1) (c .before .before .before .before .before .before .before .if1 .left) (c .before .before .before .before .before .before .if2 .left) (c .before .before .before .before .before .if3 .left) (c .before .before .before .before .if4 .left) (c .before .before .before .if5 .left) (c .before .before .if6 .left) (c .before .if7 .left) (c .if8 .left)
+returns-9 c = slot-kind (c .slot-fp .ensures) refl (c .before .if9 .taken)
+
+returns-10 : tie.Need-returns-10
+returns-10 c = slot-none _ _ (c .before .before .before .before .before .before .before .before .before .pre .1) (c .before .before .before .before .before .before .before .before .if1 .left) (c .before .before .before .before .before .before .before .if2 .left) (c .before .before .before .before .before .before .if3 .left) (c .before .before .before .before .before .if4 .left) (c .before .before .before .before .if5 .left) (c .before .before .before .if6 .left) (c .before .before .if7 .left) (c .before .if8 .left) (c .if9 .left)
 
 pub slot-of-spec : {M : Type 1} → statement M
 slot-of-spec =
@@ -76,4 +82,6 @@ slot-of-spec =
     returns-7
     slot-th-requires
     returns-8
-    returns-9)
+    slot-fp-requires
+    returns-9
+    returns-10)
