@@ -12,10 +12,10 @@ use Rattle.records.specs.Dossier.{records}
 use Rattle.station.specs.Current.{readable}
 use Rattle.station.specs.Parameters.{Parameters, parameters, technology}
 use Rattle.acceptance.specs.Fit.{unfit}
-use Rattle.acceptance.specs.Curve.{curveFits, fuelHolds, windowFits}
+use Rattle.acceptance.specs.Curve.{curveFits, fuelHolds, windowFits, forecastFits}
 use Rattle.acceptance.specs.Answer.{unsupported, answer}
 
--- ---- 7, 8 and 9
+-- ---- 7, 8, 9 and 17
 
 module _ (s : Parameters) (n : ℕ) where
   pub draws-7 : false ≡ curveFits s → Refused 7 n ≡ unsupported s n
@@ -30,9 +30,13 @@ module _ (s : Parameters) (n : ℕ) where
   unfolding unsupported orElse refuseIf
   draws-9 p q r = rw (← p, ← q, ← r) refl
 
-  pub draws-none : true ≡ curveFits s → true ≡ fuelHolds s → true ≡ windowFits s → Accepted ≡ unsupported s n
+  pub draws-17 : true ≡ curveFits s → true ≡ fuelHolds s → true ≡ windowFits s → false ≡ forecastFits s → Refused 17 n ≡ unsupported s n
   unfolding unsupported orElse refuseIf
-  draws-none p q r = rw (← p, ← q, ← r) refl
+  draws-17 p q r t = rw (← p, ← q, ← r, ← t) refl
+
+  pub draws-none : true ≡ curveFits s → true ≡ fuelHolds s → true ≡ windowFits s → true ≡ forecastFits s → Accepted ≡ unsupported s n
+  unfolding unsupported orElse refuseIf
+  draws-none p q r t = rw (← p, ← q, ← r, ← t) refl
 
 -- ---- the whole
 

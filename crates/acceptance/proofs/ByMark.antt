@@ -9,7 +9,7 @@ use borrow.Author.Tests.{ne-eqb, eqb-true}
 use Rattle.lists.specs.Tests.{allBelow, among, between}
 use Rattle.lists.proofs.Tests.{and-true, split, between-low, between-high}
 use Rattle.fields.specs.Numbers.{number}
-use Rattle.records.specs.Table.{table, rowOf, fieldOf}
+use Rattle.records.specs.Table.{table, rowOf, fieldOf, kinds}
 use Rattle.records.specs.Record.{mark, size, offsetIn, offset, read, value, inRange, rangesHold}
 use Rattle.records.proofs.Record.{field-in}
 use Rattle.acceptance.specs.Fit.{levelsOf, holds, fieldFits, ruleFits, fits}
@@ -19,23 +19,24 @@ or-false : (a : Bool) → a || false ≡ a
 or-false true = refl
 or-false false = refl
 
-by-technology : (P : ℕ → Type 0) → P 1 → P 2 → P 3 → (t : ℕ) → Known t → P t
-by-technology P a b c zero k = absurd (omega (arith, k))
-by-technology P a b c (suc zero) k = a
-by-technology P a b c (suc (suc zero)) k = b
-by-technology P a b c (suc (suc (suc zero))) k = c
-by-technology P a b c (suc (suc (suc (suc t)))) k = absurd (omega (arith, k))
+by-technology : (P : ℕ → Type 0) → P 1 → P 2 → P 3 → P 4 → (t : ℕ) → Known t → P t
+by-technology P a b c d zero k = absurd (omega (arith, k))
+by-technology P a b c d (suc zero) k = a
+by-technology P a b c d (suc (suc zero)) k = b
+by-technology P a b c d (suc (suc (suc zero))) k = c
+by-technology P a b c d (suc (suc (suc (suc zero)))) k = d
+by-technology P a b c d (suc (suc (suc (suc (suc t))))) k = absurd (omega (arith, k))
 
 -- ---- the levels that are held
 
-pub holds-tests : (t v : ℕ) → eqb t 1 && (eqb v 1 || eqb v 2 || eqb v 3 || eqb v 4) || eqb t 2 && eqb v 1 || eqb t 3 && (eqb v 1 || eqb v 4) ≡ holds t v
+pub holds-tests : (t v : ℕ) → eqb t 1 && (eqb v 1 || eqb v 2 || eqb v 3 || eqb v 4) || eqb t 2 && eqb v 1 || (eqb t 3 || eqb t 4) && (eqb v 1 || eqb v 4) ≡ holds t v
 unfolding holds levelsOf among
 holds-tests t v =
     split (eqb t 1)
     (λ e. rw (eqb-true t 1 e) (four (eqb v 1) (eqb v 2) (eqb v 3) (eqb v 4)))
     (λ e. rw e (split (eqb t 2)
     (λ f. rw (eqb-true t 2 f) refl)
-    (λ f. rw f (two (eqb t 3)))))
+    (λ f. rw f (two (eqb t 3 || eqb t 4)))))
   where
     four : (a b c d : Bool) → (a || b || c || d) || false || false ≡ a || (b || (c || (d || false)))
     four true b c d = refl
@@ -62,7 +63,7 @@ module _ (t : ℕ) (s : List ℕ) (known : Known t) where
       && cond (eqb t 2) (not true || ltb 0 (number 19 4 s)) (eqb (number 19 4 s) 0)
       && cond (eqb t 3) (not true || ltb 0 (number 23 4 s)) (eqb (number 23 4 s) 0)
       && cond (eqb t 3) (not true || ltb 0 (number 27 2 s)) (eqb (number 27 2 s) 0)
-      && cond (eqb t 3) (not true || ltb 0 (number 29 2 s)) (eqb (number 29 2 s) 0)
+      && cond (eqb t 3 || eqb t 4) (not true || ltb 0 (number 29 2 s)) (eqb (number 29 2 s) 0)
       ≡ fits t 1 s
   unfolding fits ruleFits fieldFits allBelow among value read offset offsetIn fieldOf rowOf table
   fits-rs =
@@ -73,64 +74,69 @@ module _ (t : ℕ) (s : List ℕ) (known : Known t) where
       && cond (eqb t 2) (not true || ltb 0 (number 19 4 s)) (eqb (number 19 4 s) 0)
       && cond (eqb t 3) (not true || ltb 0 (number 23 4 s)) (eqb (number 23 4 s) 0)
       && cond (eqb t 3) (not true || ltb 0 (number 27 2 s)) (eqb (number 27 2 s) 0)
-      && cond (eqb t 3) (not true || ltb 0 (number 29 2 s)) (eqb (number 29 2 s) 0)
+      && cond (eqb t 3 || eqb t 4) (not true || ltb 0 (number 29 2 s)) (eqb (number 29 2 s) 0)
       ≡ fits t 1 s)
-      (sym (and-true _)) (sym (and-true _)) (sym (and-true _)) t known
+      (sym (and-true _)) (sym (and-true _)) (sym (and-true _)) (sym (and-true _)) t known
 
   pub fits-hp : eqb t 1 ≡ fits t 2 s
   unfolding fits ruleFits fieldFits allBelow among value read offset offsetIn fieldOf rowOf table
-  fits-hp = by-technology (λ t. eqb t 1 ≡ fits t 2 s) refl refl refl t known
+  fits-hp = by-technology (λ t. eqb t 1 ≡ fits t 2 s) refl refl refl refl t known
 
-  pub fits-fu : eqb t 1 || eqb (number 11 4 s) 0 ≡ fits t 3 s
+  pub fits-fu : (not (eqb t 4) || eqb (number 7 4 s) 0) && (eqb t 1 || eqb (number 11 4 s) 0) ≡ fits t 3 s
   unfolding fits ruleFits fieldFits allBelow among value read offset offsetIn fieldOf rowOf table
-  fits-fu = by-technology (λ t. eqb t 1 || eqb (number 11 4 s) 0 ≡ fits t 3 s) refl (sym (and-true _)) (sym (and-true _)) t known
+  fits-fu = by-technology (λ t. (not (eqb t 4) || eqb (number 7 4 s) 0) && (eqb t 1 || eqb (number 11 4 s) 0) ≡ fits t 3 s) refl (sym (and-true _)) (sym (and-true _)) (sym (and-true _)) t known
 
   pub fits-ad : holds t (number 8 1 s) && (not (eqb (number 7 1 s) 5) || (eqb t 2 && eqb (number 8 1 s) 1)) ≡ fits t 4 s
   unfolding fits ruleFits fieldFits allBelow among value read offset offsetIn fieldOf rowOf table
   fits-ad =
       by-technology (λ t. holds t (number 8 1 s) && (not (eqb (number 7 1 s) 5) || (eqb t 2 && eqb (number 8 1 s) 1)) ≡ fits t 4 s)
-      refl refl refl t known
+      refl refl refl refl t known
 
   pub fits-mm : eqb t 1 || eqb (number 22 2 s) 0 ≡ fits t 5 s
   unfolding fits ruleFits fieldFits allBelow among value read offset offsetIn fieldOf rowOf table
-  fits-mm = by-technology (λ t. eqb t 1 || eqb (number 22 2 s) 0 ≡ fits t 5 s) refl (sym (and-true _)) (sym (and-true _)) t known
+  fits-mm = by-technology (λ t. eqb t 1 || eqb (number 22 2 s) 0 ≡ fits t 5 s) refl (sym (and-true _)) (sym (and-true _)) (sym (and-true _)) t known
 
   pub fits-hr : eqb t 3 ≡ fits t 7 s
   unfolding fits ruleFits fieldFits allBelow among value read offset offsetIn fieldOf rowOf table
-  fits-hr = by-technology (λ t. eqb t 3 ≡ fits t 7 s) refl refl refl t known
+  fits-hr = by-technology (λ t. eqb t 3 ≡ fits t 7 s) refl refl refl refl t known
 
   pub fits-ch : eqb t 3 ≡ fits t 8 s
   unfolding fits ruleFits fieldFits allBelow among value read offset offsetIn fieldOf rowOf table
-  fits-ch = by-technology (λ t. eqb t 3 ≡ fits t 8 s) refl refl refl t known
+  fits-ch = by-technology (λ t. eqb t 3 ≡ fits t 8 s) refl refl refl refl t known
+
+  pub fits-fp : eqb t 4 ≡ fits t 10 s
+  unfolding fits ruleFits fieldFits allBelow among value read offset offsetIn fieldOf rowOf table
+  fits-fp = by-technology (λ t. eqb t 4 ≡ fits t 10 s) refl refl refl refl t known
 
   pub fits-th : holds t (number 7 1 s) ≡ fits t 9 s
   unfolding fits ruleFits fieldFits allBelow among value read offset offsetIn fieldOf rowOf table
-  fits-th = by-technology (λ t. holds t (number 7 1 s) ≡ fits t 9 s) refl refl refl t known
+  fits-th = by-technology (λ t. holds t (number 7 1 s) ≡ fits t 9 s) refl refl refl refl t known
 
   pub fits-none : true ≡ fits t 0 s
   unfolding fits ruleFits fieldFits allBelow among value read offset offsetIn fieldOf rowOf table
-  fits-none = by-technology (λ t. true ≡ fits t 0 s) refl refl refl t known
+  fits-none = by-technology (λ t. true ≡ fits t 0 s) refl refl refl refl t known
 
   pub fits-rq : true ≡ fits t 6 s
   unfolding fits ruleFits fieldFits allBelow among value read offset offsetIn fieldOf rowOf table
-  fits-rq = by-technology (λ t. true ≡ fits t 6 s) refl refl refl t known
+  fits-rq = by-technology (λ t. true ≡ fits t 6 s) refl refl refl refl t known
 
 -- a record whose mark was read
 pub at-mark : (t k m n : ℕ) (s : List ℕ) {b : Bool} → size m ≡ n → b ≡ fits t m s → k ≡ mark s → k ≡ m → tried n b ≡ triedAs t (mark s) s
 at-mark t k m n s z e p q = ap₂ tried (sym z) e ∙ ap (λ (x : ℕ). triedAs t x s) (sym q ∙ p)
 
-pub no-mark : (k : ℕ) → (k ≡ 1 → ⊥) → (k ≡ 2 → ⊥) → (k ≡ 3 → ⊥) → (k ≡ 4 → ⊥) → (k ≡ 5 → ⊥) → (k ≡ 6 → ⊥) → (k ≡ 7 → ⊥) → (k ≡ 8 → ⊥) → (k ≡ 9 → ⊥) → k < 10 → k ≡ 0
-no-mark zero a1 a2 a3 a4 a5 a6 a7 a8 a9 h = refl
-no-mark (suc zero) a1 a2 a3 a4 a5 a6 a7 a8 a9 h = absurd (a1 refl)
-no-mark (suc (suc zero)) a1 a2 a3 a4 a5 a6 a7 a8 a9 h = absurd (a2 refl)
-no-mark (suc (suc (suc zero))) a1 a2 a3 a4 a5 a6 a7 a8 a9 h = absurd (a3 refl)
-no-mark (suc (suc (suc (suc zero)))) a1 a2 a3 a4 a5 a6 a7 a8 a9 h = absurd (a4 refl)
-no-mark (suc (suc (suc (suc (suc zero))))) a1 a2 a3 a4 a5 a6 a7 a8 a9 h = absurd (a5 refl)
-no-mark (suc (suc (suc (suc (suc (suc zero)))))) a1 a2 a3 a4 a5 a6 a7 a8 a9 h = absurd (a6 refl)
-no-mark (suc (suc (suc (suc (suc (suc (suc zero))))))) a1 a2 a3 a4 a5 a6 a7 a8 a9 h = absurd (a7 refl)
-no-mark (suc (suc (suc (suc (suc (suc (suc (suc zero)))))))) a1 a2 a3 a4 a5 a6 a7 a8 a9 h = absurd (a8 refl)
-no-mark (suc (suc (suc (suc (suc (suc (suc (suc (suc zero))))))))) a1 a2 a3 a4 a5 a6 a7 a8 a9 h = absurd (a9 refl)
-no-mark (suc (suc (suc (suc (suc (suc (suc (suc (suc (suc k)))))))))) a1 a2 a3 a4 a5 a6 a7 a8 a9 h = absurd (omega arith)
+pub no-mark : (k : ℕ) → (k ≡ 1 → ⊥) → (k ≡ 2 → ⊥) → (k ≡ 3 → ⊥) → (k ≡ 4 → ⊥) → (k ≡ 5 → ⊥) → (k ≡ 6 → ⊥) → (k ≡ 7 → ⊥) → (k ≡ 8 → ⊥) → (k ≡ 9 → ⊥) → (k ≡ 10 → ⊥) → k < kinds → k ≡ 0
+no-mark zero a1 a2 a3 a4 a5 a6 a7 a8 a9 a10 h = refl
+no-mark (suc zero) a1 a2 a3 a4 a5 a6 a7 a8 a9 a10 h = absurd (a1 refl)
+no-mark (suc (suc zero)) a1 a2 a3 a4 a5 a6 a7 a8 a9 a10 h = absurd (a2 refl)
+no-mark (suc (suc (suc zero))) a1 a2 a3 a4 a5 a6 a7 a8 a9 a10 h = absurd (a3 refl)
+no-mark (suc (suc (suc (suc zero)))) a1 a2 a3 a4 a5 a6 a7 a8 a9 a10 h = absurd (a4 refl)
+no-mark (suc (suc (suc (suc (suc zero))))) a1 a2 a3 a4 a5 a6 a7 a8 a9 a10 h = absurd (a5 refl)
+no-mark (suc (suc (suc (suc (suc (suc zero)))))) a1 a2 a3 a4 a5 a6 a7 a8 a9 a10 h = absurd (a6 refl)
+no-mark (suc (suc (suc (suc (suc (suc (suc zero))))))) a1 a2 a3 a4 a5 a6 a7 a8 a9 a10 h = absurd (a7 refl)
+no-mark (suc (suc (suc (suc (suc (suc (suc (suc zero)))))))) a1 a2 a3 a4 a5 a6 a7 a8 a9 a10 h = absurd (a8 refl)
+no-mark (suc (suc (suc (suc (suc (suc (suc (suc (suc zero))))))))) a1 a2 a3 a4 a5 a6 a7 a8 a9 a10 h = absurd (a9 refl)
+no-mark (suc (suc (suc (suc (suc (suc (suc (suc (suc (suc zero)))))))))) a1 a2 a3 a4 a5 a6 a7 a8 a9 a10 h = absurd (a10 refl)
+no-mark (suc (suc (suc (suc (suc (suc (suc (suc (suc (suc (suc k))))))))))) a1 a2 a3 a4 a5 a6 a7 a8 a9 a10 h = absurd (omega arith)
 
 -- ---- a thermal station has every level, so AD fits unless its cost is 5, and TH fits
 

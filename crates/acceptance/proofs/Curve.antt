@@ -1,4 +1,4 @@
--- 7, 8 and 9 as loops over the index.
+-- 7, 8, 9 and 17 as loops over the index.
 use mathlib.Core.Path.{_≡_, refl, ap, sym, subst, _∙_}
 use mathlib.Core.Bool.{Bool, true, false, cond, _&&_, _||_, not, false≢true}
 use mathlib.Core.List.{List, [], _∷_}
@@ -10,25 +10,25 @@ use native.Mathlib.Omega.{arith}
 use lib.Arith.{lt-of-le-ne}
 use lib.Dec.{leb, ltb, eqb, lit≤}
 use lib.ListN.{length, getD}
-use borrow.Author.Tests.{lt-ltb, le-ltb, le-leb, lt-leb, eqb-true, eq-eqb, ne-eqb}
+use borrow.Author.Tests.{lt-ltb, le-ltb, le-leb, lt-leb, leb-true, eqb-true, eq-eqb, ne-eqb}
 use Rattle.lists.specs.Tests.{allTo, countTo}
 use Rattle.lists.proofs.Tests.{and-true, below-at, and-left, and-right, and-both, between-low, between-high}
 use Rattle.fields.specs.Numbers.{number}
 use Rattle.fields.proofs.Numbers.{number-nil}
-use Rattle.records.specs.Table.{table, rowOf, fieldOf, RS, HP, FU, RQ, HR}
-use Rattle.records.specs.Record.{value, inRange}
+use Rattle.records.specs.Table.{table, rowOf, fieldOf, RS, HP, FU, RQ, HR, FP}
+use Rattle.records.specs.Record.{value, inRange, agrees}
 use Rattle.records.specs.Dossier.{records}
 use Rattle.records.proofs.Dossier.{scan-each}
 use Rattle.station.specs.Current.{current, present}
 use Rattle.station.specs.Parameters.{Parameters, parameters, technology, capacity, charge, window, output, heat, requested}
 use Rattle.station.proofs.Parameters.{says-high}
-use Rattle.station.proofs.Fields.{output-at, heat-at, requested-at}
+use Rattle.station.proofs.Fields.{technology-at, output-at, heat-at, requested-at}
 use Rattle.index.specs.Slots.{slot}
 use Rattle.lookup.specs.Parts.{Indexed}
-use Rattle.lookup.proofs.Parts.{request-key, current-none}
-use Rattle.acceptance.specs.Curve.{points, rise, curveHolds, curveFits, fuelHolds, fullHours, hoursHold, windowFits}
+use Rattle.lookup.proofs.Parts.{request-key, current-none, fits}
+use Rattle.acceptance.specs.Curve.{points, rise, curveHolds, curveFits, fuelHolds, fullHours, hoursHold, windowFits, placesHold, forecastFits}
 use Rattle.acceptance.specs.Looked.{Known, slotsEmpty, lastRise, legHolds, fuelled}
-use Rattle.acceptance.proofs.Sound.{clean-range}
+use Rattle.acceptance.proofs.Sound.{clean-range, clean-agrees}
 
 -- ---- tests of 1 to n
 
@@ -245,6 +245,14 @@ module _ (s : Parameters) (t : ℕ) (et : t ≡ technology s) where
   unfolding windowFits hoursHold fullHours
   window-whole e ec ek ex ew eb = rw (← et, eq-eqb t 3 e, eb, ex, ew, ec, ek) refl
 
+  pub forecast-none : (t ≡ 4 → ⊥) → true ≡ forecastFits s
+  unfolding forecastFits
+  forecast-none z = rw (← et, ne-eqb t 4 z) refl
+
+  pub forecast-whole : t ≡ 4 → {w : ℕ} {b : Bool} → w ≡ window s → b ≡ allTo w (s .has FP) → leb 50 w && b ≡ forecastFits s
+  unfolding forecastFits placesHold
+  forecast-whole e ew eb = rw (← et, eq-eqb t 4 e, eb, ew) refl
+
 -- ---- 8
 
 there-if : (r : List ℕ) → (number 15 1 r ≡ 0 → ⊥) → ltb 0 (length r) ≡ true
@@ -277,7 +285,8 @@ module _ (d ix : List ℕ) (h : Indexed d ix) {j : ℕ} (first : j ≡ slot RQ 1
   unfolding slotsEmpty slot
   unrequested n p =
       let w : j + n ≡ slot RQ (n + 1) = omega (arith, first) in
-      current-none d ix h RQ (n + 1) (request-key (n + 1) (omega arith) (omega arith))
+      let i = request-key (n + 1) (omega arith) (omega arith) in
+      current-none d ix h RQ (n + 1) i (fits d ix h RQ (n + 1) i (lit≤ tt))
       (ap (λ (k : ℕ). getD ix k 0) (sym w) ∙ eqb-true (getD ix (j + n) 0) 0 (below-at 16 (λ k. eqb (getD ix (j + k) 0) 0) empty n p))
 
   fuelled-to : (n : ℕ) → n ≤ 16 → true ≡ allTo n (fuelled (parameters (records d)))
@@ -297,9 +306,25 @@ module _ (d ix : List ℕ) (h : Indexed d ix) where
   unfolding fieldOf rowOf table
   requested-le n p e ep = rw (p-is (records d) n p e ep) (says-high (scan-each 0 (records d) (h .clean)) RQ n 3)
 
-  pub window-le : window (parameters (records d)) ≤ 168
+  pub window-le : window (parameters (records d)) ≤ 4000
   unfolding fieldOf rowOf table
   window-le = says-high (scan-each 0 (records d) (h .clean)) RS 0 8
+
+  -- a station has an RS that says what it is
+  station-there : (t : ℕ) → technology (parameters (records d)) ≡ suc t → parameters (records d) .has RS 0 ≡ true
+  unfolding parameters present
+  station-there t e = go (current RS 0 (records d)) (sym e ∙ technology-at (records d))
+    where
+      go : (r : List ℕ) → suc t ≡ number 6 1 r → ltb 0 (length r) ≡ true
+      go [] z = absurd (omega (arith, z, number-nil 6 1))
+      go (b ∷ r) z = lt-ltb 0 (suc (length r)) (omega arith)
+
+  -- to 168 unless it is hydroelectric
+  pub storage-window : technology (parameters (records d)) ≡ 3 → window (parameters (records d)) ≤ 168
+  unfolding parameters agrees fieldOf rowOf table
+  storage-window e =
+      leb-true (value RS 8 (current RS 0 (records d))) 168
+      (rw e at (clean-agrees (scan-each 0 (records d) (h .clean)) RS 0 (station-there 2 e)))
 
   module _ (there : parameters (records d) .has RS 0 ≡ true) where
     pub capacity-ge : 1 ≤ capacity (parameters (records d))
@@ -311,4 +336,4 @@ module _ (d ix : List ℕ) (h : Indexed d ix) where
     technology-known =
         let w = clean-range (scan-each 0 (records d) (h .clean)) RS 0 there 0 (lit≤ tt) in
         let x : ℕ = value RS 0 (current RS 0 (records d)) in
-        (between-low 1 3 x w, between-high 1 3 x w)
+        (between-low 1 4 x w, between-high 1 4 x w)

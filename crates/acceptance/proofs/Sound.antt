@@ -12,7 +12,7 @@ use Rattle.lists.proofs.Lists.{each-map, each-permuted, member-each}
 use Rattle.lists.proofs.Tests.{and-left, and-right, below-at}
 use Rattle.records.specs.declared.Answer.the-variants.{Accepted}
 use Rattle.records.specs.Table.{table, rowOf, fieldOf, RS}
-use Rattle.records.specs.Record.{mark, issue, keyOf, value, inRange, fault}
+use Rattle.records.specs.Record.{mark, issue, keyOf, value, inRange, agrees, rangesHold, fault}
 use Rattle.records.specs.Answers.{orElse, refuseIf}
 use Rattle.records.specs.Dossier.{records, scan}
 use Rattle.records.specs.Raise.{Raised}
@@ -27,7 +27,7 @@ use Rattle.station.proofs.Current.{current-found, current-raised}
 use Rattle.station.proofs.Twins.{twins-distinct, distinct-twins, distinct-permuted, current-permuted, twins-same}
 use Rattle.station.proofs.Parameters.{parameters-permuted, same-parameters}
 use Rattle.acceptance.specs.Fit.{fieldFits, ruleFits, fits, isCurrent, unfit}
-use Rattle.acceptance.specs.Curve.{curveFits, fuelHolds, windowFits}
+use Rattle.acceptance.specs.Curve.{curveFits, fuelHolds, windowFits, forecastFits}
 use Rattle.acceptance.specs.Answer.{unsupported, answer, IsAccepted}
 use Rattle.acceptance.specs.Sound.{FitsIn, Sound}
 use Rattle.acceptance.proofs.Fit.{fits-stays}
@@ -56,7 +56,7 @@ each-unfit {l} e =
     go true false g = sym (g refl)
     go false c g = refl
 
--- ---- 7, 8 and 9
+-- ---- 7, 8, 9 and 17
 
 held : (b : Bool) (n p : ℕ) → refuseIf (not b) n p ≡ Accepted → b ≡ true
 held b n p h = not-false b (not-refuseIf (not b) n p h)
@@ -64,19 +64,22 @@ held b n p h = not-false b (not-refuseIf (not b) n p h)
 holding : (b : Bool) (n p : ℕ) → b ≡ true → refuseIf (not b) n p ≡ Accepted
 holding b n p h = refuseIf-not (not b) n p (ap not h)
 
-supported : (s : Parameters) (n : ℕ) → unsupported s n ≡ Accepted → (curveFits s ≡ true) × (fuelHolds s ≡ true) × (windowFits s ≡ true)
+supported : (s : Parameters) (n : ℕ) → unsupported s n ≡ Accepted → (curveFits s ≡ true) × (fuelHolds s ≡ true) × (windowFits s ≡ true) × (forecastFits s ≡ true)
 unfolding unsupported
 supported s n h =
     let a = orElse-parts (refuseIf (not (curveFits s)) 7 n) _ h in
-    let b = orElse-parts (refuseIf (not (fuelHolds s)) 8 n) (refuseIf (not (windowFits s)) 9 n) (a .1) in
-    (held (curveFits s) 7 n (a .0), held (fuelHolds s) 8 n (b .0), held (windowFits s) 9 n (b .1))
+    let b = orElse-parts (refuseIf (not (fuelHolds s)) 8 n) _ (a .1) in
+    let c = orElse-parts (refuseIf (not (windowFits s)) 9 n) (refuseIf (not (forecastFits s)) 17 n) (b .1) in
+    (held (curveFits s) 7 n (a .0), held (fuelHolds s) 8 n (b .0), held (windowFits s) 9 n (c .0), held (forecastFits s) 17 n (c .1))
 
-supporting : (s : Parameters) (n : ℕ) → curveFits s ≡ true → fuelHolds s ≡ true → windowFits s ≡ true → unsupported s n ≡ Accepted
+supporting : (s : Parameters) (n : ℕ) → curveFits s ≡ true → fuelHolds s ≡ true → windowFits s ≡ true → forecastFits s ≡ true → unsupported s n ≡ Accepted
 unfolding unsupported
-supporting s n p q r =
-    parts-orElse (refuseIf (not (curveFits s)) 7 n) (orElse (refuseIf (not (fuelHolds s)) 8 n) (refuseIf (not (windowFits s)) 9 n))
+supporting s n p q r t =
+    parts-orElse (refuseIf (not (curveFits s)) 7 n) (orElse (refuseIf (not (fuelHolds s)) 8 n) (orElse (refuseIf (not (windowFits s)) 9 n) (refuseIf (not (forecastFits s)) 17 n)))
     (holding (curveFits s) 7 n p)
-    (parts-orElse (refuseIf (not (fuelHolds s)) 8 n) (refuseIf (not (windowFits s)) 9 n) (holding (fuelHolds s) 8 n q) (holding (windowFits s) 9 n r))
+    (parts-orElse (refuseIf (not (fuelHolds s)) 8 n) (orElse (refuseIf (not (windowFits s)) 9 n) (refuseIf (not (forecastFits s)) 17 n))
+    (holding (fuelHolds s) 8 n q)
+    (parts-orElse (refuseIf (not (windowFits s)) 9 n) (refuseIf (not (forecastFits s)) 17 n) (holding (windowFits s) 9 n r) (holding (forecastFits s) 17 n t)))
 
 -- ---- accepted is: not too long, and of sound records
 
@@ -100,6 +103,7 @@ accepted-sound d h =
         curve = g .0;
         fuel = g .1;
         window = g .2;
+        forecast = g .3;
       },
     )
 
@@ -118,7 +122,7 @@ sound-accepted d n h =
           (holding (s .has RS 0) 5 (length d) (h .station))
           (parts-orElse (unfit (technology s) l) (unsupported s (length d))
           (each-unfit (h .fit))
-          (supporting s (length d) (h .curve) (h .fuel) (h .window))));
+          (supporting s (length d) (h .curve) (h .fuel) (h .window) (h .forecast))));
     }
 
 -- ---- in another order
@@ -135,6 +139,7 @@ sound-permuted {l} {m} p h =
       curve = rw (← f) (h .curve);
       fuel = rw (← f) (h .fuel);
       window = rw (← f) (h .window);
+      forecast = rw (← f) (h .forecast);
     }
 
 -- ---- in a raise
@@ -166,6 +171,7 @@ sound-raised {l} {m} a h =
       curve = rw (← same-parameters a) (h .curve);
       fuel = rw (← same-parameters a) (h .fuel);
       window = rw (← same-parameters a) (h .window);
+      forecast = rw (← same-parameters a) (h .forecast);
     }
 
 -- ---- a current record that is there: its fields are in their ranges and fit the technology
@@ -184,6 +190,15 @@ module _ {l : List (List ℕ)} (e : Each (λ r. fault r ≡ 0) l) (k n : ℕ) (t
     where
       go : (r : List ℕ) → IsCurrent k n l r → (i : ℕ) → i < length (rowOf k .fields) → inRange (fieldOf k i) (value k i r) ≡ true
       go r q = rw (← q .marked) (field-range r (faultless r (member-each (q .member) e)))
+
+  pub clean-agrees : agrees k (current k n l) ≡ true
+  unfolding rangesHold
+  clean-agrees = go (current k n l) current-there
+    where
+      go : (r : List ℕ) → IsCurrent k n l r → agrees k r ≡ true
+      go r q =
+          rw (← q .marked)
+          (and-right (allBelow (length (rowOf (mark r) .fields)) (λ i. inRange (fieldOf (mark r) i) (value (mark r) i r))) (agrees (mark r) r) (faultless r (member-each (q .member) e) .ranges))
 
 module _ {l : List (List ℕ)} (h : Sound l) (k n : ℕ) (there : parameters l .has k n ≡ true) where
   pub its-range : (i : ℕ) → i < length (rowOf k .fields) → inRange (fieldOf k i) (value k i (current k n l)) ≡ true

@@ -8,13 +8,13 @@ use native.Mathlib.Numerals.{add-one}
 use native.Mathlib.Omega.{arith}
 use lib.Bits.{bitOr, and-le-r, or-add-and}
 use lib.Dec.{ltb, eqb}
-use lib.ListN.{length, getD, take, drop, length-take, length-drop, drop-of-length-le}
+use lib.ListN.{length, getD, take, drop, length-take, length-drop, drop-of-length-le, List·getD-eq-default}
 use lib.Seq.{drop-drop}
 use borrow.Author.Tests.{eqb-true, eqb-false, eq-eqb, ne-eqb}
 use Rattle.lists.specs.Lists.{Each, done, also, Member, here, there}
 use Rattle.lists.specs.Tests.{allBelow}
 use Rattle.lists.proofs.Lists.{member-each}
-use Rattle.lists.proofs.Tests.{and-true, split, below-at, below-same}
+use Rattle.lists.proofs.Tests.{and-true, and-left, and-right, split, below-at, below-same}
 use Rattle.fields.specs.Numbers.{number}
 use Rattle.records.specs.declared.Answer.the-variants.{Accepted, Refused}
 use Rattle.records.specs.Table.{table, rowOf, fieldOf, AD, TH}
@@ -34,15 +34,15 @@ use Rattle.station.specs.Declared.{CurrentOf, absent, standing, Distinct}
 use Rattle.station.proofs.Current.{current-found, matches-self}
 use Rattle.station.proofs.Twins.{twins-distinct}
 use Rattle.index.specs.Slots.{slotAt, slot}
-use Rattle.index.proofs.Slots.{Spans, InKey, in-key, slot-lt, at-mark, low, high, limits}
+use Rattle.index.proofs.Slots.{Spans, InKey, in-key, at-mark, low, high, limits}
 use Rattle.index.proofs.Turn.{tail, its-slot as found-slot}
 use Rattle.index.specs.declared.Entry.{Entry}
 use Rattle.index.specs.Entries.{entryAs}
-use Rattle.lookup.specs.Parts.{part, bytesOf, placeAt, partAt, Indexed}
+use Rattle.lookup.specs.Parts.{part, bytesOf, placeAt, partAt, Indexed, Complete}
 use Rattle.lookup.proofs.Parts.{part-current}
 use Rattle.acceptance.specs.Fit.{holds, fieldFits, ruleFits, fits, isCurrent, unfit}
 use Rattle.acceptance.specs.Looked.{Known, heldFits, slotFits, slotsFit, slotsEmpty, thermalFit, otherFit, allFit, notFit}
-use Rattle.acceptance.proofs.ByMark.{fits-hp, fits-fu, fits-mm, fits-rq, fits-none, fits-hr, fits-ch, thermal-ad, thermal-th}
+use Rattle.acceptance.proofs.ByMark.{fits-hp, fits-fu, fits-mm, fits-rq, fits-none, fits-hr, fits-ch, fits-fp, thermal-ad, thermal-th}
 use Rattle.acceptance.proofs.Sound.{each-unfit}
 
 -- ---- a record cut from the rest fits as the rest does
@@ -133,13 +133,23 @@ module _ (t : ℕ) (d ix : List ℕ) where
   Looked k n = ((s : List ℕ) → rangesHold k s ≡ true → number 6 (keyWidth k) s ≡ n → fits t k s ≡ true) ⊎ (slotFits t d ix (slot k n) ≡ true)
 
   module _ (known : Known t) (e : allFit t d ix ≡ true) where
+    -- a slot beyond the index is empty
+    no-place : (n : ℕ) → InKey 10 n → eqb t 4 ≡ false → slotFits t d ix (slot 10 n) ≡ true
+    unfolding allFit slotFits low
+    no-place n q z =
+        let w : length ix ≡ 2350 = eqb-true (length ix) 2350 (rw z at (and-left (eqb t 4 || eqb (length ix) 2350) _ e)) in
+        rw (List·getD-eq-default ix 0 {n = slot 10 n} (omega (arith, w, limits 10 n q))) refl
+
+    place-looked : (n : ℕ) → InKey 10 n → Looked 10 n
+    place-looked n q = split (eqb t 4) (λ w. inl (λ s _ _. sym (fits-fp t s known) ∙ w)) (λ w. inr (no-place n q w))
+
     module _ (z : eqb t 1 ≡ true) where
       is-thermal : t ≡ 1
       is-thermal = eqb-true t 1 z
 
       thermal-parts : (slotsFit t d ix 0 1 ≡ true) × (allBelow 4 (λ p. slotsEmpty ix (42 + 20 * p) 4) ≡ true) × (slotsEmpty ix 154 2184 ≡ true)
       unfolding allFit thermalFit
-      thermal-parts = rw is-thermal (three _ _ _ (rw z at e))
+      thermal-parts = rw is-thermal (three _ _ _ (rw z at (and-right (eqb t 4 || eqb (length ix) 2350) _ e)))
 
       -- an AD of cost 5 would stand in one of the slots that are empty
       prorated : (n : ℕ) → InKey 4 n → n / 256 % 256 ≡ 5 → slotFits t d ix (slot 4 n) ≡ true
@@ -154,19 +164,20 @@ module _ (t : ℕ) (d ix : List ℕ) where
           at-mark (λ k. InKey k n → Looked k n) k n p
           (λ q. inr (region 0 1 (slot 1 n) (thermal-parts .0) (omega arith) (omega (arith, limits 1 n q))))
           (λ q. inl (λ s _ _. sym (fits-hp t s known) ∙ z))
-          (λ q. inl (λ s _ _. sym (fits-fu t s known) ∙ rw z refl))
+          (λ q. inl (λ s _ _. sym (fits-fu t s known) ∙ rw is-thermal refl))
           (λ q. split (eqb (n / 256 % 256) 5) (λ w. inr (prorated n q (eqb-true (n / 256 % 256) 5 w))) (λ w. inl (λ s g i. rw is-thermal (thermal-ad s g (λ c. eqb-false (n / 256 % 256) 5 w (sym (ap (λ (x : ℕ). x / 256 % 256) i) ∙ c))))))
           (λ q. inl (λ s _ _. sym (fits-mm t s known) ∙ rw z refl))
           (λ q. inl (λ s _ _. sym (fits-rq t s known)))
           (λ q. inr (empty-fits 154 2184 (slot 7 n) (thermal-parts .2) (omega (arith, limits 7 n q)) (omega (arith, limits 7 n q))))
           (λ q. inr (empty-fits 154 2184 (slot 8 n) (thermal-parts .2) (omega (arith, limits 8 n q)) (omega (arith, limits 8 n q))))
           (λ q. inl (λ s g _. rw is-thermal (thermal-th s g)))
+          (place-looked n)
           p
 
     module _ (z : eqb t 1 ≡ false) where
       other-parts : (slotsFit t d ix 0 138 ≡ true) × (slotsFit t d ix 2338 12 ≡ true) × (slotsEmpty ix 154 (cond (eqb t 3) 0 2184) ≡ true)
       unfolding allFit otherFit
-      other-parts = three _ _ _ (rw z at e)
+      other-parts = three _ _ _ (rw z at (and-right (eqb t 4 || eqb (length ix) 2350) _ e))
 
       priced : eqb t 3 ≡ false → (j : ℕ) → 154 ≤ j → j < 2338 → slotFits t d ix j ≡ true
       priced w j p q = empty-fits 154 2184 j (rw w at (other-parts .2)) p (omega arith)
@@ -184,6 +195,7 @@ module _ (t : ℕ) (d ix : List ℕ) where
           (λ q. split (eqb t 3) (λ w. inl (λ s _ _. sym (fits-hr t s known) ∙ w)) (λ w. inr (priced w (slot 7 n) (omega (arith, limits 7 n q)) (omega (arith, limits 7 n q)))))
           (λ q. split (eqb t 3) (λ w. inl (λ s _ _. sym (fits-ch t s known) ∙ w)) (λ w. inr (priced w (slot 8 n) (omega (arith, limits 8 n q)) (omega (arith, limits 8 n q)))))
           (λ q. inr (region 2338 12 (slot 9 n) (other-parts .1) (omega (arith, limits 9 n q)) (omega (arith, limits 9 n q))))
+          (place-looked n)
           p
         where
           first : (k n : ℕ) → InKey k n → slot k n < 138 → Looked k n
@@ -192,13 +204,13 @@ module _ (t : ℕ) (d ix : List ℕ) where
     looked : (k n : ℕ) → InKey k n → Looked k n
     looked k n p = split (eqb t 1) (λ z. thermal-looked z k n p) (λ z. other-looked z k n p)
 
-    module _ (h : Indexed d ix) (distinct : Distinct (records d)) where
-      slot-record : (r : List ℕ) → fault r ≡ 0 → current (mark r) (keyOf r) (records d) ≡ r → slotFits t d ix (slot (mark r) (keyOf r)) ≡ true → fits t (mark r) r ≡ true
+    module _ (h : Indexed d ix) (complete : Complete d ix) (distinct : Distinct (records d)) where
+      slot-record : (r : List ℕ) → fault r ≡ 0 → slot (mark r) (keyOf r) < length ix → current (mark r) (keyOf r) (records d) ≡ r → slotFits t d ix (slot (mark r) (keyOf r)) ≡ true → fits t (mark r) r ≡ true
       unfolding slotFits
-      slot-record r f c w =
+      slot-record r f i c w =
           let j : ℕ = slot (mark r) (keyOf r) in
           let s : List ℕ = drop (getD ix j 0 - 1) d in
-          let z = part-there d ix j (size (mark r)) r (λ x. faultless r f .known (ap mark x ∙ mark-nil)) (part-current d ix h (mark r) (keyOf r) (in-key r f) refl refl ∙ c) in
+          let z = part-there d ix j (size (mark r)) r (λ x. faultless r f .known (ap mark x ∙ mark-nil)) (part-current d ix h (mark r) (keyOf r) (in-key r f) i refl refl ∙ c) in
           let m : mark s ≡ mark r = sym (mark-take (size (mark r)) s (omega (arith, size-ge (mark r)))) ∙ ap mark (z .1) in
           let g : fits t (mark s) s ≡ true = rw (z .0) at w in
           ap (fits t (mark r)) (sym (z .1)) ∙ fits-take t (mark r) s ∙ ap (λ (x : ℕ). fits t x s) (sym m) ∙ g
@@ -210,12 +222,32 @@ module _ (t : ℕ) (d ix : List ℕ) where
         where
           go : fault r ≡ 0 → Looked (mark r) (keyOf r) → fits t (mark r) r ≡ true
           go f (inl g) = g r (faultless r f .ranges) (unfold keyOf in refl)
-          go f (inr g) = slot-record r f (is-the-current distinct m c) g
+          go f (inr g) = slot-record r f (member-each m complete) (is-the-current distinct m c) g
 
       pub slots-accepted : t ≡ technology (parameters (records d)) → Accepted ≡ unfit t (records d)
       slots-accepted g = sym (rw g (each-unfit (each-member (records d) (λ r m c. rw (← g) (member-fits r m c)))))
 
 -- ---- the tests of slots
+
+-- an index with slots for FP, of another station than a hydroelectric one
+pub other-wide : (t : ℕ) (d ix : List ℕ) → not (eqb t 4) && not (eqb (length ix) 2350) ≡ true → false ≡ allFit t d ix
+unfolding allFit
+other-wide t d ix = go (eqb t 4) (eqb (length ix) 2350)
+  where
+    go : (a b : Bool) → not a && not b ≡ true → false ≡ (a || b) && cond (eqb t 1) (thermalFit d ix) (otherFit t d ix)
+    go true b e = absurd (false≢true e)
+    go false true e = absurd (false≢true e)
+    go false false e = refl
+
+-- and any other
+pub by-station : (t : ℕ) (d ix : List ℕ) → not (eqb t 4) && not (eqb (length ix) 2350) ≡ false → {x : Bool} → x ≡ cond (eqb t 1) (thermalFit d ix) (otherFit t d ix) → x ≡ allFit t d ix
+unfolding allFit
+by-station t d ix h {x = x} f = go (eqb t 4) (eqb (length ix) 2350) h
+  where
+    go : (a b : Bool) → not a && not b ≡ false → x ≡ (a || b) && cond (eqb t 1) (thermalFit d ix) (otherFit t d ix)
+    go true b e = f
+    go false true e = f
+    go false false e = absurd (false≢true (sym e))
 
 module _ (t : ℕ) (d : List ℕ) (v : ℕ) where
   pub held-empty : v ≡ 0 → true ≡ heldFits t d v
@@ -270,28 +302,32 @@ pub unfit-current : (d ix s : List ℕ) (f : Bool) → f ≡ false → {a b : �
 unfolding notFit
 unfit-current d ix s f e w p q r = rw (e, q, r, p, w, and-true (eqb (number 2 4 s) (number 2 4 (partAt d ix (slotAt (mark s) s) (size (mark s)))))) refl
 
--- from place p on the first unfit record is that of the whole, and no record is at fault
-pub record Left (t : ℕ) (d : List ℕ) (p : ℕ) : Type 0 where
+-- from place p on the first unfit record is that of the whole, no record is at fault, and each has a slot
+pub record Left (t : ℕ) (d ix : List ℕ) (p : ℕ) : Type 0 where
   pub answer : firstDrawn (λ q r. refuseIf (isCurrent (records d) r && not (fits t (mark r) r)) 6 q) p (records (drop p d)) ≡ unfit t (records d)
   pub clean : Each (λ r. fault r ≡ 0) (records (drop p d))
+  pub slotted : Each (λ r. slot (mark r) (keyOf r) < length ix) (records (drop p d))
 
-pub begin : (t : ℕ) (d ix : List ℕ) → Indexed d ix → Left t d 0
+pub begin : (t : ℕ) (d ix : List ℕ) → Indexed d ix → Complete d ix → Left t d ix 0
 unfolding unfit
-begin t d ix h = record { answer = refl; clean = scan-each 0 (records d) (h .clean) }
+begin t d ix h c = record { answer = refl; clean = scan-each 0 (records d) (h .clean); slotted = c }
 
-pub finish : (t : ℕ) (d : List ℕ) (p : ℕ) → length d ≤ p → Left t d p → Accepted ≡ unfit t (records d)
+pub finish : (t : ℕ) (d ix : List ℕ) (p : ℕ) → length d ≤ p → Left t d ix p → Accepted ≡ unfit t (records d)
 unfolding firstDrawn records recordsIn
-finish t d p h left = rw (drop-of-length-le d {i = p} h) at (left .answer)
+finish t d ix p h left = rw (drop-of-length-le d {i = p} h) at (left .answer)
 
 both-parts : {P : List ℕ → Type 0} {r : List ℕ} {l : List (List ℕ)} → Each P (r ∷ l) → P r × Each P l
 both-parts (also h e) = (h, e)
 
-module _ (t : ℕ) (d ix : List ℕ) (h : Indexed d ix) (p : ℕ) (inside : p < length d) (left : Left t d p) where
+module _ (t : ℕ) (d ix : List ℕ) (h : Indexed d ix) (p : ℕ) (inside : p < length d) (left : Left t d ix p) where
   step : records (drop p d) ≡ firstOf (drop p d) ∷ records (restOf (drop p d))
   step = records-step (drop p d) (simp length-drop (omega arith))
 
   clean-parts : (fault (firstOf (drop p d)) ≡ 0) × Each (λ r. fault r ≡ 0) (records (restOf (drop p d)))
   clean-parts = both-parts (subst (λ (l : List (List ℕ)). Each (λ r. fault r ≡ 0) l) step (left .clean))
+
+  slot-parts : (slot (mark (firstOf (drop p d))) (keyOf (firstOf (drop p d))) < length ix) × Each (λ r. slot (mark r) (keyOf r) < length ix) (records (restOf (drop p d)))
+  slot-parts = both-parts (subst (λ (l : List (List ℕ)). Each (λ r. slot (mark r) (keyOf r) < length ix) l) step (left .slotted))
 
   its-found : found (drop p d) ≡ Record (mark (drop p d)) (size (mark (drop p d)))
   unfolding found
@@ -301,10 +337,8 @@ module _ (t : ℕ) (d ix : List ℕ) (h : Indexed d ix) (p : ℕ) (inside : p < 
   unfolding firstOf
   its-slot = found-slot (drop p d) (mark (drop p d)) (size (mark (drop p d))) its-found
 
-  pub slot-below : slotAt (mark (take (length d - p) (drop p d))) (take (length d - p) (drop p d)) < 2350
-  slot-below =
-      let r : List ℕ = firstOf (drop p d) in
-      rw (tail d p, ← its-slot) (slot-lt (mark r) (keyOf r) (in-key r (clean-parts .0)))
+  pub slot-below : slotAt (mark (take (length d - p) (drop p d))) (take (length d - p) (drop p d)) < length ix
+  slot-below = rw (tail d p, ← its-slot) (slot-parts .0)
 
   module _ {n : ℕ} (en : n ≡ size (mark (take (length d - p) (drop p d)))) where
     n-is : n ≡ size (mark (drop p d))
@@ -321,7 +355,7 @@ module _ (t : ℕ) (d ix : List ℕ) (h : Indexed d ix) (p : ℕ) (inside : p < 
       part-is : partAt d ix (slotAt (mark (drop p d)) (drop p d)) (size (mark (drop p d))) ≡ current (mark (firstOf (drop p d))) (keyOf (firstOf (drop p d))) (records d)
       part-is =
           let r : List ℕ = firstOf (drop p d) in
-          part-current d ix h (mark r) (keyOf r) (in-key r (clean-parts .0)) (sym its-slot) (ap size (sym (first-mark (drop p d))))
+          part-current d ix h (mark r) (keyOf r) (in-key r (clean-parts .0)) (slot-parts .0) (sym its-slot) (ap size (sym (first-mark (drop p d))))
 
       test : b ≡ isCurrent (records d) (firstOf (drop p d)) && not (fits t (mark (firstOf (drop p d))) (firstOf (drop p d)))
       unfolding isCurrent issue firstOf notFit
@@ -335,7 +369,7 @@ module _ (t : ℕ) (d ix : List ℕ) (h : Indexed d ix) (p : ℕ) (inside : p < 
       unfolding firstDrawn orElse refuseIf
       refuses e = rw (step, sym test ∙ e) at (left .answer)
 
-      pub goes-on : b ≡ false → Left t d (p + n)
+      pub goes-on : b ≡ false → Left t d ix (p + n)
       unfolding firstDrawn orElse refuseIf restOf
       goes-on e =
           let s : List ℕ = drop p d in
@@ -344,4 +378,5 @@ module _ (t : ℕ) (d ix : List ℕ) (h : Indexed d ix) (p : ℕ) (inside : p < 
           (record {
             answer = rw (← drop-drop (size (mark s)) p d) z;
             clean = rw (← drop-drop (size (mark s)) p d) (clean-parts .1);
+            slotted = rw (← drop-drop (size (mark s)) p d) (slot-parts .1);
           })

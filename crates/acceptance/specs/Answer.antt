@@ -12,14 +12,15 @@ use Rattle.records.specs.Dossier.{records}
 use Rattle.station.specs.Current.{readable}
 use Rattle.station.specs.Parameters.{Parameters, parameters, technology}
 use Rattle.acceptance.specs.Fit.{unfit}
-use Rattle.acceptance.specs.Curve.{curveFits, fuelHolds, windowFits}
+use Rattle.acceptance.specs.Curve.{curveFits, fuelHolds, windowFits, forecastFits}
 
--- 7, 8, 9 at "dossier length"
+-- 7, 8, 9 at "dossier length"; 17 is "tried after 9, at the dossier's length"
 unfoldable pub unsupported : Parameters → ℕ → Answer
 unsupported s n =
     orElse (refuseIf (not (curveFits s)) 7 n)
     (orElse (refuseIf (not (fuelHolds s)) 8 n)
-    (refuseIf (not (windowFits s)) 9 n))
+    (orElse (refuseIf (not (windowFits s)) 9 n)
+    (refuseIf (not (forecastFits s)) 17 n)))
 
 -- "13; records in turn with 1, 2, 3; then 4 to 9"; "5 no RS" is at the dossier's length too
 unfoldable pub answer : List ℕ → Answer
@@ -29,6 +30,6 @@ answer d =
     (orElse (unfit (technology (parameters (records d))) (records d))
     (unsupported (parameters (records d)) (length d))))
 
--- "A dossier is accepted if it draws none of 1 to 9 and 13."
+-- "A dossier is accepted if it draws none of 1 to 9 and 13", and with 17 "such a dossier isn't accepted"
 pub record IsAccepted (d : List ℕ) : Type 0 where
   pub clean : answer d ≡ Accepted

@@ -1,9 +1,9 @@
--- 7, 8 and 9: what the parameters of an accepted dossier are like.
+-- 7, 8, 9 and 17: what the parameters of an accepted dossier are like.
 use mathlib.Core.Bool.{Bool, _&&_, _||_, not}
 use Prim.Native.Nat.{ℕ, _+_, _*_, _-_, _/_}
 use lib.Dec.{leb, ltb, eqb}
 use Rattle.lists.specs.Tests.{allTo, countTo}
-use Rattle.records.specs.Table.{thermal, storage, HP, FU, RQ, HR}
+use Rattle.records.specs.Table.{thermal, storage, hydro, HP, FU, RQ, HR, FP}
 use Rattle.station.specs.Parameters.{Parameters, technology, capacity, charge, window, output, heat, requested}
 
 -- how many points there are
@@ -41,3 +41,11 @@ hoursHold s = ltb 0 (fullHours s) && leb (fullHours s) (window s) && allTo (wind
 -- what 9 asks: "for storage", the window
 unfoldable pub windowFits : Parameters → Bool
 windowFits s = not (eqb (technology s) storage) || hoursHold s
+
+-- the window is no "window under 50", and there is no "missing place"
+unfoldable pub placesHold : Parameters → Bool
+placesHold s = leb 50 (window s) && allTo (window s) (s .has FP)
+
+-- what 17 asks: for hydroelectric, the forecast
+unfoldable pub forecastFits : Parameters → Bool
+forecastFits s = not (eqb (technology s) hydro) || placesHold s

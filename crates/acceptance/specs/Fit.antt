@@ -6,7 +6,7 @@ use lib.Dec.{ltb, eqb}
 use lib.ListN.{length}
 use Rattle.lists.specs.Tests.{allBelow, among}
 use Rattle.records.specs.declared.Answer.{Answer}
-use Rattle.records.specs.Table.{Field, rowOf, fieldOf, thermal, nuclear, storage, AD, TH}
+use Rattle.records.specs.Table.{Field, rowOf, fieldOf, thermal, nuclear, storage, hydro, AD, TH}
 use Rattle.records.specs.Record.{mark, issue, keyOf, value}
 use Rattle.records.specs.Answers.{refuseIf}
 use Rattle.records.specs.Dossier.{firstDrawn}
@@ -32,12 +32,12 @@ reserve = 4
 
 -- ---- what a technology may have
 
--- "Thermal has all four levels, nuclear level 1 only, storage 1 and 4"
+-- "Thermal has all four levels, nuclear level 1 only, storage 1 and 4"; of hydroelectric "levels 1 and 4 are held"
 unfoldable pub levelsOf : ℕ → List ℕ
 levelsOf t =
     cond (eqb t thermal) (energy ∷ start ∷ noLoad ∷ reserve ∷ [])
     (cond (eqb t nuclear) (energy ∷ [])
-    (cond (eqb t storage) (energy ∷ reserve ∷ [])
+    (cond (eqb t storage || eqb t hydro) (energy ∷ reserve ∷ [])
     []))
 
 -- whether a technology holds a level
@@ -54,7 +54,7 @@ ruleFits t k r =
     cond (eqb k AD) (holds t (value AD 2 r) && (not (eqb (value AD 1 r) 5) || (eqb t nuclear && eqb (value AD 2 r) energy)))
     (cond (eqb k TH) (holds t (value TH 1 r)) true)
 
--- a record of mark k fits technology t: "HP is thermal only; HR and CH storage only", its fields and its level
+-- a record of mark k fits technology t: "HP is thermal only; HR and CH storage only"; FP is hydroelectric only, its fields and its level
 unfoldable pub fits : ℕ → ℕ → List ℕ → Bool
 fits t k r =
     among t (rowOf k .technologies) && (allBelow (length (rowOf k .fields)) (λ i. fieldFits t (fieldOf k i) (value k i r)) && ruleFits t k r)

@@ -4,21 +4,21 @@ use mathlib.Core.Bool.{Bool, cond, _&&_, _||_, not}
 use mathlib.Core.List.{List}
 use Prim.Native.Nat.{ℕ, _+_, _*_, _-_, _≤_}
 use lib.Dec.{ltb, leb, eqb}
-use lib.ListN.{getD, drop}
+use lib.ListN.{length, getD, drop}
 use Rattle.lists.specs.Tests.{allBelow}
 use Rattle.fields.specs.Numbers.{number}
-use Rattle.records.specs.Table.{thermal, storage, HP, FU, RQ}
+use Rattle.records.specs.Table.{thermal, storage, hydro, HP, FU, RQ}
 use Rattle.records.specs.Record.{mark, size}
-use Rattle.index.specs.Slots.{slotAt}
+use Rattle.index.specs.Slots.{narrow, slotAt}
 use Rattle.lookup.specs.Parts.{partAt}
 use Rattle.station.specs.Parameters.{Parameters, output, heat, requested}
 use Rattle.acceptance.specs.declared.Tried.{Tried}
 use Rattle.acceptance.specs.Fit.{fits}
 use Rattle.acceptance.specs.Curve.{rise}
 
--- one of the three technologies
+-- one of the four technologies
 abbrev pub Known : ℕ → Type 0
-Known t = (1 ≤ t) × (t ≤ 3)
+Known t = (1 ≤ t) × (t ≤ 4)
 
 -- a record's length, and whether it fits
 abbrev pub tried : ℕ → Bool → Tried
@@ -52,9 +52,9 @@ thermalFit d ix = slotsFit thermal d ix 0 1 && allBelow 4 (λ p. slotsEmpty ix (
 unfoldable pub otherFit : ℕ → List ℕ → List ℕ → Bool
 otherFit t d ix = slotsFit t d ix 0 138 && slotsFit t d ix 2338 12 && slotsEmpty ix 154 (cond (eqb t storage) 0 2184)
 
--- every current record fits, as the slots tell
+-- every current record fits, as the slots tell; FP has slots where there is an FP, which fits a hydroelectric station alone
 unfoldable pub allFit : ℕ → List ℕ → List ℕ → Bool
-allFit t d ix = cond (eqb t thermal) (thermalFit d ix) (otherFit t d ix)
+allFit t d ix = (eqb t hydro || eqb (length ix) narrow) && cond (eqb t thermal) (thermalFit d ix) (otherFit t d ix)
 
 -- the record at the front of s has the issue of the current one of its mark and key, and does not fit
 unfoldable pub notFit : List ℕ → List ℕ → List ℕ → Bool → Bool

@@ -10,13 +10,13 @@ use Rattle.records.specs.Record.{mark, fault}
 use Rattle.station.specs.Declared.{Distinct}
 use Rattle.station.specs.Parameters.{parameters, technology}
 use Rattle.acceptance.specs.Fit.{fits, isCurrent}
-use Rattle.acceptance.specs.Curve.{curveFits, fuelHolds, windowFits}
+use Rattle.acceptance.specs.Curve.{curveFits, fuelHolds, windowFits, forecastFits}
 
 -- a record of some fits their technology, if it is current
 abbrev pub FitsIn : List (List ℕ) → List ℕ → Type 0
 FitsIn l r = isCurrent l r ≡ true → fits (technology (parameters l)) (mark r) r ≡ true
 
--- none draws 1 to 3, no two are twins, there is an RS, current ones fit, and 7, 8 and 9 are not drawn
+-- none draws 1 to 3, no two are twins, there is an RS, current ones fit, and 7, 8, 9 and 17 are not drawn
 pub record Sound (l : List (List ℕ)) : Type 0 where
   pub clean : Each (λ r. fault r ≡ 0) l
   pub distinct : Distinct l
@@ -25,3 +25,4 @@ pub record Sound (l : List (List ℕ)) : Type 0 where
   pub curve : curveFits (parameters l) ≡ true
   pub fuel : fuelHolds (parameters l) ≡ true
   pub window : windowFits (parameters l) ≡ true
+  pub forecast : forecastFits (parameters l) ≡ true

@@ -1,12 +1,11 @@
-// Whether a dossier is accepted: 13 and 1 to 9, each with its place. The definitions are in specs/, their laws in proofs/.
+// Whether a dossier is accepted: 13, 1 to 9 and 17, each with its place. The definitions are in specs/, their laws in proofs/.
 pub mod support;
 pub mod technology;
 
 ghost use mathlib.Core.Path.{_≡_};
-ghost use lib.ListN.{replicate};
 ghost use Rattle.records.specs.declared.Answer.the-variants.{Accepted};
 ghost use Rattle.station.specs.Current.{readable};
-ghost use Rattle.lookup.specs.Parts.{Indexed};
+ghost use Rattle.lookup.specs.Parts.{Empty, Indexed, Complete};
 ghost use Rattle.acceptance.specs.Answer.{answer};
 use crate::support::unsupported_of;
 use crate::technology::unfit_of;
@@ -19,9 +18,9 @@ pub struct Tried {
     pub fits: bool,
 }
 
-// 5 to 9, of a dossier that draws none before them.
+// 5 to 9 and 17, of a dossier that draws none before them.
 fn beyond_reading(d: &[u8], index: &[u16]) -> Answer
-    requires { ⌜ Indexed (now d) (now index) × (readable (now d) ≡ Accepted) ⌝ }
+    requires { ⌜ Indexed (now d) (now index) × Complete (now d) (now index) × (readable (now d) ≡ Accepted) ⌝ }
     ensures { λ r. ⌜ r ≡ answer (now (d .entry)) ⌝ }
 {
     let rs = lookup::rs(d, index);
@@ -37,13 +36,27 @@ fn beyond_reading(d: &[u8], index: &[u16]) -> Answer
     }
 }
 
+// The answer to a dossier with an FP: it is read once more, with a slot for every record.
+fn judge_forecast(d: &[u8]) -> Answer
+    ensures { λ r. ⌜ r ≡ answer (now (d .entry)) ⌝ }
+{
+    let mut index = [0u16; 6350];
+    match lookup::open(d, &mut index) {
+        Answer::Accepted => beyond_reading(d, &index),
+        Answer::Refused { number, place } => Answer::Refused { number, place },
+    }
+}
+
 // The answer to a dossier, and its index where it is accepted.
 pub fn judge(d: &[u8], index: &mut [u16]) -> Answer
-    requires { ⌜ now index ≡ replicate 2350 0 ⌝ }
+    requires { ⌜ Empty (now index) ⌝ }
     ensures { λ r. ⌜ (r ≡ answer (now (d .entry))) × (r ≡ Accepted → Indexed (now (d .entry)) (now (index .exit))) ⌝ }
 {
     match lookup::scan(d, index) {
-        Passed::Ended { rising } => {
+        Passed::Ended { rising, complete } => {
+            if !complete {
+                return judge_forecast(d);
+            }
             if rising {
                 return beyond_reading(d, index);
             }

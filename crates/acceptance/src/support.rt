@@ -1,15 +1,15 @@
-// 7, 8 and 9: the curve, the fuel and the window.
+// 7, 8, 9 and 17: the curve, the fuel, the window and the forecast.
 ghost use mathlib.Core.Path.{_≡_};
 ghost use mathlib.Core.Bool.{true};
 ghost use Prim.Native.Nat.{_*_, _-_, _≤_};
 ghost use lib.ListN.{length};
 ghost use Rattle.lists.specs.Tests.{allTo};
-ghost use Rattle.records.specs.Table.{RS, HR};
+ghost use Rattle.records.specs.Table.{RS, HR, FP};
 ghost use Rattle.records.specs.Dossier.{records};
 ghost use Rattle.station.specs.Parameters.{parameters};
-ghost use Rattle.lookup.specs.Parts.{Indexed};
+ghost use Rattle.lookup.specs.Parts.{Indexed, Complete};
 ghost use Rattle.acceptance.specs.Looked.{fuelled};
-ghost use Rattle.acceptance.specs.Curve.{points, curveHolds, curveFits, fuelHolds, windowFits};
+ghost use Rattle.acceptance.specs.Curve.{points, curveHolds, curveFits, fuelHolds, windowFits, forecastFits};
 ghost use Rattle.acceptance.specs.Answer.{unsupported};
 use crate::technology::choose;
 use crate::technology::slots_empty;
@@ -158,9 +158,36 @@ fn window_fits(d: &[u8], index: &[u16]) -> bool
     (0 < hours) & (hours <= (window as u32)) & hours_there(d, index, window as usize)
 }
 
-// 7, 8 and 9.
+// Whether places 1 to n of the forecast are there.
+fn places_there(d: &[u8], index: &[u16], n: usize) -> bool
+    requires { ⌜ Indexed (now d) (now index) × Complete (now d) (now index) × (n ≤ 4000) ⌝ }
+    ensures { λ r. ⌜ r ≡ allTo n (parameters (records (now (d .entry))) .has FP) ⌝ }
+{
+    let mut ok = true;
+    let mut i = 0;
+    while i < n {
+        i += 1;
+        ok = ok & (0 < lookup::fp(d, index, i).len());
+    }
+    ok
+}
+
+// What 17 asks.
+fn forecast_fits(d: &[u8], index: &[u16]) -> bool
+    requires { ⌜ Indexed (now d) (now index) × Complete (now d) (now index) ⌝ }
+    ensures { λ r. ⌜ r ≡ forecastFits (parameters (records (now (d .entry)))) ⌝ }
+{
+    let rs = lookup::rs(d, index);
+    if fields::u8_at(rs, 6) != 4 {
+        return true;
+    }
+    let window = fields::u16_at(rs, 29);
+    (50 <= window) & places_there(d, index, window as usize)
+}
+
+// 7, 8, 9 and 17.
 pub fn unsupported_of(d: &[u8], index: &[u16]) -> Answer
-    requires { ⌜ Indexed (now d) (now index) × (parameters (records (now d)) .has RS 0 ≡ true) ⌝ }
+    requires { ⌜ Indexed (now d) (now index) × Complete (now d) (now index) × (parameters (records (now d)) .has RS 0 ≡ true) ⌝ }
     ensures { λ r. ⌜ r ≡ unsupported (parameters (records (now (d .entry)))) (length (now (d .entry))) ⌝ }
 {
     let place = d.len();
@@ -172,6 +199,9 @@ pub fn unsupported_of(d: &[u8], index: &[u16]) -> Answer
     }
     if !window_fits(d, index) {
         return Answer::Refused { number: 9, place };
+    }
+    if !forecast_fits(d, index) {
+        return Answer::Refused { number: 17, place };
     }
     Answer::Accepted
 }

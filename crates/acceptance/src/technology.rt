@@ -6,11 +6,11 @@ ghost use lib.Dec.{ltb, eqb};
 ghost use lib.ListN.{length};
 ghost use Rattle.records.specs.declared.Answer.the-variants.{Accepted};
 ghost use Rattle.records.specs.Record.{mark, size};
-ghost use Rattle.index.specs.Slots.{slotAt};
+ghost use Rattle.index.specs.Slots.{narrow, slotAt};
 ghost use Rattle.records.specs.Dossier.{records};
 ghost use Rattle.station.specs.Current.{readable};
 ghost use Rattle.station.specs.Parameters.{parameters, technology};
-ghost use Rattle.lookup.specs.Parts.{Indexed};
+ghost use Rattle.lookup.specs.Parts.{Indexed, Complete};
 ghost use Rattle.acceptance.specs.Fit.{fits, holds, unfit};
 ghost use Rattle.acceptance.specs.Looked.{Known, tried, triedAs, heldFits, slotsFit, slotsEmpty, thermalFit, otherFit, allFit, notFit};
 use crate::Tried;
@@ -22,7 +22,7 @@ pub fn level_held(t: u8, level: u8) -> bool
 {
     (t == 1) & ((level == 1) | (level == 2) | (level == 3) | (level == 4))
         | (t == 2) & (level == 1)
-        | (t == 3) & ((level == 1) | (level == 4))
+        | ((t == 3) | (t == 4)) & ((level == 1) | (level == 4))
 }
 
 // A field that is used is above 0 where it must be; any other is 0.
@@ -43,7 +43,15 @@ fn rs_fits(t: u8, s: &[u8]) -> bool
         & field_fits(t == 2, true, fields::u32_at(s, 19))
         & field_fits(t == 3, true, fields::u32_at(s, 23))
         & field_fits(t == 3, true, fields::u16_at(s, 27) as u32)
-        & field_fits(t == 3, true, fields::u16_at(s, 29) as u32)
+        & field_fits((t == 3) | (t == 4), true, fields::u16_at(s, 29) as u32)
+}
+
+// FU: a hydroelectric station has no fuel, and emission is thermal.
+fn fu_fits(t: u8, s: &[u8]) -> bool
+    requires { ⌜ Known t ⌝ }
+    ensures { λ r. ⌜ r ≡ fits t 3 (now (s .entry)) ⌝ }
+{
+    ((t != 4) | (fields::u32_at(s, 7) == 0)) & ((t == 1) | (fields::u32_at(s, 11) == 0))
 }
 
 // AD: its level is held, and cost 5 is nuclear and level 1.
@@ -81,13 +89,16 @@ fn tried_at(t: u8, s: &[u8]) -> Tried
         return trial(records::TH.length, level_held(t, fields::u8_at(s, 7)));
     }
     if k == 3 {
-        return trial(records::FU.length, (t == 1) | (fields::u32_at(s, 11) == 0));
+        return trial(records::FU.length, fu_fits(t, s));
     }
     if k == 7 {
         return trial(records::HR.length, t == 3);
     }
     if k == 8 {
         return trial(records::CH.length, t == 3);
+    }
+    if k == 10 {
+        return trial(records::FP.length, t == 4);
     }
     if k == 6 {
         return trial(records::RQ.length, true);
@@ -152,7 +163,7 @@ pub fn slots_empty(index: &[u16], j: usize, n: usize) -> bool
 
 // Whether the index shows that every current record fits a thermal station: AD of cost 5 has four slots in each of four profiles.
 fn thermal_fit(d: &[u8], index: &[u16]) -> bool
-    requires { ⌜ length (now index) ≡ 2350 ⌝ }
+    requires { ⌜ narrow ≤ length (now index) ⌝ }
     ensures { λ r. ⌜ r ≡ thermalFit (now (d .entry)) (now (index .entry)) ⌝ }
 {
     slots_fit(d, index, 1, 0, 1)
@@ -165,7 +176,7 @@ fn thermal_fit(d: &[u8], index: &[u16]) -> bool
 
 // The same of any other station.
 fn other_fit(d: &[u8], index: &[u16], t: u8) -> bool
-    requires { ⌜ Known t × (length (now index) ≡ 2350) ⌝ }
+    requires { ⌜ Known t × (narrow ≤ length (now index)) ⌝ }
     ensures { λ r. ⌜ r ≡ otherFit t (now (d .entry)) (now (index .entry)) ⌝ }
 {
     let priced = choose(t == 3, 0, 2184);
@@ -174,11 +185,14 @@ fn other_fit(d: &[u8], index: &[u16], t: u8) -> bool
         & slots_empty(index, 154, priced)
 }
 
-// The same of every station.
+// The same of every station. An index has slots for FP where there is one, and only a hydroelectric station may have it.
 fn all_fit(d: &[u8], index: &[u16], t: u8) -> bool
-    requires { ⌜ Known t × (length (now index) ≡ 2350) ⌝ }
+    requires { ⌜ Known t × (narrow ≤ length (now index)) ⌝ }
     ensures { λ r. ⌜ r ≡ allFit t (now (d .entry)) (now (index .entry)) ⌝ }
 {
+    if (t != 4) & (index.len() != 2350) {
+        return false;
+    }
     if t == 1 {
         return thermal_fit(d, index);
     }
@@ -200,7 +214,7 @@ fn not_fit(d: &[u8], index: &[u16], s: &[u8], fits: bool) -> bool
 
 // The first record that is current and does not fit.
 fn first_unfit(d: &[u8], index: &[u16], t: u8) -> Answer
-    requires { ⌜ Indexed (now d) (now index) × Known t ⌝ }
+    requires { ⌜ Indexed (now d) (now index) × Complete (now d) (now index) × Known t ⌝ }
     ensures { λ r. ⌜ r ≡ unfit t (records (now (d .entry))) ⌝ }
 {
     let mut at = 0;
@@ -220,7 +234,7 @@ fn first_unfit(d: &[u8], index: &[u16], t: u8) -> Answer
 
 // 6. Most dossiers have no unfit record, which the index tells; a short one is gone through sooner than the index.
 pub fn unfit_of(d: &[u8], index: &[u16], t: u8) -> Answer
-    requires { ⌜ Indexed (now d) (now index) × (readable (now d) ≡ Accepted) × Known t × (t ≡ technology (parameters (records (now d)))) ⌝ }
+    requires { ⌜ Indexed (now d) (now index) × Complete (now d) (now index) × (readable (now d) ≡ Accepted) × Known t × (t ≡ technology (parameters (records (now d)))) ⌝ }
     ensures { λ r. ⌜ r ≡ unfit t (records (now (d .entry))) ⌝ }
 {
     if 200 < d.len() && all_fit(d, index, t) {

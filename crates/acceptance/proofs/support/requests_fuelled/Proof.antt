@@ -6,7 +6,6 @@ use Rattle.records.specs.Table.{RQ}
 use Rattle.records.specs.Dossier.{records}
 use Rattle.station.specs.Parameters.{parameters}
 use Rattle.index.specs.Slots.{slot}
-use Rattle.lookup.proofs.Parts.{index-length}
 use Rattle.acceptance.specs.Looked.{fuelled}
 use Rattle.acceptance.proofs.Curve.{to-next, requests-none}
 use Rattle.acceptance.proofs.support.requests_fuelled.Statement.{statement}
@@ -26,7 +25,7 @@ slot-rq-requires : tie.Need-slot-rq-requires Inv-loop μ-loop
 slot-rq-requires c κs = omega arith
 
 slots-empty-requires : tie.Need-slots-empty-requires Inv-loop μ-loop
-slots-empty-requires c κs = omega (arith, index-length _ _ (c .before .before .before .pre), c .slot-rq .ensures, at-one)
+slots-empty-requires c κs = omega (arith, c .before .before .before .pre .roomy, c .slot-rq .ensures, at-one)
 
 returns : tie.Need-returns Inv-loop μ-loop
 returns c = requests-none _ _ (c .before .before .before .before .before .pre) (c .before .before .slot-rq .ensures) (sym (c .before .slots-empty .ensures) ∙ c .if1 .taken)

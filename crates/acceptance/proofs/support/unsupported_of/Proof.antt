@@ -1,4 +1,4 @@
-use Rattle.acceptance.proofs.Answers.{draws-7, draws-8, draws-9, draws-none}
+use Rattle.acceptance.proofs.Answers.{draws-7, draws-8, draws-9, draws-17, draws-none}
 use borrow.Author.Tests.{not-true, not-false}
 use mathlib.Core.Path.{sym, _∙_}
 use borrow.Author.Needs.{needs}
@@ -23,8 +23,14 @@ window-fits-requires c κs = search needs
 returns-3 : tie.Need-returns-3
 returns-3 c = draws-9 _ _ (sym (not-false _ (c .before .before .before .before .if1 .left)) ∙ c .before .before .before .before .before .curve-fits .ensures) (sym (not-false _ (c .before .before .if2 .left)) ∙ c .before .before .before .fuel-holds .ensures) (sym (not-true _ (c .if3 .taken)) ∙ c .before .window-fits .ensures)
 
+forecast-fits-requires : tie.Need-forecast-fits-requires
+forecast-fits-requires c κs = search needs
+
 returns-4 : tie.Need-returns-4
-returns-4 c = draws-none _ _ (sym (not-false _ (c .before .before .before .before .if1 .left)) ∙ c .before .before .before .before .before .curve-fits .ensures) (sym (not-false _ (c .before .before .if2 .left)) ∙ c .before .before .before .fuel-holds .ensures) (sym (not-false _ (c .if3 .left)) ∙ c .before .window-fits .ensures)
+returns-4 c = draws-17 _ _ (sym (not-false _ (c .before .before .before .before .before .before .if1 .left)) ∙ c .before .before .before .before .before .before .before .curve-fits .ensures) (sym (not-false _ (c .before .before .before .before .if2 .left)) ∙ c .before .before .before .before .before .fuel-holds .ensures) (sym (not-false _ (c .before .before .if3 .left)) ∙ c .before .before .before .window-fits .ensures) (sym (not-true _ (c .if4 .taken)) ∙ c .before .forecast-fits .ensures)
+
+returns-5 : tie.Need-returns-5
+returns-5 c = draws-none _ _ (sym (not-false _ (c .before .before .before .before .before .before .if1 .left)) ∙ c .before .before .before .before .before .before .before .curve-fits .ensures) (sym (not-false _ (c .before .before .before .before .if2 .left)) ∙ c .before .before .before .before .before .fuel-holds .ensures) (sym (not-false _ (c .before .before .if3 .left)) ∙ c .before .before .before .window-fits .ensures) (sym (not-false _ (c .if4 .left)) ∙ c .before .forecast-fits .ensures)
 
 pub unsupported-of-spec : {M : Type 1} → statement M
 unsupported-of-spec =
@@ -36,4 +42,6 @@ unsupported-of-spec =
     returns-2
     window-fits-requires
     returns-3
-    returns-4)
+    forecast-fits-requires
+    returns-4
+    returns-5)

@@ -1,4 +1,4 @@
-use Rattle.acceptance.proofs.Curve.{window-none, window-whole, capacity-ge, window-le}
+use Rattle.acceptance.proofs.Curve.{window-none, window-whole, capacity-ge, storage-window}
 use Rattle.station.proofs.Fields.{technology-at, capacity-at, charge-at, window-at}
 use Rattle.fields.specs.Numbers.{number}
 use Rattle.station.specs.Parameters.{parameters}
@@ -41,7 +41,11 @@ cast-hours-there : tie.Need-cast-hours-there
 cast-hours-there c = search needs
 
 hours-there-requires : tie.Need-hours-there-requires
-hours-there-requires c κs = (c .before .before .before .before .before .before .before .before .pre .0, omega (arith, window-le _ _ (c .before .before .before .before .before .before .before .before .pre .0), c .u16-at2 .ensures ∙ ap (number 29 2) (c .before .before .before .before .before .rs .ensures) ∙ sym (window-at (records (c .before .before .before .before .before .before .before .before .args .d .now)))))
+hours-there-requires c κs =
+    let s = c .before .before .before .before .before .before .before .before in
+    let l = records (s .args .d .now) in
+    let t = c .before .before .before .before .u8-at .ensures ∙ ap (number 6 1) (c .before .before .before .before .before .rs .ensures) ∙ sym (technology-at l) in
+    (s .pre .0, omega (arith, storage-window _ _ (s .pre .0) (sym t ∙ c .before .before .before .if1 .left), c .u16-at2 .ensures ∙ ap (number 29 2) (c .before .before .before .before .before .rs .ensures) ∙ sym (window-at l)))
 
 returns-2 : tie.Need-returns-2
 returns-2 c = window-whole (parameters (records (c .before .before .before .before .before .before .before .before .before .args .d .now))) _ (c .before .before .before .before .before .u8-at .ensures ∙ ap (number 6 1) (c .before .before .before .before .before .before .rs .ensures) ∙ sym (technology-at (records (c .before .before .before .before .before .before .before .before .before .args .d .now)))) (c .before .before .before .before .if1 .left) (c .before .before .before .u32-at .ensures ∙ ap (number 23 4) (c .before .before .before .before .before .before .rs .ensures) ∙ sym (charge-at (records (c .before .before .before .before .before .before .before .before .before .args .d .now)))) (c .before .before .u16-at .ensures ∙ ap (number 7 2) (c .before .before .before .before .before .before .rs .ensures) ∙ sym (capacity-at (records (c .before .before .before .before .before .before .before .before .before .args .d .now)))) refl (c .before .u16-at2 .ensures ∙ ap (number 29 2) (c .before .before .before .before .before .before .rs .ensures) ∙ sym (window-at (records (c .before .before .before .before .before .before .before .before .before .args .d .now)))) (c .hours-there .ensures)

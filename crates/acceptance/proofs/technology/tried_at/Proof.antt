@@ -2,10 +2,10 @@ use mathlib.Core.Bool.{_||_}
 use Prim.Native.Nat.{ℕ, _<_}
 use lib.Dec.{eqb}
 use Rattle.index.proofs.Slots.{mark-lt}
-use Rattle.records.proofs.Record.{no-size}
-use Rattle.records.proofs.Record.{rs-size, hp-size, fu-size, ad-size, mm-size, rq-size, hr-size, ch-size, th-size}
+use Rattle.records.specs.Table.{kinds}
+use Rattle.records.proofs.Record.{no-size, rs-size, hp-size, fu-size, ad-size, mm-size, rq-size, hr-size, ch-size, th-size, fp-size}
 use Rattle.acceptance.specs.Fit.{holds}
-use Rattle.acceptance.proofs.ByMark.{at-mark, no-mark, fits-mm, fits-hp, fits-th, fits-fu, fits-hr, fits-ch, fits-rq, fits-none}
+use Rattle.acceptance.proofs.ByMark.{at-mark, no-mark, fits-mm, fits-hp, fits-th, fits-hr, fits-ch, fits-fp, fits-rq, fits-none}
 use mathlib.Core.Path.{ap, sym, subst, _∙_}
 use borrow.Author.Needs.{needs}
 use Rattle.acceptance.proofs.technology.tried_at.Statement.{statement}
@@ -50,14 +50,14 @@ trial-requires-4 c κs = search needs
 returns-4 : tie.Need-returns-4
 returns-4 c = c .trial4 .ensures ∙ at-mark _ _ 9 _ _ th-size (c .before .level-held .ensures ∙ ap (holds _) (c .before .before .u8-at .ensures) ∙ fits-th _ _ (c .before .before .before .before .before .before .before .before .before .pre)) (c .before .before .before .before .before .before .before .kind-at .ensures) (c .before .before .before .if4 .taken)
 
-u32-at-requires : tie.Need-u32-at-requires
-u32-at-requires c κs = search needs
+fu-fits-requires : tie.Need-fu-fits-requires
+fu-fits-requires c κs = search needs
 
 trial-requires-5 : tie.Need-trial-requires-5
 trial-requires-5 c κs = search needs
 
 returns-5 : tie.Need-returns-5
-returns-5 c = c .trial5 .ensures ∙ at-mark _ _ 3 _ _ fu-size (ap (λ (x : ℕ). eqb (c .before .before .before .before .before .before .before .before .before .args .t) 1 || eqb x 0) (c .before .u32-at .ensures) ∙ fits-fu _ _ (c .before .before .before .before .before .before .before .before .before .pre)) (c .before .before .before .before .before .before .before .kind-at .ensures) (c .before .before .if5 .taken)
+returns-5 c = c .trial5 .ensures ∙ at-mark _ _ 3 _ _ fu-size (c .before .fu-fits .ensures) (c .before .before .before .before .before .before .before .kind-at .ensures) (c .before .before .if5 .taken)
 
 trial-requires-6 : tie.Need-trial-requires-6
 trial-requires-6 c κs = search needs
@@ -75,22 +75,28 @@ trial-requires-8 : tie.Need-trial-requires-8
 trial-requires-8 c κs = search needs
 
 returns-8 : tie.Need-returns-8
-returns-8 c = c .trial8 .ensures ∙ at-mark _ _ 6 _ _ rq-size (fits-rq _ _ (c .before .before .before .before .before .before .before .before .before .before .before .pre)) (c .before .before .before .before .before .before .before .before .before .kind-at .ensures) (c .before .if8 .taken)
-
-rs-fits-requires : tie.Need-rs-fits-requires
-rs-fits-requires c κs = search needs
+returns-8 c = c .trial8 .ensures ∙ at-mark _ _ 10 _ _ fp-size (fits-fp _ _ (c .before .before .before .before .before .before .before .before .before .before .before .pre)) (c .before .before .before .before .before .before .before .before .before .kind-at .ensures) (c .before .if8 .taken)
 
 trial-requires-9 : tie.Need-trial-requires-9
 trial-requires-9 c κs = search needs
 
 returns-9 : tie.Need-returns-9
-returns-9 c = c .trial9 .ensures ∙ at-mark _ _ 1 _ _ rs-size (c .before .rs-fits .ensures) (c .before .before .before .before .before .before .before .before .before .before .before .kind-at .ensures) (c .before .before .if9 .taken)
+returns-9 c = c .trial9 .ensures ∙ at-mark _ _ 6 _ _ rq-size (fits-rq _ _ (c .before .before .before .before .before .before .before .before .before .before .before .before .pre)) (c .before .before .before .before .before .before .before .before .before .before .kind-at .ensures) (c .before .if9 .taken)
+
+rs-fits-requires : tie.Need-rs-fits-requires
+rs-fits-requires c κs = search needs
 
 trial-requires-10 : tie.Need-trial-requires-10
 trial-requires-10 c κs = search needs
 
 returns-10 : tie.Need-returns-10
-returns-10 c = c .trial10 .ensures ∙ at-mark _ _ 0 _ _ no-size (fits-none _ _ (c .before .before .before .before .before .before .before .before .before .before .before .before .pre)) (c .before .before .before .before .before .before .before .before .before .before .kind-at .ensures) (no-mark _ (c .before .if9 .left) (c .before .before .before .before .before .before .before .if3 .left) (c .before .before .before .before .before .if5 .left) (c .before .before .before .before .before .before .before .before .before .if1 .left) (c .before .before .before .before .before .before .before .before .if2 .left) (c .before .before .if8 .left) (c .before .before .before .before .if6 .left) (c .before .before .before .if7 .left) (c .before .before .before .before .before .before .if4 .left) (subst (λ (x : ℕ). x < 10) (sym (c .before .before .before .before .before .before .before .before .before .before .kind-at .ensures)) (mark-lt _)))
+returns-10 c = c .trial10 .ensures ∙ at-mark _ _ 1 _ _ rs-size (c .before .rs-fits .ensures) (c .before .before .before .before .before .before .before .before .before .before .before .before .kind-at .ensures) (c .before .before .if10 .taken)
+
+trial-requires-11 : tie.Need-trial-requires-11
+trial-requires-11 c κs = search needs
+
+returns-11 : tie.Need-returns-11
+returns-11 c = c .trial11 .ensures ∙ at-mark _ _ 0 _ _ no-size (fits-none _ _ (c .before .before .before .before .before .before .before .before .before .before .before .before .before .pre)) (c .before .before .before .before .before .before .before .before .before .before .before .kind-at .ensures) (no-mark _ (c .before .if10 .left) (c .before .before .before .before .before .before .before .before .if3 .left) (c .before .before .before .before .before .before .if5 .left) (c .before .before .before .before .before .before .before .before .before .before .if1 .left) (c .before .before .before .before .before .before .before .before .before .if2 .left) (c .before .before .if9 .left) (c .before .before .before .before .before .if6 .left) (c .before .before .before .before .if7 .left) (c .before .before .before .before .before .before .before .if4 .left) (c .before .before .before .if8 .left) (subst (λ (x : ℕ). x < kinds) (sym (c .before .before .before .before .before .before .before .before .before .before .before .kind-at .ensures)) (mark-lt _)))
 
 pub tried-at-spec : {M : Type 1} → statement M
 tried-at-spec =
@@ -109,7 +115,7 @@ tried-at-spec =
     level-held-requires
     trial-requires-4
     returns-4
-    u32-at-requires
+    fu-fits-requires
     trial-requires-5
     returns-5
     trial-requires-6
@@ -118,8 +124,10 @@ tried-at-spec =
     returns-7
     trial-requires-8
     returns-8
-    rs-fits-requires
     trial-requires-9
     returns-9
+    rs-fits-requires
     trial-requires-10
-    returns-10)
+    returns-10
+    trial-requires-11
+    returns-11)

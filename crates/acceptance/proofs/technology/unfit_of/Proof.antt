@@ -1,15 +1,14 @@
 use Rattle.acceptance.proofs.Unfit.{slots-accepted, readable-distinct}
-use Rattle.lookup.proofs.Parts.{index-length}
 use mathlib.Core.Path.{sym, _∙_}
 use borrow.Author.Needs.{needs}
 use Rattle.acceptance.proofs.technology.unfit_of.Statement.{statement}
 use Rattle.acceptance.proofs.technology.unfit_of.Tie as tie
 
 all-fit-requires : tie.Need-all-fit-requires
-all-fit-requires c κs = (c .before .before .before .pre .2, index-length _ _ (c .before .before .before .pre .0))
+all-fit-requires c κs = (c .before .before .before .pre .3, c .before .before .before .pre .0 .roomy)
 
 returns : tie.Need-returns
-returns c = slots-accepted (c .before .before .before .before .before .args .t) (c .before .before .before .before .before .args .d .now) (c .before .before .before .before .before .args .index .now) (c .before .before .before .before .before .pre .2) (sym (c .before .all-fit .ensures) ∙ c .if2 .taken) (c .before .before .before .before .before .pre .0) (readable-distinct _ (c .before .before .before .before .before .pre .1)) (c .before .before .before .before .before .pre .3)
+returns c = slots-accepted (c .before .before .before .before .before .args .t) (c .before .before .before .before .before .args .d .now) (c .before .before .before .before .before .args .index .now) (c .before .before .before .before .before .pre .3) (sym (c .before .all-fit .ensures) ∙ c .if2 .taken) (c .before .before .before .before .before .pre .0) (c .before .before .before .before .before .pre .1) (readable-distinct _ (c .before .before .before .before .before .pre .2)) (c .before .before .before .before .before .pre .4)
 
 first-unfit-requires : tie.Need-first-unfit-requires
 first-unfit-requires c κs = search needs
