@@ -1,8 +1,8 @@
 use borrow.Author.Needs.{needs}
 use mathlib.Core.Path.{refl}
 use Rattle.fields.specs.Numbers.{biased}
-use Rattle.reference.proofs.arithmetic.biased.Statement.{statement}
-use Rattle.reference.proofs.arithmetic.biased.Tie as tie
+use Rattle.arithmetic.proofs.biased.Statement.{statement}
+use Rattle.arithmetic.proofs.biased.Tie as tie
 
 add-result : tie.Need-add-result
 add-result c = search needs

@@ -1,10 +1,10 @@
 use borrow.Author.Needs.{needs}
 use Prim.Native.Nat.{_+_, _-_, _/_, _≤_}
 use native.Mathlib.Omega.{arith}
-use Rattle.reference.specs.Highest.{above, atLeast}
-use Rattle.reference.proofs.Selection.{above-next, threshold-met}
-use Rattle.reference.proofs.highest.threshold.Statement.{statement}
-use Rattle.reference.proofs.highest.threshold.Tie as tie
+use Rattle.arithmetic.specs.Highest.{above, atLeast}
+use Rattle.arithmetic.proofs.Selection.{above-next, threshold-met}
+use Rattle.arithmetic.proofs.highest.threshold.Statement.{statement}
+use Rattle.arithmetic.proofs.highest.threshold.Tie as tie
 
 abbrev Inv-loop : tie.InvT-loop
 Inv-loop s n low high lo₀ hi₀ lo hi = (lo ≤ hi) × (hi ≤ high) × (n ≤ atLeast lo s) × (above hi s ≤ n)

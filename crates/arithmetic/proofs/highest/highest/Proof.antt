@@ -2,9 +2,9 @@ use borrow.Author.Needs.{needs}
 use Prim.Native.Nat.{_*_, _≤_}
 use native.Mathlib.Nat.{mul-le-mul}
 use native.Mathlib.Omega.{arith}
-use Rattle.reference.proofs.Selection.{none-above, all-least, highest-sum}
-use Rattle.reference.proofs.highest.highest.Statement.{statement}
-use Rattle.reference.proofs.highest.highest.Tie as tie
+use Rattle.arithmetic.proofs.Selection.{none-above, all-least, highest-sum}
+use Rattle.arithmetic.proofs.highest.highest.Statement.{statement}
+use Rattle.arithmetic.proofs.highest.highest.Tie as tie
 
 threshold-requires : tie.Need-threshold-requires
 threshold-requires c κs = (omega arith, omega (arith, all-least (c .before .pre .2)), omega (arith, none-above (c .before .pre .2)))

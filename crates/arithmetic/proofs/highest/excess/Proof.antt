@@ -4,9 +4,9 @@ use Prim.Native.Nat.{_+_, _*_, _≤_, _-_}
 use native.Mathlib.Omega.{arith}
 use lib.ListN.{length, drop}
 use Rattle.formulas.specs.Sums.{sumOf}
-use Rattle.reference.proofs.Selection.{sum-turn, sum-end}
-use Rattle.reference.proofs.highest.excess.Statement.{statement}
-use Rattle.reference.proofs.highest.excess.Tie as tie
+use Rattle.arithmetic.proofs.Selection.{sum-turn, sum-end}
+use Rattle.arithmetic.proofs.highest.excess.Statement.{statement}
+use Rattle.arithmetic.proofs.highest.excess.Tie as tie
 
 abbrev Inv-loop : tie.InvT-loop
 Inv-loop s v sum₀ k₀ sum k = (k ≤ length s) × (sum ≤ k * 4294967295) × (sum + sumOf (λ x. x - v) (drop k s) ≡ sumOf (λ x. x - v) s)

@@ -13,7 +13,7 @@ use lib.Seq.{drop-cons}
 use borrow.Author.Tests.{ltb-false, lt-ltb, le-ltb, le-leb, lt-leb}
 use Rattle.lists.specs.Lists.{Each, done, also}
 use Rattle.formulas.specs.Sums.{sumOf, falling, sumFirst, sumHighest}
-use Rattle.reference.specs.Highest.{above, atLeast, excess, Threshold, PriceIn}
+use Rattle.arithmetic.specs.Highest.{above, atLeast, excess, Threshold, PriceIn}
 use Rattle.formulas.proofs.Sums.{Falls, falling-falls, falling-sum}
 
 -- ---- a loop that adds up f of each element

@@ -3,8 +3,8 @@ use mathlib.Core.Path.{ap₂}
 use Prim.Native.Nat.{ℕ, _+_}
 use native.Mathlib.Nat.{mul-le-mul}
 use native.Mathlib.Omega.{arith}
-use Rattle.reference.proofs.arithmetic.rise_cost.Statement.{statement}
-use Rattle.reference.proofs.arithmetic.rise_cost.Tie as tie
+use Rattle.arithmetic.proofs.rise_cost.Statement.{statement}
+use Rattle.arithmetic.proofs.rise_cost.Tie as tie
 
 mul-share : tie.Need-mul-share
 mul-share c = omega (arith, mul-le-mul (c .pre .0) (c .pre .2))

@@ -2,8 +2,8 @@ use mathlib.Core.Path.{refl}
 use native.Mathlib.Nat.{mul-le-mul}
 use native.Mathlib.Omega.{arith}
 use Rattle.formulas.specs.Exact.{quotient}
-use Rattle.reference.proofs.arithmetic.heat_cost.Statement.{statement}
-use Rattle.reference.proofs.arithmetic.heat_cost.Tie as tie
+use Rattle.arithmetic.proofs.heat_cost.Statement.{statement}
+use Rattle.arithmetic.proofs.heat_cost.Tie as tie
 
 mul-result : tie.Need-mul-result
 mul-result c = omega (arith, mul-le-mul (c .pre .0) (c .pre .1))

@@ -7,9 +7,9 @@ use lib.Dec.{ltb}
 use lib.ListN.{length, getD, drop}
 use Rattle.formulas.specs.Sums.{sumOf}
 use Rattle.formulas.proofs.Sums.{one-if, one-high}
-use Rattle.reference.proofs.Selection.{sum-turn, sum-end}
-use Rattle.reference.proofs.highest.above.Statement.{statement}
-use Rattle.reference.proofs.highest.above.Tie as tie
+use Rattle.arithmetic.proofs.Selection.{sum-turn, sum-end}
+use Rattle.arithmetic.proofs.highest.above.Statement.{statement}
+use Rattle.arithmetic.proofs.highest.above.Tie as tie
 
 abbrev Inv-loop : tie.InvT-loop
 Inv-loop s v n₀ k₀ n k = (k ≤ length s) × (n ≤ k) × (n + sumOf (λ x. cond (ltb v x) 1 0) (drop k s) ≡ sumOf (λ x. cond (ltb v x) 1 0) s)

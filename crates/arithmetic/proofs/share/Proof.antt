@@ -3,8 +3,8 @@ use mathlib.Core.Path.{refl}
 use native.Mathlib.Nat.{div-le-self, div-zero}
 use native.Mathlib.Omega.{arith}
 use Rattle.formulas.specs.Exact.{quotient}
-use Rattle.reference.proofs.arithmetic.share.Statement.{statement}
-use Rattle.reference.proofs.arithmetic.share.Tie as tie
+use Rattle.arithmetic.proofs.share.Statement.{statement}
+use Rattle.arithmetic.proofs.share.Tie as tie
 
 div-result : tie.Need-div-result
 div-result c = search needs

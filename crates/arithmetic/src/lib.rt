@@ -1,8 +1,10 @@
 // The paper's formulas over plain numbers; each division drops its fraction.
+pub mod highest;
+
 ghost use mathlib.Core.Path.{_≡_};
 ghost use Prim.Native.Nat.{_+_, _*_, _-_, _≤_, max};
 ghost use Rattle.fields.specs.Numbers.{biased};
-ghost use Rattle.formulas.specs.Exact.{quotient};
+ghost use Rattle.formulas.specs.Exact.{quotient, cents};
 
 // One number over another; 0 where the divisor is 0.
 pub fn share(n: u64, by: u64) -> u64
@@ -46,4 +48,27 @@ pub fn biased(v: u32) -> u32
     ensures { λ r. ⌜ r ≡ biased v ⌝ }
 {
     ((v as u64 + 2147483648) % 4294967296) as u32
+}
+
+// An amount of money in whole cents.
+pub struct Money {
+    pub cents: u64,
+}
+
+impl Money {
+    // Micro-dollars in a cent.
+    pub const PER_CENT: u64 = 10000;
+
+    // A finished sum of micro-dollars, rounded to cents, half up. The sum plus half a cent might not fit, so the
+    // remainder decides.
+    pub fn from_sum(sum: u64) -> Self
+        ensures { λ r. ⌜ r .cents ≡ cents sum ⌝ }
+    {
+        let whole = sum / Self::PER_CENT;
+        if sum % Self::PER_CENT < Self::PER_CENT / 2 {
+            Self { cents: whole }
+        } else {
+            Self { cents: whole + 1 }
+        }
+    }
 }

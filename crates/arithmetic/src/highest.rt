@@ -4,8 +4,8 @@ ghost use Prim.Native.Nat.{_*_, _≤_};
 ghost use lib.ListN.{length};
 ghost use Rattle.lists.specs.Lists.{Each};
 ghost use Rattle.formulas.specs.Sums.{sumHighest};
-ghost use Rattle.reference.specs.Highest.{above, atLeast, excess, Threshold, PriceIn};
-use crate::arithmetic::less;
+ghost use Rattle.arithmetic.specs.Highest.{above, atLeast, excess, Threshold, PriceIn};
+use crate::less;
 
 // How many are above v.
 fn above(s: &[u32], v: u32) -> usize
