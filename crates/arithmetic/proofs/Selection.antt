@@ -1,8 +1,8 @@
--- The sum of the n highest, by a threshold.
+-- The sum of the n highest and the n-th, by a threshold.
 use mathlib.Core.Path.{_≡_, refl, _∙_}
 use mathlib.Core.Bool.{Bool, true, false, cond}
 use mathlib.Core.List.{List, [], _∷_}
-use Prim.Native.Nat.{ℕ, zero, suc, _+_, _*_, _-_, _≤_, _<_, max}
+use Prim.Native.Nat.{ℕ, zero, suc, _+_, _*_, _-_, _≤_, _<_}
 use native.Mathlib.Decide.{decLe}
 use native.Mathlib.Nat.{le-refl}
 use native.Mathlib.Numerals.{add-one}
@@ -10,11 +10,11 @@ use native.Mathlib.Omega.{arith}
 use lib.Dec.{leb, ltb}
 use lib.ListN.{length, getD, drop, drop-of-length-le}
 use lib.Seq.{drop-cons}
-use borrow.Author.Tests.{ltb-false, lt-ltb, le-ltb, le-leb, lt-leb}
+use borrow.Author.Tests.{ltb-false}
 use Rattle.lists.specs.Lists.{Each, done, also}
-use Rattle.formulas.specs.Sums.{sumOf, falling, sumFirst, sumHighest}
-use Rattle.arithmetic.specs.Highest.{above, atLeast, excess, Threshold, PriceIn}
-use Rattle.formulas.proofs.Sums.{Falls, falling-falls, falling-sum}
+use Rattle.formulas.specs.Sums.{sumOf, falling, sumFirst, sumHighest, fromTop, above, atLeast}
+use Rattle.formulas.proofs.Sums.{Falls, falling-sum, top, sorted, above-head, above-not, least-head, least-not, one-cond, falls-above, falls-least, fromTop-few, fromTop-enough}
+use Rattle.arithmetic.specs.Highest.{excess, Threshold, PriceIn}
 
 -- ---- a loop that adds up f of each element
 
@@ -30,19 +30,7 @@ sum-end f s k c t h e =
     let g : c + sumOf f [] ≡ t = rw (drop-of-length-le s {i = k} h) at e in
     omega (arith, g)
 
--- ---- how many are above a value
-
-above-head : (v x : ℕ) → v < x → _≡_ {A = ℕ} (cond (ltb v x) 1 0) 1
-above-head v x h = rw (lt-ltb v x h) refl
-
-above-not : (v x : ℕ) → x ≤ v → _≡_ {A = ℕ} (cond (ltb v x) 1 0) 0
-above-not v x h = rw (le-ltb v x h) refl
-
-least-head : (v x : ℕ) → v ≤ x → _≡_ {A = ℕ} (cond (leb v x) 1 0) 1
-least-head v x h = rw (le-leb v x h) refl
-
-least-not : (v x : ℕ) → x < v → _≡_ {A = ℕ} (cond (leb v x) 1 0) 0
-least-not v x h = rw (lt-leb v x h) refl
+-- ---- the search for a threshold
 
 -- one more than v, or more, is above v
 pub above-next : (v : ℕ) (l : List ℕ) → atLeast (v + 1) l ≡ above v l
@@ -55,7 +43,7 @@ above-next v (x ∷ l) = go (decLe (v + 1) x) (above-next v l)
     go (no h) e = omega (arith, least-not (v + 1) x (omega arith), above-not v x (omega arith), e)
 
 -- where the two ends of the search meet
-pub threshold-met : (n lo hi : ℕ) (s : List ℕ) → hi ≤ lo → lo ≤ hi → n ≤ atLeast lo s → above hi s ≤ n → Threshold n lo s
+pub threshold-met : (n lo hi : ℕ) (s : List ℕ) → hi ≤ lo → lo ≤ hi → n ≤ atLeast lo s → above hi s ≤ n - 1 → Threshold n lo s
 threshold-met n lo hi s p q e f =
     let z : hi ≡ lo = omega arith in
     record { few = rw z at f; enough = e }
@@ -71,17 +59,7 @@ unfolding sumOf
 all-least done = refl
 all-least (also {a = x} h e) = omega (arith, least-head 2147283648 x (h .low), all-least e)
 
--- ---- of a list that falls
-
-falls-above : (b v : ℕ) (l : List ℕ) → Falls b l → b ≤ v → above v l ≡ 0
-unfolding sumOf
-falls-above b v [] f h = refl
-falls-above b v (x ∷ l) f h = omega (arith, above-not v x (omega (arith, f .0)), falls-above x v l (f .1) (omega (arith, f .0)))
-
-falls-least : (b v : ℕ) (l : List ℕ) → Falls b l → b < v → atLeast v l ≡ 0
-unfolding sumOf
-falls-least b v [] f h = refl
-falls-least b v (x ∷ l) f h = omega (arith, least-not v x (omega (arith, f .0)), falls-least x v l (f .1) (omega (arith, f .0)))
+-- ---- the sum of the n highest
 
 no-excess : (v : ℕ) (l : List ℕ) → above v l ≤ 0 → excess v l ≡ 0
 unfolding sumOf
@@ -104,21 +82,35 @@ first-sum (suc n) v b (x ∷ l) f p q = go (decLe v x) (decLe x v) (first-sum n 
     go (yes h) (no g) r = omega (arith, r (omega (arith, above-head v x (omega arith))) (omega (arith, least-head v x h)))
     go (no h) g r = absurd (omega (arith, least-not v x (omega arith), falls-least x v l (f .1) (omega arith)))
 
--- ---- of any list
-
-top : List ℕ → ℕ
-top [] = 0
-top (x ∷ l) = max x (top l)
-
-below-top : (b : ℕ) (l : List ℕ) → top l ≤ b → Each (λ x. x ≤ b) l
-unfolding top
-below-top b [] h = done
-below-top b (x ∷ l) h = also {a = x} (omega arith) (below-top b l (omega arith))
-
 -- the n highest together: what those above their threshold have above it, and the threshold n times
 pub highest-sum : (n v : ℕ) (l : List ℕ) → Threshold n v l → sumHighest n l ≡ excess v l + n * v
 unfolding sumHighest
 highest-sum n v l h =
-    first-sum n v (top l) (falling l) (falling-falls (top l) (below-top (top l) l (le-refl _)))
-    (rw falling-sum (h .few)) (rw falling-sum (h .enough))
+    first-sum n v (top l) (falling l) (sorted l) (omega (arith, falling-sum (λ x. cond (ltb v x) 1 0) l, h .few)) (rw falling-sum (h .enough))
     ∙ rw falling-sum refl
+
+-- ---- the number at a place from the top
+
+-- what is above another, or equal to it, is above all below that
+least-above : (v w : ℕ) (l : List ℕ) → v < w → atLeast w l ≤ above v l
+unfolding sumOf
+least-above v w [] h = le-refl 0
+least-above v w (x ∷ l) h = go (decLe w x) (least-above v w l h)
+  where
+    go : Dec (w ≤ x) → atLeast w l ≤ above v l → cond (leb w x) 1 0 + atLeast w l ≤ cond (ltb v x) 1 0 + above v l
+    go (yes g) e = omega (arith, least-head w x g, above-head v x (omega arith), e)
+    go (no g) e = omega (arith, least-not w x (omega arith), e)
+
+least-length : (v : ℕ) (l : List ℕ) → atLeast v l ≤ length l
+unfolding sumOf
+least-length v [] = le-refl 0
+least-length v (x ∷ l) = omega (arith, one-cond (leb v x), least-length v l)
+
+-- the threshold of the n highest is the n-th
+pub threshold-place : (n v : ℕ) (l : List ℕ) → 1 ≤ n → Threshold n v l → fromTop n l ≡ v
+threshold-place n v l h t = go (decLe (fromTop n l) v) (decLe v (fromTop n l))
+  where
+    go : Dec (fromTop n l ≤ v) → Dec (v ≤ fromTop n l) → fromTop n l ≡ v
+    go (yes p) (yes q) = omega arith
+    go (yes p) (no q) = absurd (omega (arith, least-above (fromTop n l) v l (omega arith), fromTop-few n l h, t .enough))
+    go (no p) q = absurd (omega (arith, least-above v (fromTop n l) l (omega arith), fromTop-enough n l h (omega (arith, t .enough, least-length v l)), t .few))

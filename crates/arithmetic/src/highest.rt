@@ -1,11 +1,16 @@
-// The sum of the highest of some prices, by the price that parts them from the others: it is found by halving the range.
+// The highest of some prices, by the price that parts them from the others: it is found by halving the range.
 ghost use mathlib.Core.Path.{_≡_};
-ghost use Prim.Native.Nat.{_*_, _≤_};
+ghost use Prim.Native.Nat.{_*_, _-_, _≤_};
 ghost use lib.ListN.{length};
 ghost use Rattle.lists.specs.Lists.{Each};
-ghost use Rattle.formulas.specs.Sums.{sumHighest};
-ghost use Rattle.arithmetic.specs.Highest.{above, atLeast, excess, Threshold, PriceIn};
+ghost use Rattle.formulas.specs.Sums.{sumHighest, fromTop, above, atLeast};
+ghost use Rattle.arithmetic.specs.Highest.{excess, Threshold, PriceIn};
 use crate::less;
+
+// The lowest and the highest price, plus 2^31.
+const LOWEST: u32 = records::LOWEST_PRICE as u32;
+
+const HIGHEST: u32 = records::HIGHEST_PRICE as u32;
 
 // How many are above v.
 fn above(s: &[u32], v: u32) -> usize
@@ -36,8 +41,8 @@ fn excess(s: &[u32], v: u32) -> u64
 
 // The threshold of the n highest, between two that lie on either side of it.
 fn threshold(s: &[u32], n: usize, low: u32, high: u32) -> u32
-    requires { ⌜ (low ≤ high) × (n ≤ atLeast low (now s)) × (above high (now s) ≤ n) ⌝ }
-    ensures { λ r. ⌜ Threshold n r (now (s .entry)) ⌝ }
+    requires { ⌜ (low ≤ high) × (n ≤ atLeast low (now s)) × (above high (now s) ≤ n - 1) ⌝ }
+    ensures { λ r. ⌜ Threshold n r (now (s .entry)) × (low ≤ r) × (r ≤ high) ⌝ }
 {
     let mut lo = low;
     let mut hi = high;
@@ -57,6 +62,14 @@ pub fn highest(s: &[u32], n: usize) -> u64
     requires { ⌜ (n ≤ length (now s)) × (length (now s) ≤ 168) × Each PriceIn (now s) ⌝ }
     ensures { λ r. ⌜ (r ≡ sumHighest n (now (s .entry))) × (r ≤ 336 * 4294967295) ⌝ }
 {
-    let v = threshold(s, n, 2147283648, 2147683648);
+    let v = threshold(s, n, LOWEST, HIGHEST);
     excess(s, v) + (n as u64) * (v as u64)
+}
+
+// The n-th from the top, repeated prices counted each.
+pub fn from_top(s: &[u32], n: usize) -> u32
+    requires { ⌜ (1 ≤ n) × (n ≤ length (now s)) × Each PriceIn (now s) ⌝ }
+    ensures { λ r. ⌜ (r ≡ fromTop n (now (s .entry))) × (2147283648 ≤ r) × (r ≤ 2147683648) ⌝ }
+{
+    threshold(s, n, LOWEST, HIGHEST)
 }

@@ -30,7 +30,7 @@ add-result c = omega (arith, times c)
 
 returns : tie.Need-returns
 returns c =
-    let e = highest-sum _ _ (c .before .before .before .args .s .now) (c .before .threshold .ensures) in
+    let e = highest-sum _ _ (c .before .before .before .args .s .now) (c .before .threshold .ensures .0) in
     (omega (arith, e, c .excess .ensures .0), omega (arith, times c))
 
 pub highest-spec : {M : Type 1} → statement M
