@@ -20,10 +20,10 @@ use Rattle.formulas.specs.Exact.{quotient, dropped, cents, plus, sumOver, great
 use Rattle.formulas.specs.Levels.{covers, profileOf, profile, adders, maintenance, startMaintenance, thermalEnergy, heatCost, startCost, noLoadCost, nuclearEnergy, totalEnergy, chargingSum, chargingCost, shortRunCost, highestSum, opportunityCost, storageEnergy, laminations, oneLamination, single, linesOf, lines, levels}
 use Rattle.reference.specs.Packed.{laminationsFrom, singleOf, unpacked, energyLines, amountOf, padded, packed, levelsAnswer}
 use Rattle.formulas.specs.Sums.{sumTo, sumOf, listTo, insert, falling, sumFirst, sumHighest, fromTop}
-use Rattle.conduct.specs.Refusals.{levelRefusal, conditionRefusal, priceBefore, pairHolds, malformed, aboveCapacity, lengthRefusal, offerRefusal, priceRefusal}
+use Rattle.verdicts.specs.Refusals.{levelRefusal, conditionRefusal, priceBefore, pairHolds, malformed, aboveCapacity, lengthRefusal, offerRefusal, priceRefusal}
+use Rattle.verdicts.specs.Test.{limit, fails, failsUnder, failing, quantity, priceAt, before, overlap, offerFrom, priceTest}
+use Rattle.verdicts.specs.Verdict.{settle, numbers, offerVerdict, priceVerdict, onOffer, onPrice}
 use Rattle.conduct.specs.Shapes.{failsAt, failingShown, offerShown, priceShown, failsIn, firstFailing, leastOf, singleLevel}
-use Rattle.conduct.specs.Test.{limit, fails, failsUnder, failing, quantity, priceAt, before, overlap, offerFrom, priceTest}
-use Rattle.conduct.specs.Verdict.{settle, numbers, offerVerdict, priceVerdict, onOffer, onPrice}
 use Rattle.report.specs.Parts.{packedReport, otherLines}
 use Rattle.report.specs.Report.{profileLine, energyLine, amountLine, levelLine, levelLines, reportText, report, shortFor, bufferWith, written, reportAnswer, bufferAfter, printed, prints}
 

@@ -7,8 +7,8 @@ use Rattle.fields.specs.Numbers.{number, biased, bias}
 use Rattle.station.specs.Parameters.{Parameters, percent, margin, floor}
 use Rattle.acceptance.specs.Fit.{energy}
 use Rattle.formulas.specs.Levels.{Line, amount}
-use Rattle.conduct.specs.declared.Verdict.{Verdict}
-use Rattle.conduct.specs.declared.Verdict.the-variants.{Passes, Fails}
+use Rattle.verdicts.specs.declared.Verdict.{Verdict}
+use Rattle.verdicts.specs.declared.Verdict.the-variants.{Passes, Fails}
 
 -- "margin (4), cents, 4,294,967,295 meaning none"
 abbrev pub noMargin : ℕ

@@ -9,9 +9,9 @@ use Rattle.lists.specs.Lists.{Each}
 use Rattle.station.specs.Parameters.{Parameters}
 use Rattle.acceptance.specs.Fit.{energy}
 use Rattle.formulas.specs.Levels.{Line, amount}
-use Rattle.conduct.specs.declared.Verdict.{Verdict}
-use Rattle.conduct.specs.declared.Verdict.the-variants.{Passes, Fails}
-use Rattle.conduct.specs.Test.{failsUnder, quantity, priceAt, before, overlap}
+use Rattle.verdicts.specs.declared.Verdict.{Verdict}
+use Rattle.verdicts.specs.declared.Verdict.the-variants.{Passes, Fails}
+use Rattle.verdicts.specs.Test.{failsUnder, quantity, priceAt, before, overlap}
 
 -- x is the first of some lines that a test holds of
 pub data First (P : Line → Bool) : List Line → Line → Type 0 where

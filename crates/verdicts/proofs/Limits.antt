@@ -7,9 +7,7 @@ use native.Mathlib.Omega.{arith}
 use lib.Dec.{leb, ltb, eqb}
 use borrow.Author.Tests.{ltb-true, ltb-false, lt-ltb, le-ltb, leb-true, leb-false, le-leb, lt-leb, ne-eqb}
 use Rattle.lists.proofs.Tests.{split, or-false-left, or-false-right}
-use Rattle.conduct.specs.declared.Threshold.{Threshold}
-use Rattle.conduct.specs.Test.{limit, fails, overlap}
-use Rattle.conduct.specs.Shapes.{failsAt}
+use Rattle.verdicts.specs.Test.{limit, fails, overlap}
 
 -- ---- the limit is at most each of the two, and at least the level
 
@@ -51,34 +49,34 @@ module _ (level percent margin : ℕ) where
 
 -- ---- a price against it
 
-module _ (level : ℕ) (t : Threshold) (price : ℕ) where
-  pub below-zero : price < 2147483648 → false ≡ failsAt t price level
-  unfolding failsAt fails
-  below-zero h = rw (lt-leb (t .floor + 2147483648) price (omega arith)) refl
+leb-shifted : (a b x : ℕ) → x ≤ b → leb a (b - x) ≡ leb (a + x) b
+leb-shifted a b x h =
+    split (leb (a + x) b)
+    (λ e. le-leb a (b - x) (omega (arith, leb-true)) ∙ sym e)
+    (λ e. lt-leb a (b - x) (omega (arith, leb-false)) ∙ sym e)
 
-  pub below-level : price - 2147483648 ≤ level → false ≡ failsAt t price level
-  unfolding failsAt fails
-  below-level h = go (leb (t .floor + 2147483648) price)
+ltb-shifted : (a b x : ℕ) → x ≤ b → ltb a (b - x) ≡ ltb (a + x) b
+ltb-shifted a b x h =
+    split (ltb (a + x) b)
+    (λ e. lt-ltb a (b - x) (omega (arith, ltb-true)) ∙ sym e)
+    (λ e. le-ltb a (b - x) (omega (arith, ltb-false)) ∙ sym e)
+
+module _ (level percent margin floor price : ℕ) where
+  pub below-zero : price < 2147483648 → false ≡ fails level percent margin floor price
+  unfolding fails
+  below-zero h = rw (lt-leb (floor + 2147483648) price (omega arith)) refl
+
+  pub below-level : price - 2147483648 ≤ level → false ≡ fails level percent margin floor price
+  unfolding fails
+  below-level h = go (leb (floor + 2147483648) price)
     where
-      go : (b : Bool) → false ≡ b && ltb (limit level (t .percent) (t .margin) + 2147483648) price
-      go true = sym (le-ltb (limit level (t .percent) (t .margin) + 2147483648) price (omega (arith, limit-ge-level level (t .percent) (t .margin))))
+      go : (b : Bool) → false ≡ b && ltb (limit level percent margin + 2147483648) price
+      go true = sym (le-ltb (limit level percent margin + 2147483648) price (omega (arith, limit-ge-level level percent margin)))
       go false = refl
 
-  leb-shifted : (a b x : ℕ) → x ≤ b → leb a (b - x) ≡ leb (a + x) b
-  leb-shifted a b x h =
-      split (leb (a + x) b)
-      (λ e. le-leb a (b - x) (omega (arith, leb-true)) ∙ sym e)
-      (λ e. lt-leb a (b - x) (omega (arith, leb-false)) ∙ sym e)
-
-  ltb-shifted : (a b x : ℕ) → x ≤ b → ltb a (b - x) ≡ ltb (a + x) b
-  ltb-shifted a b x h =
-      split (ltb (a + x) b)
-      (λ e. lt-ltb a (b - x) (omega (arith, ltb-true)) ∙ sym e)
-      (λ e. le-ltb a (b - x) (omega (arith, ltb-false)) ∙ sym e)
-
-  pub in-cents : 2147483648 ≤ price → leb (t .floor) (price - 2147483648) && ltb (limit level (t .percent) (t .margin)) (price - 2147483648) ≡ failsAt t price level
-  unfolding failsAt fails
-  in-cents h = rw (leb-shifted (t .floor) price 2147483648 h, ltb-shifted (limit level (t .percent) (t .margin)) price 2147483648 h) refl
+  pub in-cents : 2147483648 ≤ price → leb floor (price - 2147483648) && ltb (limit level percent margin) (price - 2147483648) ≡ fails level percent margin floor price
+  unfolding fails
+  in-cents h = rw (leb-shifted floor price 2147483648 h, ltb-shifted (limit level percent margin) price 2147483648 h) refl
 
 -- ---- an overlap
 

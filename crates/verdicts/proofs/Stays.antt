@@ -14,11 +14,11 @@ use Rattle.records.specs.declared.Answer.the-variants.{Accepted, Refused as Tur
 use Rattle.station.specs.Parameters.{Parameters, percent, margin, floor}
 use Rattle.formulas.specs.Levels.{Line, amount, NoLower}
 use Rattle.formulas.proofs.Sums.{min-mono}
-use Rattle.conduct.specs.declared.Verdict.{Verdict}
-use Rattle.conduct.specs.declared.Verdict.the-variants.{Passes, Fails, Refused}
-use Rattle.conduct.specs.Test.{limit, fails, failsUnder, failing, quantity, priceAt, before, overlap, offerFrom, priceTest}
-use Rattle.conduct.specs.Refusals.{offerRefusal, priceRefusal}
-use Rattle.conduct.specs.Verdict.{settle, offerVerdict, priceVerdict}
+use Rattle.verdicts.specs.declared.Verdict.{Verdict}
+use Rattle.verdicts.specs.declared.Verdict.the-variants.{Passes, Fails, Refused}
+use Rattle.verdicts.specs.Test.{limit, fails, failsUnder, failing, quantity, priceAt, before, overlap, offerFrom, priceTest}
+use Rattle.verdicts.specs.Refusals.{offerRefusal, priceRefusal}
+use Rattle.verdicts.specs.Verdict.{settle, offerVerdict, priceVerdict}
 
 limit-mono : {x y : ℕ} (percent margin : ℕ) → x ≤ y → limit x percent margin ≤ limit y percent margin
 unfolding limit

@@ -10,10 +10,10 @@ use Rattle.records.specs.Dossier.{records}
 use Rattle.station.specs.Parameters.{Parameters, parameters}
 use Rattle.acceptance.specs.Answer.{answer}
 use Rattle.formulas.specs.Levels.{Line, levels}
-use Rattle.conduct.specs.declared.Verdict.{Verdict}
-use Rattle.conduct.specs.declared.Verdict.the-variants.{Passes, Fails, Refused}
-use Rattle.conduct.specs.Test.{offerFrom, priceTest}
-use Rattle.conduct.specs.Refusals.{offerRefusal, priceRefusal}
+use Rattle.verdicts.specs.declared.Verdict.{Verdict}
+use Rattle.verdicts.specs.declared.Verdict.the-variants.{Passes, Fails, Refused}
+use Rattle.verdicts.specs.Test.{offerFrom, priceTest}
+use Rattle.verdicts.specs.Refusals.{offerRefusal, priceRefusal}
 
 -- a refusal comes before the test
 unfoldable pub settle : Answer → Verdict → Verdict

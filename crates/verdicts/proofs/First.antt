@@ -9,10 +9,10 @@ use Rattle.lists.specs.Lists.{done, also}
 use Rattle.station.specs.Parameters.{Parameters}
 use Rattle.acceptance.specs.Fit.{energy}
 use Rattle.formulas.specs.Levels.{Line}
-use Rattle.conduct.specs.declared.Verdict.{Verdict}
-use Rattle.conduct.specs.declared.Verdict.the-variants.{Fails}
-use Rattle.conduct.specs.Test.{failsUnder, failing, quantity, priceAt, before, overlap, offerFrom}
-use Rattle.conduct.specs.First.{First, this, later, failsAtLine, Clear, Judged, passing, failed}
+use Rattle.verdicts.specs.declared.Verdict.{Verdict}
+use Rattle.verdicts.specs.declared.Verdict.the-variants.{Fails}
+use Rattle.verdicts.specs.Test.{failsUnder, failing, quantity, priceAt, before, overlap, offerFrom}
+use Rattle.verdicts.specs.First.{First, this, later, failsAtLine, Clear, Judged, passing, failed}
 
 module _ (s : Parameters) (c : ℕ) (o : List ℕ) where
   -- one pair: it fails first at a line; or nowhere, and what follows counts
