@@ -3,8 +3,8 @@ use Prim.Native.Nat.{ℕ, _+_, _*_, _%_}
 use Rattle.records.specs.declared.Answer.{Answer}
 use Rattle.records.specs.declared.Answer.the-variants.{Accepted, Refused as Turned}
 use Rattle.lookup.specs.declared.Part.{Part}
-use Rattle.conduct.specs.declared.Verdict.{Verdict}
-use Rattle.conduct.specs.declared.Verdict.the-variants.{Passes, Fails, Refused}
+use Rattle.verdicts.specs.declared.Verdict.{Verdict}
+use Rattle.verdicts.specs.declared.Verdict.the-variants.{Passes, Fails, Refused}
 use Rattle.report.specs.declared.Written.{Written}
 use Rattle.report.specs.declared.Written.the-variants.{Bytes, Refused as Unwritten}
 

@@ -6,13 +6,13 @@ ghost use lib.ListN.{length};
 ghost use Rattle.records.specs.Record.{mark};
 ghost use Rattle.lookup.specs.Parts.{lookupPart};
 ghost use Rattle.acceptance.specs.Answer.{answer};
-ghost use Rattle.conduct.specs.Verdict.{onOffer, onPrice};
+ghost use Rattle.verdicts.specs.Verdict.{onOffer, onPrice};
 ghost use Rattle.report.specs.Report.{written, report, reportAnswer, bufferAfter};
 ghost use Rattle.words.specs.Words.{wordsAnswer, wordsAfter};
 ghost use Rattle.bench.specs.Codes.{coded, answerCode, partCode, wordsCode, verdictCode, writtenCode};
-use conduct::Verdict;
 use records::Answer;
 use report::Written;
+use verdicts::Verdict;
 
 // class × 2^56 + a × 2^32 + b
 fn code(class: u64, a: usize, b: usize) -> u64

@@ -17,11 +17,11 @@ use Rattle.formulas.specs.Levels.{Line, amount}
 use Rattle.reference.specs.Packed.{Shown, row, shown, laminationsFrom, singleOf, unpacked}
 use Rattle.conduct.specs.declared.Threshold.{Threshold}
 use Rattle.conduct.specs.declared.Pair.{Pair}
-use Rattle.conduct.specs.declared.Verdict.{Verdict}
-use Rattle.conduct.specs.declared.Verdict.the-variants.{Passes, Fails}
-use Rattle.conduct.specs.Test.{failsUnder, failing, quantity, priceAt, before, overlap, offerFrom, priceTest}
+use Rattle.verdicts.specs.declared.Verdict.{Verdict}
+use Rattle.verdicts.specs.declared.Verdict.the-variants.{Passes, Fails}
+use Rattle.verdicts.specs.Test.{failsUnder, failing, quantity, priceAt, before, overlap, offerFrom, priceTest}
 use Rattle.conduct.specs.Shapes.{thresholdOf, failsAt, failingShown, offerShown, priceShown, failsIn, firstFailing, leastOf, singleLevel}
-use Rattle.conduct.proofs.Stays.{pass-stays}
+use Rattle.verdicts.proofs.Stays.{pass-stays}
 use Rattle.conduct.proofs.Turns.{one-less}
 
 -- ---- without the formulas

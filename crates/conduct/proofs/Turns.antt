@@ -1,17 +1,16 @@
 -- The refusals as code tries them: tests over numbers that were read, and one pair after the other.
 use mathlib.Core.Path.{_≡_, refl, ap, sym, _∙_}
-use mathlib.Core.Bool.{Bool, true, false, cond, _&&_, _||_, not, false≢true}
-use mathlib.Core.List.{List, [], _∷_}
+use mathlib.Core.Bool.{Bool, true, false, _&&_, _||_, not}
+use mathlib.Core.List.{List}
 use Prim.Native.Nat.{ℕ, suc, _+_, _-_, _*_, _%_, _≤_, _<_}
 use native.Mathlib.Nat.{sub-zero}
 use native.Mathlib.Numerals.{add-one}
 use native.Mathlib.Omega.{arith}
 use lib.Dec.{leb, ltb, eqb}
 use lib.ListN.{length}
-use borrow.Author.Tests.{lt-ltb, le-ltb, leb-true, eqb-true, eqb-false, not-false}
-use Rattle.lists.specs.Tests.{every, everyOf, between, among}
-use Rattle.lists.proofs.Tests.{and-left, and-right, or-false-left, or-false-right, between-low, between-high}
-use Rattle.records.proofs.Answers.{not-refuseIf}
+use borrow.Author.Tests.{lt-ltb, le-ltb, leb-true}
+use Rattle.lists.specs.Tests.{every, between}
+use Rattle.lists.proofs.Tests.{and-left, and-right}
 use Rattle.records.specs.declared.Answer.{Answer}
 use Rattle.records.specs.declared.Answer.the-variants.{Accepted, Refused}
 use Rattle.records.specs.Table.{TH}
@@ -19,9 +18,9 @@ use Rattle.records.specs.Record.{inRange}
 use Rattle.records.specs.Answers.{orElse, refuseIf}
 use Rattle.station.specs.Current.{current, present}
 use Rattle.station.specs.Parameters.{Parameters, parameters, capacity, technology, thresholdKey}
-use Rattle.acceptance.specs.Fit.{holds, levelsOf}
-use Rattle.conduct.specs.Test.{quantity, priceAt, before}
-use Rattle.conduct.specs.Refusals.{levelRefusal, conditionRefusal, lengthRefusal, priceBefore, pairHolds, malformed, aboveCapacity}
+use Rattle.acceptance.specs.Fit.{holds}
+use Rattle.verdicts.specs.Test.{quantity, priceAt, before}
+use Rattle.verdicts.specs.Refusals.{levelRefusal, conditionRefusal, lengthRefusal, priceBefore, pairHolds, malformed, aboveCapacity}
 use Rattle.conduct.specs.Shapes.{pairTest}
 
 -- ---- chains of answers
@@ -142,47 +141,3 @@ condition-none l v c r t e h = refused-if _ 14 0 (rw (t, ← e, le-ltb 0 (length
 pub condition-out : (s : Parameters) (v c : ℕ) → leb 1 c && leb c 3 ≡ false → Refused 14 0 ≡ conditionRefusal s v c
 unfolding conditionRefusal between
 condition-out s v c t = refused-if _ 14 0 (rw t refl)
-
--- ---- what an offer without refusal is like
-
-pub length-accepted : (o : List ℕ) → lengthRefusal o ≡ Accepted → length o ≤ 120
-unfolding lengthRefusal
-length-accepted o e =
-    between-high 6 120 (length o) (and-left (between 6 120 (length o)) (eqb (length o % 6) 0) (not-false _ (not-refuseIf _ 10 (length o) e)))
-
-pub condition-accepted : (s : Parameters) (v c : ℕ) → conditionRefusal s v c ≡ Accepted → (1 ≤ c) × (c ≤ 3)
-unfolding conditionRefusal
-condition-accepted s v c e =
-    let b : between 1 3 c ≡ true = and-left (between 1 3 c) (s .has TH (thresholdKey c v)) (not-false _ (not-refuseIf _ 14 0 e)) in
-    (between-low 1 3 c b, between-high 1 3 c b)
-
-among-range : (v : ℕ) (l : List ℕ) → everyOf (between 1 4) l ≡ true → among v l ≡ true → (1 ≤ v) × (v ≤ 4)
-unfolding everyOf among
-among-range v [] e h = absurd (false≢true h)
-among-range v (m ∷ l) e h = go (eqb v m) refl h (λ z. among-range v l (and-right (between 1 4 m) (everyOf (between 1 4) l) e) z)
-  where
-    own : between 1 4 m ≡ true
-    own = and-left (between 1 4 m) (everyOf (between 1 4) l) e
-
-    go : (b : Bool) → eqb v m ≡ b → b || among v l ≡ true → (among v l ≡ true → (1 ≤ v) × (v ≤ 4)) → (1 ≤ v) × (v ≤ 4)
-    go true q z f = rw (eqb-true v m q) (between-low 1 4 m own, between-high 1 4 m own)
-    go false q z f = f z
-
-holds-range : (t v : ℕ) → holds t v ≡ true → (1 ≤ v) × (v ≤ 4)
-unfolding holds levelsOf everyOf between
-holds-range t v = go (eqb t 1) (eqb t 2) (eqb t 3)
-  where
-    go : (a b c : Bool) → among v (cond a (1 ∷ 2 ∷ 3 ∷ 4 ∷ []) (cond b (1 ∷ []) (cond c (1 ∷ 4 ∷ []) []))) ≡ true → (1 ≤ v) × (v ≤ 4)
-    go true b c = among-range v (1 ∷ 2 ∷ 3 ∷ 4 ∷ []) refl
-    go false true c = among-range v (1 ∷ []) refl
-    go false false true = among-range v (1 ∷ 4 ∷ []) refl
-    go false false false = among-range v [] refl
-
-pub level-range : (s : Parameters) (v : ℕ) → levelRefusal s v ≡ Accepted → (holds (technology s) v ≡ true) × (2 ≤ v) × (v ≤ 4)
-unfolding levelRefusal
-level-range s v e =
-    let b : eqb v 1 || not (holds (technology s) v) ≡ false = not-refuseIf _ 12 0 e in
-    let h : holds (technology s) v ≡ true = not-false _ (or-false-right (eqb v 1) (not (holds (technology s) v)) b) in
-    let n : v ≡ 1 → ⊥ = eqb-false v 1 (or-false-left (eqb v 1) (not (holds (technology s) v)) b) in
-    let r : (1 ≤ v) × (v ≤ 4) = holds-range (technology s) v h in
-    (h, omega arith, r .1)

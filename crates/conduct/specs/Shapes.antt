@@ -11,9 +11,9 @@ use Rattle.reference.specs.declared.HourLevels.{HourLevels}
 use Rattle.reference.specs.Packed.{Shown}
 use Rattle.conduct.specs.declared.Threshold.{Threshold}
 use Rattle.conduct.specs.declared.Pair.{Pair}
-use Rattle.conduct.specs.declared.Verdict.{Verdict}
-use Rattle.conduct.specs.declared.Verdict.the-variants.{Passes, Fails}
-use Rattle.conduct.specs.Test.{fails, quantity, priceAt, before, overlap}
+use Rattle.verdicts.specs.declared.Verdict.{Verdict}
+use Rattle.verdicts.specs.declared.Verdict.the-variants.{Passes, Fails}
+use Rattle.verdicts.specs.Test.{fails, quantity, priceAt, before, overlap}
 
 -- what TH says of a condition and level
 abbrev pub thresholdOf : Parameters → ℕ → ℕ → Threshold

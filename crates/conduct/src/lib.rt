@@ -1,4 +1,4 @@
-// The conduct test. The definitions are in specs/, their laws in proofs/.
+// The conduct test, worked out through the index.
 mod refusals;
 mod test;
 
@@ -9,7 +9,7 @@ ghost use Rattle.station.specs.Parameters.{parameters};
 ghost use Rattle.acceptance.specs.Answer.{IsAccepted};
 ghost use Rattle.formulas.specs.Levels.{levels};
 ghost use Rattle.lookup.specs.Parts.{Indexed};
-ghost use Rattle.conduct.specs.Verdict.{offerVerdict, priceVerdict, onOffer, onPrice};
+ghost use Rattle.verdicts.specs.Verdict.{offerVerdict, priceVerdict, onOffer, onPrice};
 use crate::refusals::offer_refusal;
 use crate::refusals::price_refusal;
 use crate::test::biased;
@@ -17,13 +17,7 @@ use crate::test::offer_test;
 use crate::test::single_test;
 use crate::test::threshold_of;
 use records::Answer;
-
-// The verdict on an offer: it fails at its first failing pair, then lamination; a single price has neither, and names 0.
-pub enum Verdict {
-    Passes,
-    Fails { pair: usize, lamination: usize },
-    Refused { number: u8, place: usize },
-}
+use verdicts::Verdict;
 
 // What a TH says of a condition and level.
 pub struct Threshold {

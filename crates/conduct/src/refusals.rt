@@ -5,7 +5,7 @@ ghost use lib.ListN.{length};
 ghost use Rattle.records.specs.Dossier.{records};
 ghost use Rattle.station.specs.Parameters.{parameters};
 ghost use Rattle.lookup.specs.Parts.{Indexed};
-ghost use Rattle.conduct.specs.Refusals.{malformed as malformedFrom, aboveCapacity, lengthRefusal, levelRefusal, conditionRefusal, offerRefusal, priceRefusal};
+ghost use Rattle.verdicts.specs.Refusals.{malformed as malformedFrom, aboveCapacity, lengthRefusal, levelRefusal, conditionRefusal, offerRefusal, priceRefusal};
 ghost use Rattle.conduct.specs.Shapes.{pairTest};
 use crate::test::price_at;
 use crate::test::quantity_at;

@@ -9,12 +9,12 @@ ghost use Rattle.station.specs.Parameters.{parameters};
 ghost use Rattle.acceptance.specs.Fit.{holds};
 ghost use Rattle.reference.specs.Packed.{unpacked};
 ghost use Rattle.lookup.specs.Parts.{Indexed};
-ghost use Rattle.conduct.specs.Test.{limit as limitOf, overlap, quantity, priceAt};
+ghost use Rattle.verdicts.specs.Test.{limit as limitOf, overlap, quantity, priceAt};
 ghost use Rattle.conduct.specs.Shapes.{thresholdOf, failsAt, failsIn, firstFailing, leastOf, singleLevel, offerShown, priceShown};
 use crate::Pair;
 use crate::Threshold;
-use crate::Verdict;
 use reference::HourLevels;
+use verdicts::Verdict;
 
 // A margin that means none.
 const NO_MARGIN: u32 = 4294967295;

@@ -8,7 +8,7 @@ use lib.Dec.{eqb}
 use Rattle.records.specs.Table.{RS, HP, FU, AD, MM, RQ, HR, CH}
 use Rattle.station.specs.Parameters.{Parameters, Amounts, adderKey, itemKey}
 use Rattle.acceptance.specs.Curve.{rise, fullHours}
-use Rattle.formulas.specs.Sums.{sumTo, listTo, insert, falling, sumFirst, sumHighest}
+use Rattle.formulas.specs.Sums.{sumTo, listTo, insert, falling, sumFirst, sumHighest, fromTop}
 use Rattle.formulas.specs.Exact.{quotient, dropped, cents}
 use Rattle.formulas.specs.Levels.{covers, profileOf, profile, adders, maintenance, startMaintenance, thermalEnergy, heatCost, startCost, noLoadCost, nuclearEnergy, totalEnergy, chargingSum, chargingCost, shortRunCost, highestSum, opportunityCost, storageEnergy}
 
@@ -118,6 +118,11 @@ storage-sum = refl
 equal-prices : sumHighest 2 (price 1000 ∷ price 3000 ∷ price 3000 ∷ owed 500 ∷ []) ≡ price 3000 + price 3000
 unfolding sumHighest sumFirst falling insert
 equal-prices = refl
+
+-- and at each place from the top
+places : (fromTop 1 (5 ∷ 9 ∷ 9 ∷ 1 ∷ []) ≡ 9) × (fromTop 2 (5 ∷ 9 ∷ 9 ∷ 1 ∷ []) ≡ 9) × (fromTop 3 (5 ∷ 9 ∷ 9 ∷ 1 ∷ []) ≡ 5) × (fromTop 4 (5 ∷ 9 ∷ 9 ∷ 1 ∷ []) ≡ 1)
+unfolding fromTop falling insert
+places = (refl, refl, refl, refl)
 
 -- request 2 asks for profile 3 from hour 5 to 9, request 7 for profile 4 from hour 9 to 12, request 9 is withdrawn
 requests : List Entry

@@ -1,6 +1,9 @@
 -- Sums over keys, and the highest of a list, "repeated prices counted each".
+use mathlib.Core.Bool.{cond}
 use mathlib.Core.List.{List, [], _∷_}
 use Prim.Native.Nat.{ℕ, zero, suc, _+_, max, min}
+use lib.Dec.{leb, ltb}
+use lib.ListN.{getD}
 
 -- f 1 + … + f n
 unfoldable pub sumTo : ℕ → (ℕ → ℕ) → ℕ
@@ -36,3 +39,16 @@ sumFirst (suc n) (x ∷ l) = x + sumFirst n l
 -- the sum of the n highest
 unfoldable pub sumHighest : ℕ → List ℕ → ℕ
 sumHighest n l = sumFirst n (falling l)
+
+-- the number at place n from the top, from 1; 0 where there is no such place
+unfoldable pub fromTop : ℕ → List ℕ → ℕ
+fromTop zero l = 0
+fromTop (suc n) l = getD (falling l) n 0
+
+-- how many are above v
+abbrev pub above : ℕ → List ℕ → ℕ
+above v l = sumOf (λ x. cond (ltb v x) 1 0) l
+
+-- how many are v or more
+abbrev pub atLeast : ℕ → List ℕ → ℕ
+atLeast v l = sumOf (λ x. cond (leb v x) 1 0) l

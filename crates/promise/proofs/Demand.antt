@@ -16,10 +16,10 @@ use Rattle.acceptance.specs.Answer.{IsAccepted}
 use Rattle.acceptance.proofs.Sound.{accepted-sound, sound-accepted, sound-raised, efficient}
 use Rattle.formulas.specs.Levels.{NoLower, levels}
 use Rattle.formulas.proofs.Lines.{lines-upper, lines-close}
-use Rattle.conduct.specs.declared.Verdict.{Verdict}
-use Rattle.conduct.specs.declared.Verdict.the-variants.{Passes, Fails, Refused}
-use Rattle.conduct.specs.Verdict.{settle, numbers, onOffer, onPrice}
-use Rattle.conduct.proofs.Stays.{offer-stays, price-stays}
+use Rattle.verdicts.specs.declared.Verdict.{Verdict}
+use Rattle.verdicts.specs.declared.Verdict.the-variants.{Passes, Fails, Refused}
+use Rattle.verdicts.specs.Verdict.{settle, numbers, onOffer, onPrice}
+use Rattle.verdicts.proofs.Stays.{offer-stays, price-stays}
 use Rattle.promise.specs.Demand.{Raise, Passed, Demand3}
 
 -- passing, in the paper's numbers, is the verdict `Passes`

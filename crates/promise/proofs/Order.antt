@@ -13,7 +13,7 @@ use Rattle.acceptance.specs.Answer.{answer, IsAccepted}
 use Rattle.acceptance.specs.Sound.{Sound}
 use Rattle.acceptance.proofs.Sound.{accepted-sound, sound-accepted, sound-permuted}
 use Rattle.formulas.specs.Levels.{levels}
-use Rattle.conduct.specs.Verdict.{onOffer, onPrice}
+use Rattle.verdicts.specs.Verdict.{onOffer, onPrice}
 use Rattle.report.specs.Report.{report, reportAnswer, bufferAfter}
 use Rattle.promise.specs.Order.{Reordered, SameMeaning, ArrivalOrder}
 

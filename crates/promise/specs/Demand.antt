@@ -9,8 +9,8 @@ use Rattle.records.specs.Raise.{RaiseFor}
 use Rattle.station.specs.Parameters.{parameters, technology}
 use Rattle.acceptance.specs.Answer.{IsAccepted}
 use Rattle.formulas.specs.Levels.{levels, NoLower, CloseLine}
-use Rattle.conduct.specs.declared.Verdict.{Verdict}
-use Rattle.conduct.specs.Verdict.{numbers, onOffer, onPrice}
+use Rattle.verdicts.specs.declared.Verdict.{Verdict}
+use Rattle.verdicts.specs.Verdict.{numbers, onOffer, onPrice}
 
 -- e is a raise of d: the limits are those of d's technology
 abbrev pub Raise : List ℕ → List ℕ → Type 0

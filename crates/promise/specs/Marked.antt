@@ -12,8 +12,8 @@ use Rattle.acceptance.specs.Curve.{fullHours}
 use Rattle.acceptance.specs.Answer.{answer}
 use Rattle.formulas.specs.Exact.{Sum, dropped, cents}
 use Rattle.formulas.specs.Levels.{chargingCost, shortRunCost, opportunityCost}
-use Rattle.conduct.specs.Test.{fails}
-use Rattle.conduct.specs.Verdict.{numbers, onOffer}
+use Rattle.verdicts.specs.Test.{fails}
+use Rattle.verdicts.specs.Verdict.{numbers, onOffer}
 use Rattle.report.specs.Report.{report, prints}
 use Rattle.promise.specs.Stations.{pair, r1, r1Tested, r1Lines, m6, m7, m9}
 

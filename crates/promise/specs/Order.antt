@@ -7,7 +7,7 @@ use Rattle.lists.specs.Lists.{Permutation, joined}
 use Rattle.records.specs.Dossier.{records}
 use Rattle.acceptance.specs.Answer.{IsAccepted}
 use Rattle.formulas.specs.Levels.{levels}
-use Rattle.conduct.specs.Verdict.{onOffer, onPrice}
+use Rattle.verdicts.specs.Verdict.{onOffer, onPrice}
 use Rattle.report.specs.Report.{report, reportAnswer, bufferAfter}
 
 -- e is made of the records of d, back to back in some order

@@ -22,7 +22,7 @@ use Rattle.station.specs.Parameters.{amounts, hourPrice}
 use Rattle.station.proofs.Current.{current-found}
 use Rattle.station.proofs.Parameters.{amount-high}
 use Rattle.formulas.specs.Sums.{listTo}
-use Rattle.reference.specs.Highest.{PriceIn}
+use Rattle.arithmetic.specs.Highest.{PriceIn}
 
 pub length-listTo : (n : ℕ) (f : ℕ → ℕ) → length (listTo n f) ≡ n
 unfolding listTo

@@ -1,6 +1,4 @@
 // Reference levels at an hour. The formulas are in specs/, their laws in proofs/.
-mod arithmetic;
-mod highest;
 mod maintenance;
 mod nuclear;
 mod parameters;
@@ -15,33 +13,10 @@ ghost use Rattle.station.specs.Parameters.{technology, window};
 ghost use Rattle.lookup.specs.Parts.{Indexed};
 ghost use Rattle.acceptance.specs.Curve.{fullHours};
 ghost use Rattle.acceptance.specs.Answer.{IsAccepted};
-ghost use Rattle.formulas.specs.Exact.{cents};
 ghost use Rattle.formulas.specs.Levels.{parametersIn, amountsIn, profile, linesOf, levels};
 ghost use Rattle.reference.specs.Packed.{padded, hourLevels, packed, noLevels, levelsAnswer};
+use arithmetic::Money;
 use records::Answer;
-
-// An amount of money in whole cents.
-pub struct Money {
-    pub cents: u64,
-}
-
-impl Money {
-    // Micro-dollars in a cent.
-    pub const PER_CENT: u64 = 10000;
-
-    // A finished sum of micro-dollars, rounded to cents, half up. The sum plus half a cent might not fit, so the
-    // remainder decides.
-    pub fn from_sum(sum: u64) -> Self
-        ensures { λ r. ⌜ r .cents ≡ cents sum ⌝ }
-    {
-        let whole = sum / Self::PER_CENT;
-        if sum % Self::PER_CENT < Self::PER_CENT / 2 {
-            Self { cents: whole }
-        } else {
-            Self { cents: whole + 1 }
-        }
-    }
-}
 
 // The levels at an hour: up to 20 laminations with from and to in 0.1 MW and their level, and the other levels where the
 // technology holds them, 0 where it doesn't; all levels in cents.

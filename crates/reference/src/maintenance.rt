@@ -5,7 +5,6 @@ ghost use Rattle.station.specs.Parameters.{costC, outputW, intervalT, hoursPerS
 ghost use Rattle.lookup.specs.Parts.{Indexed};
 ghost use Rattle.formulas.specs.Exact.{quotient, dropped};
 ghost use Rattle.formulas.specs.Levels.{parametersIn, amountsIn, adders, maintenance, startMaintenance};
-use crate::arithmetic::share;
 use crate::parameters;
 
 // The adders of a level.
@@ -31,7 +30,7 @@ fn item(d: &[u8], index: &[u16], p: usize, j: usize) -> u64
     let cost = fields::u64_at(r, 8);
     let output = fields::u16_at(r, 16) as u64;
     let interval = fields::u32_at(r, 18) as u64;
-    share(cost * 100000, output * interval)
+    arithmetic::share(cost * 100000, output * interval)
 }
 
 // What it adds to a start.
@@ -43,7 +42,7 @@ fn start_item(d: &[u8], index: &[u16], p: usize, j: usize) -> u64
     let cost = fields::u64_at(r, 8);
     let interval = fields::u32_at(r, 18) as u64;
     let hours = fields::u16_at(r, 22) as u64;
-    share(cost * hours * 1000, interval)
+    arithmetic::share(cost * hours * 1000, interval)
 }
 
 // Maintenance in an energy level.

@@ -5,7 +5,6 @@ ghost use Prim.Native.Nat.{_≤_};
 ghost use Rattle.station.specs.Parameters.{technology, capacity, factor, startHeat, noLoadHeat, incrementalFuel, charge, efficiency, window, output, heat, fuel, emission, adder, hourPrice};
 ghost use Rattle.lookup.specs.Parts.{Indexed};
 ghost use Rattle.formulas.specs.Levels.{parametersIn, amountsIn};
-use crate::arithmetic::biased;
 
 pub fn technology(d: &[u8], index: &[u16]) -> u8
     requires { ⌜ Indexed (now d) (now index) ⌝ }
@@ -110,5 +109,5 @@ pub fn hour_price(d: &[u8], index: &[u16], n: usize) -> u32
     requires { ⌜ Indexed (now d) (now index) × (1 ≤ n) × (n ≤ 168) ⌝ }
     ensures { λ r. ⌜ r ≡ hourPrice (amountsIn (now (d .entry))) n ⌝ }
 {
-    biased(fields::u32_at(lookup::hr(d, index, n), 7))
+    arithmetic::biased(fields::u32_at(lookup::hr(d, index, n), 7))
 }

@@ -9,11 +9,6 @@ ghost use Rattle.formulas.specs.Sums.{sumTo, listTo, sumHighest};
 ghost use Rattle.formulas.specs.Exact.{dropped};
 ghost use Rattle.formulas.specs.Levels.{parametersIn, amountsIn, totalEnergy, chargingCost, shortRunCost, opportunityCost, storageEnergy};
 ghost use Rattle.reference.specs.Intervals.{Summed};
-use crate::arithmetic::biased;
-use crate::arithmetic::greater;
-use crate::arithmetic::less;
-use crate::arithmetic::share;
-use crate::highest::highest;
 use crate::maintenance::adders;
 use crate::maintenance::maintenance;
 use crate::parameters;
@@ -30,7 +25,7 @@ fn interval(d: &[u8], index: &[u16], n: usize) -> Charging
     ensures { λ r. ⌜ (r .cost ≡ chargePrice (amountsIn (now (d .entry))) n * chargeEnergy (parametersIn (now (d .entry))) n) × (r .energy ≡ chargeEnergy (parametersIn (now (d .entry))) n) × (r .cost ≤ 2147683648 * r .energy) × (r .energy ≤ 1000000) ⌝ }
 {
     let r = lookup::ch(d, index, n);
-    let price = biased(fields::u32_at(r, 8)) as u64;
+    let price = arithmetic::biased(fields::u32_at(r, 8)) as u64;
     let energy = fields::u32_at(r, 12) as u64;
     Charging {
         cost: price * energy,
@@ -86,8 +81,8 @@ fn charging_cost(d: &[u8], index: &[u16]) -> u64
     ensures { λ r. ⌜ (r ≡ dropped (chargingCost (parametersIn (now (d .entry))) (amountsIn (now (d .entry))))) × (r ≤ 2000000000) ⌝ }
 {
     let c = intervals(d, index);
-    let sum = less(c.cost, 2147483648 * c.energy);
-    share(sum * 10000, c.energy)
+    let sum = arithmetic::less(c.cost, 2147483648 * c.energy);
+    arithmetic::share(sum * 10000, c.energy)
 }
 
 // The short-run cost.
@@ -97,7 +92,7 @@ fn short_run_cost(d: &[u8], index: &[u16], p: usize) -> u64
 {
     let charge = charging_cost(d, index) + parameters::fuel(d, index, p);
     let efficiency = parameters::efficiency(d, index);
-    share(charge * 1000, efficiency) + adders(d, index, p, 1) + maintenance(d, index, p)
+    arithmetic::share(charge * 1000, efficiency) + adders(d, index, p, 1) + maintenance(d, index, p)
 }
 
 // The prices of hours 1 to the window, into the last places of an array, hour 1 the very last.
@@ -120,7 +115,7 @@ fn highest_sum(d: &[u8], index: &[u16], hours: usize, window: usize) -> u64
     let mut table = [0u32; 168];
     prices(d, index, window, &mut table);
     let from = 168 - window;
-    highest(&table[from..], hours)
+    arithmetic::highest::highest(&table[from..], hours)
 }
 
 // The opportunity cost.
@@ -128,13 +123,13 @@ fn opportunity_cost(d: &[u8], index: &[u16]) -> u64
     requires { ⌜ Indexed (now d) (now index) × (fullHours (parametersIn (now d)) ≤ window (parametersIn (now d))) ⌝ }
     ensures { λ r. ⌜ r ≡ dropped (opportunityCost (parametersIn (now (d .entry))) (amountsIn (now (d .entry)))) ⌝ }
 {
-    let hours = share(parameters::charge(d, index), parameters::capacity(d, index));
+    let hours = arithmetic::share(parameters::charge(d, index), parameters::capacity(d, index));
     let window = parameters::window(d, index);
-    let sum = less(
+    let sum = arithmetic::less(
         highest_sum(d, index, hours as usize, window),
         2147483648 * hours,
     );
-    share(sum * 10000, hours)
+    arithmetic::share(sum * 10000, hours)
 }
 
 // The greater is taken.
@@ -142,5 +137,5 @@ pub fn storage_energy(d: &[u8], index: &[u16], p: usize) -> u64
     requires { ⌜ Indexed (now d) (now index) × (1 ≤ p) × (p ≤ 4) × (fullHours (parametersIn (now d)) ≤ window (parametersIn (now d))) ⌝ }
     ensures { λ r. ⌜ r ≡ dropped (storageEnergy (parametersIn (now (d .entry))) (amountsIn (now (d .entry))) p) ⌝ }
 {
-    greater(short_run_cost(d, index, p), opportunity_cost(d, index))
+    arithmetic::greater(short_run_cost(d, index, p), opportunity_cost(d, index))
 }

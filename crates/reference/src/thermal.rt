@@ -11,14 +11,11 @@ ghost use Rattle.acceptance.specs.Curve.{points, rise};
 ghost use Rattle.formulas.specs.Exact.{dropped, cents};
 ghost use Rattle.formulas.specs.Levels.{parametersIn, amountsIn, adders, maintenance, thermalEnergy, heatCost, startCost, noLoadCost, laminations, amount};
 ghost use Rattle.reference.specs.Packed.{padded};
-use crate::Money;
-use crate::arithmetic::heat_cost;
-use crate::arithmetic::less;
-use crate::arithmetic::rise_cost;
 use crate::maintenance::adders;
 use crate::maintenance::maintenance;
 use crate::maintenance::start_maintenance;
 use crate::parameters;
+use arithmetic::Money;
 
 // How many laminations lie between the points.
 pub fn lamination_count(d: &[u8], index: &[u16]) -> usize
@@ -46,7 +43,7 @@ fn heat_rise(d: &[u8], index: &[u16], i: usize) -> u64
     requires { ⌜ Indexed (now d) (now index) × (1 ≤ i) × (i ≤ 20) ⌝ }
     ensures { λ r. ⌜ (r ≡ rise (heat (parametersIn (now (d .entry)))) i) × (r ≤ 20000000) ⌝ }
 {
-    less(
+    arithmetic::less(
         parameters::heat(d, index, i + 1),
         parameters::heat(d, index, i),
     )
@@ -57,7 +54,7 @@ fn output_rise(d: &[u8], index: &[u16], i: usize) -> u64
     requires { ⌜ Indexed (now d) (now index) × (1 ≤ i) × (i ≤ 20) ⌝ }
     ensures { λ r. ⌜ (r ≡ rise (output (parametersIn (now (d .entry)))) i) × (r ≤ 20000) ⌝ }
 {
-    less(
+    arithmetic::less(
         parameters::output(d, index, i + 1),
         parameters::output(d, index, i),
     )
@@ -73,7 +70,7 @@ fn lamination(d: &[u8], index: &[u16], p: usize, i: usize, more: u64) -> u64
     let fuel = parameters::fuel(d, index, p);
     let emission = parameters::emission(d, index, p);
     let factor = parameters::factor(d, index);
-    let level = Money::from_sum(rise_cost(heat, output, fuel, emission, factor) + more);
+    let level = Money::from_sum(arithmetic::rise_cost(heat, output, fuel, emission, factor) + more);
     level.cents
 }
 
@@ -107,7 +104,7 @@ fn heat_sum(d: &[u8], index: &[u16], p: usize, heat: u64) -> u64
 {
     let fuel = parameters::fuel(d, index, p);
     let emission = parameters::emission(d, index, p);
-    heat_cost(heat, fuel, emission, parameters::factor(d, index))
+    arithmetic::heat_cost(heat, fuel, emission, parameters::factor(d, index))
 }
 
 // A start.

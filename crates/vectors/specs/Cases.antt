@@ -3,8 +3,8 @@ use mathlib.Core.Path.{_≡_}
 use lib.IntN.{pos, negsuc}
 use Rattle.fields.specs.Numbers.{bytesOf}
 use Rattle.station.specs.Current.{lookupBytes}
-use Rattle.conduct.specs.declared.Verdict.the-variants.{Passes, Fails, Refused}
-use Rattle.conduct.specs.Verdict.{onOffer, onPrice}
+use Rattle.verdicts.specs.declared.Verdict.the-variants.{Passes, Fails, Refused}
+use Rattle.verdicts.specs.Verdict.{onOffer, onPrice}
 use Rattle.report.specs.Report.{prints}
 
 -- line 2: lookup of TH, found

@@ -1,6 +1,6 @@
 use mathlib.Core.Path.{ap, sym, _∙_}
 use mir.Facts.{toZ-ofZ}
-use Rattle.conduct.specs.Verdict.{onPrice}
+use Rattle.verdicts.specs.Verdict.{onPrice}
 use Rattle.bench.proofs.Codes.{passes-code, fails-code, turned-code}
 use borrow.Author.Needs.{needs}
 use Rattle.bench.proofs.bench_price_test.Statement.{statement}

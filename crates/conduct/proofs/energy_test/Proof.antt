@@ -1,6 +1,6 @@
 use mathlib.Core.Path.{sym, _∙_}
-use Rattle.conduct.specs.Verdict.{onOffer}
-use Rattle.conduct.proofs.Outer.{settle-refused, settle-accepted}
+use Rattle.verdicts.specs.Verdict.{onOffer}
+use Rattle.verdicts.proofs.Settled.{settle-refused, settle-accepted}
 use borrow.Author.Needs.{needs}
 use Rattle.conduct.proofs.energy_test.Statement.{statement}
 use Rattle.conduct.proofs.energy_test.Tie as tie

@@ -3,9 +3,10 @@ use Rattle.records.specs.declared.Answer.the-variants.{Accepted}
 use Rattle.records.specs.Dossier.{records}
 use Rattle.station.specs.Parameters.{parameters}
 use Rattle.formulas.specs.Levels.{levels}
-use Rattle.conduct.specs.Refusals.{offerRefusal}
+use Rattle.verdicts.specs.Refusals.{offerRefusal}
 use Rattle.reference.proofs.Packed.{handed-shown, handed-count}
-use Rattle.conduct.proofs.Outer.{offer-accepted, offer-refused, offer-tested}
+use Rattle.verdicts.proofs.Settled.{offer-accepted, offer-refused}
+use Rattle.conduct.proofs.Outer.{offer-tested}
 use borrow.Author.Needs.{needs}
 use Rattle.conduct.proofs.offer_verdict.Statement.{statement}
 use Rattle.conduct.proofs.offer_verdict.Tie as tie

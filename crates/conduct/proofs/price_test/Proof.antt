@@ -1,8 +1,8 @@
 use mathlib.Core.Path.{ap, sym, _∙_}
 use mir.Facts.{toZ-ofZ}
 use Rattle.fields.specs.Numbers.{biasedOf}
-use Rattle.conduct.specs.Verdict.{priceVerdict, onPrice}
-use Rattle.conduct.proofs.Outer.{settle-refused, settle-accepted}
+use Rattle.verdicts.specs.Verdict.{priceVerdict, onPrice}
+use Rattle.verdicts.proofs.Settled.{settle-refused, settle-accepted}
 use borrow.Author.Needs.{needs}
 use Rattle.conduct.proofs.price_test.Statement.{statement}
 use Rattle.conduct.proofs.price_test.Tie as tie

@@ -6,9 +6,10 @@ use Rattle.records.specs.Dossier.{records}
 use Rattle.station.specs.Parameters.{parameters}
 use Rattle.acceptance.specs.Fit.{holds}
 use Rattle.formulas.specs.Levels.{levels}
-use Rattle.conduct.specs.Refusals.{priceRefusal}
+use Rattle.verdicts.specs.Refusals.{priceRefusal}
 use Rattle.reference.proofs.Packed.{handed-shown, handed-technology}
-use Rattle.conduct.proofs.Outer.{price-accepted, price-refused, price-tested}
+use Rattle.verdicts.proofs.Settled.{price-accepted, price-refused}
+use Rattle.conduct.proofs.Outer.{price-tested}
 use borrow.Author.Needs.{needs}
 use Rattle.conduct.proofs.price_verdict.Statement.{statement}
 use Rattle.conduct.proofs.price_verdict.Tie as tie

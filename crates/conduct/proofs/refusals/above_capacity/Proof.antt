@@ -7,7 +7,7 @@ use Rattle.fields.specs.Numbers.{number}
 use Rattle.records.specs.Dossier.{records}
 use Rattle.station.specs.Parameters.{parameters, capacity as capacityOf}
 use Rattle.station.proofs.Fields.{capacity-at}
-use Rattle.conduct.specs.Refusals.{aboveCapacity}
+use Rattle.verdicts.specs.Refusals.{aboveCapacity}
 use Rattle.conduct.proofs.Turns.{all-left, above-stop, above-next, above-end}
 use Rattle.conduct.proofs.refusals.above_capacity.Statement.{statement}
 use Rattle.conduct.proofs.refusals.above_capacity.Tie as tie

@@ -4,8 +4,8 @@ use mathlib.Core.Path.{_≡_, refl, sym, _∙_}
 use Prim.Native.Nat.{_-_, _/_, _≤_}
 use native.Mathlib.Omega.{arith}
 use lib.ListN.{length}
-use Rattle.conduct.specs.Test.{before}
-use Rattle.conduct.specs.Refusals.{priceBefore, malformed}
+use Rattle.verdicts.specs.Test.{before}
+use Rattle.verdicts.specs.Refusals.{priceBefore, malformed}
 use Rattle.conduct.proofs.Turns.{all-left, before-next, priceBefore-next, malformed-stop, malformed-next, malformed-end}
 use Rattle.conduct.proofs.refusals.malformed.Statement.{statement}
 use Rattle.conduct.proofs.refusals.malformed.Tie as tie

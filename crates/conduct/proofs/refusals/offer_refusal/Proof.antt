@@ -1,6 +1,7 @@
 use mathlib.Core.Path.{sym, _∙_}
-use Rattle.conduct.specs.Refusals.{offerRefusal}
-use Rattle.conduct.proofs.Turns.{refused-first, accepted-then, length-accepted}
+use Rattle.verdicts.specs.Refusals.{offerRefusal}
+use Rattle.verdicts.proofs.Settled.{length-accepted}
+use Rattle.conduct.proofs.Turns.{refused-first, accepted-then}
 use borrow.Author.Needs.{needs}
 use Rattle.conduct.proofs.refusals.offer_refusal.Statement.{statement}
 use Rattle.conduct.proofs.refusals.offer_refusal.Tie as tie

@@ -1,7 +1,8 @@
 use native.Mathlib.Omega.{arith}
 use mathlib.Core.Path.{sym, _∙_}
-use Rattle.conduct.specs.Refusals.{priceRefusal}
-use Rattle.conduct.proofs.Turns.{refused-first, accepted-then, level-range}
+use Rattle.verdicts.specs.Refusals.{priceRefusal}
+use Rattle.verdicts.proofs.Settled.{level-range}
+use Rattle.conduct.proofs.Turns.{refused-first, accepted-then}
 use borrow.Author.Needs.{needs}
 use Rattle.conduct.proofs.refusals.price_refusal.Statement.{statement}
 use Rattle.conduct.proofs.refusals.price_refusal.Tie as tie

@@ -1,13 +1,16 @@
 use borrow.Author.Needs.{needs}
-use Rattle.conduct.proofs.Limits.{below-zero, below-level, in-cents}
+use Rattle.verdicts.proofs.Limits.{below-zero, below-level, in-cents}
+use Rattle.conduct.specs.Shapes.{failsAt}
 use Rattle.conduct.proofs.test.fails.Statement.{statement}
 use Rattle.conduct.proofs.test.fails.Tie as tie
 
 returns : tie.Need-returns
-returns c = below-zero (c .before .args .level) (c .before .args .t) (c .before .args .price) (c .if1 .taken)
+unfolding failsAt
+returns c = below-zero _ _ _ _ _ (c .if1 .taken)
 
 returns-2 : tie.Need-returns-2
-returns-2 c = below-level (c .before .before .args .level) (c .before .before .args .t) (c .before .before .args .price) (c .if2 .taken)
+unfolding failsAt
+returns-2 c = below-level _ _ _ _ (c .before .before .args .price) (c .if2 .taken)
 
 cast-result : tie.Need-cast-result
 cast-result c = search needs
@@ -16,9 +19,10 @@ limit-requires : tie.Need-limit-requires
 limit-requires c κs = search needs
 
 returns-3 : tie.Need-returns-3
+unfolding failsAt
 returns-3 c =
     let a = c .before .before .before .before .args in
-    rw (c .limit .ensures) (in-cents (a .level) (a .t) (a .price) (c .before .before .before .if1 .left))
+    rw (c .limit .ensures) (in-cents (a .level) (a .t .percent) (a .t .margin) (a .t .floor) (a .price) (c .before .before .before .if1 .left))
 
 pub fails-spec : {M : Type 1} → statement M
 fails-spec = tie.close (tie.spec returns returns-2 cast-result limit-requires returns-3)

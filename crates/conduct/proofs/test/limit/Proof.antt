@@ -3,7 +3,7 @@ use borrow.Author.Needs.{needs}
 use Prim.Native.Nat.{_*_, _≤_}
 use native.Mathlib.Nat.{mul-le-mul}
 use native.Mathlib.Omega.{arith}
-use Rattle.conduct.proofs.Limits.{limit-percent, limit-margin}
+use Rattle.verdicts.proofs.Limits.{limit-percent, limit-margin}
 use Rattle.conduct.proofs.test.limit.Statement.{statement}
 use Rattle.conduct.proofs.test.limit.Tie as tie
 

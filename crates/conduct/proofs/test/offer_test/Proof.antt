@@ -4,7 +4,7 @@ use Prim.Native.Nat.{_-_, _/_, _≤_}
 use native.Mathlib.Omega.{arith}
 use lib.ListN.{length}
 use Rattle.reference.specs.Packed.{unpacked}
-use Rattle.conduct.specs.Test.{before}
+use Rattle.verdicts.specs.Test.{before}
 use Rattle.conduct.specs.Shapes.{offerShown}
 use Rattle.conduct.proofs.Turns.{all-left, before-next}
 use Rattle.conduct.proofs.Laminations.{pair-stop, pair-next, pair-end}

@@ -1,5 +1,5 @@
 -- `overlaps` meets its contract.
-use Rattle.conduct.proofs.Limits.{overlap-tests}
+use Rattle.verdicts.proofs.Limits.{overlap-tests}
 use Rattle.conduct.proofs.test.overlaps.Statement.{statement}
 use Rattle.conduct.proofs.test.overlaps.Tie as tie
 

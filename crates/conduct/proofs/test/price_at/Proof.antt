@@ -1,7 +1,7 @@
 use mathlib.Core.Path.{refl}
 use native.Mathlib.Omega.{arith}
 use Rattle.fields.specs.Numbers.{biased}
-use Rattle.conduct.specs.Test.{priceAt}
+use Rattle.verdicts.specs.Test.{priceAt}
 use borrow.Author.Needs.{needs}
 use Rattle.conduct.proofs.test.price_at.Statement.{statement}
 use Rattle.conduct.proofs.test.price_at.Tie as tie

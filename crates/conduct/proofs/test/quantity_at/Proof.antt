@@ -1,4 +1,4 @@
-use Rattle.conduct.specs.Test.{quantity}
+use Rattle.verdicts.specs.Test.{quantity}
 use borrow.Author.Needs.{needs}
 use Rattle.conduct.proofs.test.quantity_at.Statement.{statement}
 use Rattle.conduct.proofs.test.quantity_at.Tie as tie

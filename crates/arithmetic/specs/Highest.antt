@@ -1,0 +1,19 @@
+-- The n highest of a list by a threshold: what each lies above it, and the threshold n times. The law `highest-sum` says
+-- that this is their sum, and `threshold-place` that the threshold is the number at place n from the top.
+use mathlib.Core.List.{List}
+use Prim.Native.Nat.{ℕ, _-_, _≤_}
+use Rattle.formulas.specs.Sums.{sumOf, above, atLeast}
+
+-- what those above v have above it
+abbrev pub excess : ℕ → List ℕ → ℕ
+excess v l = sumOf (λ x. x - v) l
+
+-- fewer than n are above v, and no fewer are v or more; for n = 0: none is above v
+pub record Threshold (n v : ℕ) (l : List ℕ) : Type 0 where
+  pub few : above v l ≤ n - 1
+  pub enough : n ≤ atLeast v l
+
+-- a price in its range, plus 2^31
+pub record PriceIn (x : ℕ) : Type 0 where
+  pub low : 2147283648 ≤ x
+  pub high : x ≤ 2147683648

@@ -1,0 +1,74 @@
+// The paper's formulas over plain numbers; each division drops its fraction.
+pub mod highest;
+
+ghost use mathlib.Core.Path.{_≡_};
+ghost use Prim.Native.Nat.{_+_, _*_, _-_, _≤_, max};
+ghost use Rattle.fields.specs.Numbers.{biased};
+ghost use Rattle.formulas.specs.Exact.{quotient, cents};
+
+// One number over another; 0 where the divisor is 0.
+pub fn share(n: u64, by: u64) -> u64
+    ensures { λ r. ⌜ (r ≡ quotient n by) × (r ≤ n) ⌝ }
+{
+    if by == 0 { 0 } else { n / by }
+}
+
+// What a heat costs, in a start or without load.
+pub fn heat_cost(heat: u64, fuel: u64, emission: u64, factor: u64) -> u64
+    requires { ⌜ (heat ≤ 20000000) × (fuel ≤ 400000000) × (emission ≤ 400000000) × (factor ≤ 2000) ⌝ }
+    ensures { λ r. ⌜ (r ≡ quotient (heat * fuel * factor) 1000000 + quotient (heat * emission) 1000) × (r ≤ 24000000000000) ⌝ }
+{
+    heat * fuel * factor / 1000000 + heat * emission / 1000
+}
+
+// What a rise of heat costs over a rise of output.
+pub fn rise_cost(heat: u64, output: u64, fuel: u64, emission: u64, factor: u64) -> u64
+    requires { ⌜ (heat ≤ 20000000) × (output ≤ 20000) × (fuel ≤ 400000000) × (emission ≤ 400000000) × (factor ≤ 2000) ⌝ }
+    ensures { λ r. ⌜ (r ≡ quotient (heat * fuel * factor) (100000 * output) + quotient (heat * emission) (100 * output)) × (r ≤ 16008000000000000000) ⌝ }
+{
+    share(heat * fuel * factor, 100000 * output) + share(heat * emission, 100 * output)
+}
+
+// A difference that stops at 0.
+pub fn less(a: u64, b: u64) -> u64
+    ensures { λ r. ⌜ r ≡ a - b ⌝ }
+{
+    if a < b { 0 } else { a - b }
+}
+
+// The greater of two numbers.
+pub fn greater(a: u64, b: u64) -> u64
+    ensures { λ r. ⌜ r ≡ max a b ⌝ }
+{
+    if a < b { b } else { a }
+}
+
+// A price plus 2^31, given its four bytes.
+pub fn biased(v: u32) -> u32
+    ensures { λ r. ⌜ r ≡ biased v ⌝ }
+{
+    ((v as u64 + 2147483648) % 4294967296) as u32
+}
+
+// An amount of money in whole cents.
+pub struct Money {
+    pub cents: u64,
+}
+
+impl Money {
+    // Micro-dollars in a cent.
+    pub const PER_CENT: u64 = 10000;
+
+    // A finished sum of micro-dollars, rounded to cents, half up. The sum plus half a cent might not fit, so the
+    // remainder decides.
+    pub fn from_sum(sum: u64) -> Self
+        ensures { λ r. ⌜ r .cents ≡ cents sum ⌝ }
+    {
+        let whole = sum / Self::PER_CENT;
+        if sum % Self::PER_CENT < Self::PER_CENT / 2 {
+            Self { cents: whole }
+        } else {
+            Self { cents: whole + 1 }
+        }
+    }
+}

@@ -1,0 +1,5 @@
+mod Worked
+pub mod Limits
+pub mod Stays
+pub mod First
+pub mod Settled

@@ -1,0 +1,91 @@
+-- Worked values of the limit, in cents: document 01's M3 and M4, a limit by margin, and one without a margin; of an offer's length; and
+-- of refusals where several could be drawn.
+use mathlib.Core.Path.{_≡_, refl}
+use mathlib.Core.Bool.{true, false, cond}
+use mathlib.Core.List.{List, [], _∷_, _++_}
+use Prim.Native.Nat.{ℕ, _+_}
+use lib.Dec.{eqb}
+use lib.ListN.{replicate}
+use Rattle.lists.specs.Tests.{every, among, between}
+use Rattle.fields.specs.Numbers.{number, biased, bias}
+use Rattle.records.specs.declared.Answer.the-variants.{Accepted, Refused}
+use Rattle.records.specs.Record.{inRange}
+use Rattle.records.specs.Answers.{orElse, refuseIf}
+use Rattle.station.specs.Parameters.{Parameters}
+use Rattle.acceptance.specs.Fit.{energy, holds, levelsOf}
+use Rattle.verdicts.specs.Test.{noMargin, limit, fails, quantity, priceAt, before}
+use Rattle.verdicts.specs.Refusals.{levelRefusal, conditionRefusal, priceBefore, pairHolds, malformed, aboveCapacity, lengthRefusal, offerRefusal, priceRefusal}
+
+-- M3: by percent 63.45, by margin 67.30
+by-percent : limit 4230 50 2500 ≡ 6345
+unfolding limit
+by-percent = refl
+
+-- level 100.00: by percent 150.00, by margin 125.00
+by-margin : limit 10000 50 2500 ≡ 12500
+unfolding limit
+by-margin = refl
+
+-- level 42.31, 50 percent of which is 21.155: the fraction is dropped
+without-margin : limit 4231 50 noMargin ≡ 6346
+unfolding limit
+without-margin = refl
+
+-- M3: 63.45 passes, 63.46 fails
+at-the-limit : fails 4230 50 2500 0 (6345 + bias) ≡ false
+unfolding fails limit
+at-the-limit = refl
+
+above-the-limit : fails 4230 50 2500 0 (6346 + bias) ≡ true
+unfolding fails limit
+above-the-limit = refl
+
+-- M4: floor 25.00; 24.99 passes, 25.00 fails
+below-the-floor : fails 1000 50 2500 2500 (2499 + bias) ≡ false
+unfolding fails limit
+below-the-floor = refl
+
+at-the-floor : fails 1000 50 2500 2500 (2500 + bias) ≡ true
+unfolding fails limit
+at-the-floor = refl
+
+-- 20 pairs are an offer, 21 are not
+twenty-pairs : lengthRefusal (replicate 120 0) ≡ Accepted
+unfolding lengthRefusal refuseIf between
+twenty-pairs = refl
+
+twenty-one-pairs : lengthRefusal (replicate 126 0) ≡ Refused 10 126
+unfolding lengthRefusal refuseIf between
+twenty-one-pairs = refl
+
+-- a thermal station of 100.0 MW, with a TH for each condition and level
+station : Parameters
+station = record { has = λ k n. true; says = λ k n i. cond (eqb i 0) 1 1000 }
+
+-- a pair of 200.0 MW at 0.00
+above : List ℕ
+above = 7 ∷ 208 ∷ 0 ∷ 0 ∷ 0 ∷ 0 ∷ []
+
+-- 10 at the second pair, which doesn't rise, and not 11 at the first
+ten-first : offerRefusal station 1 (above ++ above) ≡ Refused 10 6
+unfolding station above offerRefusal conditionRefusal lengthRefusal malformed aboveCapacity pairHolds priceBefore quantity priceAt before number biased inRange every between orElse refuseIf
+ten-first = refl
+
+-- that pair alone draws 11
+eleven : offerRefusal station 1 above ≡ Refused 11 0
+unfolding station above offerRefusal conditionRefusal lengthRefusal malformed aboveCapacity pairHolds priceBefore quantity priceAt before number biased inRange every between orElse refuseIf
+eleven = refl
+
+-- 14 for a condition that there is not, whatever the offer's length
+fourteen-first : offerRefusal station 4 [] ≡ Refused 14 0
+unfolding station offerRefusal conditionRefusal lengthRefusal between orElse refuseIf
+fourteen-first = refl
+
+-- 12 for the energy level, whatever the condition; 14 for a level that is held
+twelve-first : priceRefusal station energy 4 ≡ Refused 12 0
+unfolding station priceRefusal levelRefusal conditionRefusal holds levelsOf among between orElse refuseIf
+twelve-first = refl
+
+fourteen : priceRefusal station 2 4 ≡ Refused 14 0
+unfolding station priceRefusal levelRefusal conditionRefusal holds levelsOf among between orElse refuseIf
+fourteen = refl

@@ -1,0 +1,4 @@
+pub mod Test
+pub mod Refusals
+pub mod Verdict
+pub mod First

@@ -1,0 +1,43 @@
+-- The verdict on an offer, of a dossier as bytes.
+use mathlib.Core.List.{List, [], _∷_}
+use Prim.Native.Nat.{ℕ, _/_}
+use lib.IntN.{ℤ}
+use lib.ListN.{length}
+use Rattle.fields.specs.Numbers.{biasedOf}
+use Rattle.records.specs.declared.Answer.{Answer}
+use Rattle.records.specs.declared.Answer.the-variants.{Accepted, Refused as Turned}
+use Rattle.records.specs.Dossier.{records}
+use Rattle.station.specs.Parameters.{Parameters, parameters}
+use Rattle.acceptance.specs.Answer.{answer}
+use Rattle.formulas.specs.Levels.{Line, levels}
+use Rattle.verdicts.specs.declared.Verdict.{Verdict}
+use Rattle.verdicts.specs.declared.Verdict.the-variants.{Passes, Fails, Refused}
+use Rattle.verdicts.specs.Test.{offerFrom, priceTest}
+use Rattle.verdicts.specs.Refusals.{offerRefusal, priceRefusal}
+
+-- a refusal comes before the test
+unfoldable pub settle : Answer → Verdict → Verdict
+settle Accepted v = v
+settle (Turned n p) v = Refused n p
+
+-- a verdict in the paper's numbers: 0 passes; 1 fails, with pair and lamination; 2 refused, with number and place
+unfoldable pub numbers : Verdict → List ℕ
+numbers Passes = 0 ∷ []
+numbers (Fails k i) = 1 ∷ k ∷ i ∷ []
+numbers (Refused n p) = 2 ∷ n ∷ p ∷ []
+
+-- on an energy offer, under a condition, beside some levels
+unfoldable pub offerVerdict : Parameters → ℕ → List Line → List ℕ → Verdict
+offerVerdict s c l o = settle (offerRefusal s c o) (offerFrom s c l o 0 (length o / 6))
+
+-- on a single price, for a level and under a condition, beside some levels
+unfoldable pub priceVerdict : Parameters → ℕ → ℕ → List Line → ℕ → Verdict
+priceVerdict s v c l price = settle (priceRefusal s v c) (priceTest s c v price l)
+
+-- on an energy offer, of a dossier at an hour and under a condition
+unfoldable pub onOffer : List ℕ → ℕ → ℕ → List ℕ → Verdict
+onOffer d h c o = settle (answer d) (offerVerdict (parameters (records d)) c (levels d h) o)
+
+-- on a signed price in cents, of a dossier at an hour, for a level and under a condition
+unfoldable pub onPrice : List ℕ → ℕ → ℕ → ℕ → ℤ → Verdict
+onPrice d h v c price = settle (answer d) (priceVerdict (parameters (records d)) v c (levels d h) (biasedOf price))
