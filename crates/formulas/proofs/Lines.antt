@@ -8,13 +8,13 @@ use native.Mathlib.Omega.{arith}
 use lib.Dec.{eqb, lit≤}
 use borrow.Author.Tests.{eqb-true}
 use Rattle.lists.specs.Lists.{Pairwise, none, more, Each, done, also}
-use Rattle.records.specs.Table.{FU, AD, MM, HR, CH}
+use Rattle.records.specs.Table.{FU, AD, MM, HR, CH, FP}
 use Rattle.station.specs.Parameters.{Parameters, Amounts, Higher, technology, efficiency, window, chargeEnergy, chargePrice, adderKey, itemKey}
 use Rattle.acceptance.specs.Curve.{fullHours}
 use Rattle.formulas.specs.Sums.{sumTo}
 use Rattle.formulas.specs.Exact.{Sum}
-use Rattle.formulas.specs.Levels.{profile, adders, maintenance, startMaintenance, thermalEnergy, heatCost, startCost, noLoadCost, nuclearEnergy, chargingSum, chargingCost, shortRunCost, highestSum, opportunityCost, storageEnergy, Line, line, amount, NoLower, CloseLine, laminations, oneLamination, single, linesOf, lines}
-use Rattle.formulas.proofs.Sums.{sumTo-mono, listTo-mono, sumHighest-mono}
+use Rattle.formulas.specs.Levels.{profile, adders, maintenance, startMaintenance, thermalEnergy, heatCost, startCost, noLoadCost, nuclearEnergy, chargingSum, chargingCost, shortRunCost, highestSum, opportunityCost, storageEnergy, forecastPlace, forecastPrice, hydroEnergy, Line, line, amount, NoLower, CloseLine, laminations, oneLamination, single, linesOf, lines}
+use Rattle.formulas.proofs.Sums.{sumTo-mono, listTo-mono, sumHighest-mono, fromTop-mono}
 use Rattle.formulas.proofs.Exact.{Below, wholes, shares, both, totals, perThousands, greaters, dropped-mono, cents-mono, divisions, close}
 
 -- ---- each formula, part by part
@@ -69,6 +69,14 @@ module _ (s : Parameters) {m n : Amounts} (h : Higher m n) (p : ℕ) where
       (both (both (perThousands (both (shares (mul-le-mul-right 10000 chargingSum-le)) (wholes (h FU p 1)))) (adders-below 1)) maintenance-below)
       (shares (mul-le-mul-right 10000 highestSum-le))
 
+  forecastPrice-le : forecastPrice s m ≤ forecastPrice s n
+  unfolding forecastPrice
+  forecastPrice-le = omega (arith, fromTop-mono (forecastPlace s) (listTo-mono (window s) (λ k. h FP k 1)))
+
+  hydro-below : Below (hydroEnergy s m p) (hydroEnergy s n p)
+  unfolding hydroEnergy
+  hydro-below = both (both (wholes (mul-le-mul-right 10000 forecastPrice-le)) (adders-below 1)) maintenance-below
+
 -- ---- the lines: the same levels, laminations and ends, none lower
 
 upper : (v i a b : ℕ) {x y : Sum} → Below x y → NoLower (line v i a b x) (line v i a b y)
@@ -91,7 +99,11 @@ module _ (s : Parameters) {m n : Amounts} (h : Higher m n) (p : ℕ) where
       (laminations-upper _ 1 (more (upper 2 0 0 0 (start-below s h p)) (more (upper 3 0 0 0 (noLoad-below s h p)) (more (upper 4 0 0 0 (adders-below s h p 4)) none))))
       (by-cond (eqb (technology s) 2)
       (more (upper 1 1 0 _ (nuclear-below s h p)) none)
-      (by-cond (eqb (technology s) 3) (more (upper 1 1 0 _ (storage-below s h p)) (more (upper 4 0 0 0 (adders-below s h p 4)) none)) none))
+      (by-cond (eqb (technology s) 3)
+      (more (upper 1 1 0 _ (storage-below s h p)) (more (upper 4 0 0 0 (adders-below s h p 4)) none))
+      (by-cond (eqb (technology s) 4)
+      (more (upper 1 1 0 _ (hydro-below s h p)) (more (upper 4 0 0 0 (adders-below s h p 4)) none))
+      none)))
 
 pub lines-upper : (s : Parameters) {m n : Amounts} → Higher m n → (h : ℕ) → Pairwise NoLower (lines s m h) (lines s n h)
 unfolding lines
@@ -124,6 +136,10 @@ module _ (s : Parameters) (m : Amounts) (p : ℕ) where
   unfolding oneLamination storageEnergy shortRunCost chargingCost opportunityCost adders maintenance divisions sumTo
   storage-close e = close (storageEnergy s m p) ((((e, (tt, tt)), tt), λ j. tt), tt) (lit≤ tt)
 
+  hydro-close : CloseLine (oneLamination s (hydroEnergy s m p))
+  unfolding oneLamination hydroEnergy adders maintenance divisions sumTo
+  hydro-close = close (hydroEnergy s m p) ((tt, tt), λ j. tt) (lit≤ tt)
+
   laminations-close : (k i : ℕ) {l : List Line} → Each CloseLine l → Each CloseLine (laminations s m p i k l)
   unfolding laminations
   laminations-close zero i r = r
@@ -132,16 +148,18 @@ module _ (s : Parameters) (m : Amounts) (p : ℕ) where
   linesOf-close : (technology s ≡ 3 → 500 ≤ efficiency s) → Each CloseLine (linesOf s m p)
   unfolding linesOf
   linesOf-close g =
-      by-technology (eqb (technology s) 1) (eqb (technology s) 2) (eqb (technology s) 3) refl
+      by-technology (eqb (technology s) 1) (eqb (technology s) 2) (eqb (technology s) 3) (eqb (technology s) 4) refl
       (laminations-close _ 1 (also start-close (also noLoad-close (also reserve-close done))))
       (also nuclear-close done)
       (λ e. also (storage-close (g (eqb-true (technology s) 3 e))) (also reserve-close done))
+      (also hydro-close (also reserve-close done))
     where
-      by-technology : {x y z : List Line} (a b c : Bool) → eqb (technology s) 3 ≡ c → Each CloseLine x → Each CloseLine y → (eqb (technology s) 3 ≡ true → Each CloseLine z) → Each CloseLine (cond a x (cond b y (cond c z [])))
-      by-technology true b c e u v w = u
-      by-technology false true c e u v w = v
-      by-technology false false true e u v w = w e
-      by-technology false false false e u v w = done
+      by-technology : {x y z i : List Line} (a b c d : Bool) → eqb (technology s) 3 ≡ c → Each CloseLine x → Each CloseLine y → (eqb (technology s) 3 ≡ true → Each CloseLine z) → Each CloseLine i → Each CloseLine (cond a x (cond b y (cond c z (cond d i []))))
+      by-technology true b c d e u v w j = u
+      by-technology false true c d e u v w j = v
+      by-technology false false true d e u v w j = w e
+      by-technology false false false true e u v w j = j
+      by-technology false false false false e u v w j = done
 
 pub lines-close : (s : Parameters) (m : Amounts) → (technology s ≡ 3 → 500 ≤ efficiency s) → (h : ℕ) → Each CloseLine (lines s m h)
 unfolding lines

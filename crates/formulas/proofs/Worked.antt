@@ -5,12 +5,12 @@ use mathlib.Core.Bool.{cond, _&&_, not}
 use mathlib.Core.List.{List, [], _∷_}
 use Prim.Native.Nat.{ℕ, _+_, _-_}
 use lib.Dec.{eqb}
-use Rattle.records.specs.Table.{RS, HP, FU, AD, MM, RQ, HR, CH}
+use Rattle.records.specs.Table.{RS, HP, FU, AD, MM, RQ, HR, CH, FP}
 use Rattle.station.specs.Parameters.{Parameters, Amounts, adderKey, itemKey}
 use Rattle.acceptance.specs.Curve.{rise, fullHours}
 use Rattle.formulas.specs.Sums.{sumTo, listTo, insert, falling, sumFirst, sumHighest, fromTop}
 use Rattle.formulas.specs.Exact.{quotient, dropped, cents}
-use Rattle.formulas.specs.Levels.{covers, profileOf, profile, adders, maintenance, startMaintenance, thermalEnergy, heatCost, startCost, noLoadCost, nuclearEnergy, totalEnergy, chargingSum, chargingCost, shortRunCost, highestSum, opportunityCost, storageEnergy}
+use Rattle.formulas.specs.Levels.{covers, profileOf, profile, adders, maintenance, startMaintenance, thermalEnergy, heatCost, startCost, noLoadCost, nuclearEnergy, totalEnergy, chargingSum, chargingCost, shortRunCost, highestSum, opportunityCost, storageEnergy, forecastPlace, forecastPrice, hydroEnergy}
 
 -- what a field of a current record says
 record Entry : Type 0 where
@@ -123,6 +123,24 @@ equal-prices = refl
 places : (fromTop 1 (5 ∷ 9 ∷ 9 ∷ 1 ∷ []) ≡ 9) × (fromTop 2 (5 ∷ 9 ∷ 9 ∷ 1 ∷ []) ≡ 9) × (fromTop 3 (5 ∷ 9 ∷ 9 ∷ 1 ∷ []) ≡ 5) × (fromTop 4 (5 ∷ 9 ∷ 9 ∷ 1 ∷ []) ≡ 1)
 unfolding fromTop falling insert
 places = (refl, refl, refl, refl)
+
+-- a window of 149, so place 2 from the top of 30.00, 35.00 and 40.00; consumables 0.25
+hydro : List Entry
+hydro = says RS 0 8 149 ∷ says FP 3 1 (price 3000) ∷ says FP 7 1 (price 3500) ∷ says FP 9 1 (price 4000) ∷ says AD (adderKey 1 3 1) 3 250000 ∷ []
+
+hydro-sum : dropped (hydroEnergy (asParameters hydro) (asAmounts hydro) 1) ≡ 35250000
+unfolding hydro hydroEnergy forecastPrice forecastPlace fromTop falling insert listTo adders maintenance dropped quotient sumTo find
+hydro-sum = refl
+
+-- place 3 of 40.00 twice and 30.00: each counts
+hydro-equal : dropped (hydroEnergy (asParameters (says RS 0 8 150 ∷ hydro)) (asAmounts (says FP 7 1 (price 4000) ∷ hydro)) 1) ≡ 30250000
+unfolding hydro hydroEnergy forecastPrice forecastPlace fromTop falling insert listTo adders maintenance dropped quotient sumTo find
+hydro-equal = refl
+
+-- a price below 0 counts as 0
+hydro-owed : dropped (hydroEnergy (asParameters hydro) (asAmounts (says FP 3 1 (owed 100) ∷ says FP 7 1 (owed 500) ∷ hydro)) 1) ≡ 250000
+unfolding hydro hydroEnergy forecastPrice forecastPlace fromTop falling insert listTo adders maintenance dropped quotient sumTo find
+hydro-owed = refl
 
 -- request 2 asks for profile 3 from hour 5 to 9, request 7 for profile 4 from hour 9 to 12, request 9 is withdrawn
 requests : List Entry

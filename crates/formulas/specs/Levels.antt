@@ -2,14 +2,14 @@
 use mathlib.Core.Path.{_≡_}
 use mathlib.Core.Bool.{Bool, cond, _&&_, not}
 use mathlib.Core.List.{List, [], _∷_}
-use Prim.Native.Nat.{ℕ, zero, suc, _+_, _*_, _-_, _≤_}
+use Prim.Native.Nat.{ℕ, zero, suc, _+_, _*_, _-_, _/_, _≤_}
 use lib.Dec.{leb, eqb}
-use Rattle.records.specs.Table.{thermal, nuclear, storage, RQ}
+use Rattle.records.specs.Table.{thermal, nuclear, storage, hydro, RQ}
 use Rattle.records.specs.Dossier.{records}
-use Rattle.station.specs.Parameters.{Parameters, Amounts, parameters, amounts, technology, capacity, factor, startHeat, noLoadHeat, incrementalFuel, efficiency, window, output, heat, fuel, emission, adder, costC, outputW, intervalT, hoursPerStartS, firstHour, lastHour, requested, hourPrice, chargePrice, chargeEnergy}
+use Rattle.station.specs.Parameters.{Parameters, Amounts, parameters, amounts, technology, capacity, factor, startHeat, noLoadHeat, incrementalFuel, efficiency, window, output, heat, fuel, emission, adder, costC, outputW, intervalT, hoursPerStartS, firstHour, lastHour, requested, hourPrice, chargePrice, chargeEnergy, placePrice}
 use Rattle.acceptance.specs.Fit.{energy, start, noLoad, reserve}
 use Rattle.acceptance.specs.Curve.{points, rise, fullHours}
-use Rattle.formulas.specs.Sums.{sumTo, listTo, sumHighest}
+use Rattle.formulas.specs.Sums.{sumTo, listTo, sumHighest, fromTop}
 use Rattle.formulas.specs.Exact.{Sum, whole, share, _⊕_, total, perThousand, greater, dropped, exact, cents, Close}
 
 -- ---- what a dossier's current records say
@@ -103,6 +103,18 @@ opportunityCost s m = share (highestSum s m * 10000) (fullHours s)
 unfoldable pub storageEnergy : Parameters → Amounts → ℕ → Sum
 storageEnergy s m p = greater (shortRunCost s m p) (opportunityCost s m)
 
+-- "The place from the top" is "the window divided by 50, fraction dropped, in the exact level too"
+unfoldable pub forecastPlace : Parameters → ℕ
+forecastPlace s = window s / 50
+
+-- "the greater of 0 and that price", "among places 1 to the window with repeated prices counted each"
+unfoldable pub forecastPrice : Parameters → Amounts → ℕ
+forecastPrice s m = fromTop (forecastPlace s) (listTo (window s) (placePrice m)) - 2147483648
+
+-- that price, cents in micro-dollars, "plus AD and MM"
+unfoldable pub hydroEnergy : Parameters → Amounts → ℕ → Sum
+hydroEnergy s m p = whole (forecastPrice s m * 10000) ⊕ adders m p energy ⊕ maintenance s m p
+
 -- ---- the levels
 
 -- one level at an hour: its number, its lamination, from where to where in 0.1 MW (all 0 where it has none), its formula
@@ -147,7 +159,9 @@ linesOf s m p =
     (oneLamination s (nuclearEnergy s m p) ∷ [])
     (cond (eqb (technology s) storage)
     (oneLamination s (storageEnergy s m p) ∷ single reserve (adders m p reserve) ∷ [])
-    []))
+    (cond (eqb (technology s) hydro)
+    (oneLamination s (hydroEnergy s m p) ∷ single reserve (adders m p reserve) ∷ [])
+    [])))
 
 -- at an hour: "FU, AD and MM are current ones of the hour's profile"
 unfoldable pub lines : Parameters → Amounts → ℕ → List Line
