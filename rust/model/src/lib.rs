@@ -1,7 +1,8 @@
-//! Document 01 in plain Rust: a dossier's acceptance, its levels, the conduct test and the report.
+//! Document 01 with request 1 of document 02 in plain Rust: a dossier's acceptance, its levels, the
+//! conduct test and the report.
 //!
-//! Bench is run against this crate. It is written to be read beside the paper and not to be fast,
-//! and it shares no code with Bench. The functions named at the end of this page take bytes and
+//! Bench is run against this crate. It is written to be read beside the papers, goes over a dossier
+//! once for each question, and shares no code with Bench. The functions named at the end of this page take bytes and
 //! give whole answers; the modules follow the paper's order.
 
 pub mod accept;
