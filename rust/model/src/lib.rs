@@ -36,6 +36,6 @@ pub struct Refusal {
 }
 
 /// The refusal as the error of a result, which is how every function here hands it on.
-pub(crate) fn refuse<T>(number: u8, place: usize) -> Result<T, Refusal> {
+pub fn refuse<T>(number: u8, place: usize) -> Result<T, Refusal> {
     Err(Refusal { number, place })
 }

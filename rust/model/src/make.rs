@@ -1,9 +1,10 @@
 //! A seeded maker of test dossiers, hours, offers and prices.
 //!
-//! Sound dossiers (`sound`) are accepted; damaged ones (`damage`) draw the number they aim at. The
-//! offers and prices (`offers`) crowd around the floors and limits of the dossier they are put to.
+//! Sound dossiers (`sound`) are accepted; damaged ones (`damage`) draw the number they aim at; some
+//! are written out (`written`, `forecast`). The offers and prices (`offers`) crowd around the floors and limits of the dossier they are put to.
 
 pub mod damage;
+pub mod forecast;
 mod incomplete;
 pub mod offers;
 pub mod sound;
