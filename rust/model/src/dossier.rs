@@ -44,8 +44,8 @@ pub fn records(dossier: &[u8]) -> Result<Vec<Record<'_>>, Refusal> {
     in_turn(dossier)?.collect()
 }
 
-/// The records in the order they lie, each read when it is asked for; the first that draws 1, 2 or 3
-/// is the last. 13 comes before them all.
+/// The records in the order they lie, each read when it is asked for; the first that draws 1, 2 or
+/// 3 is the last. 13 comes before them all.
 pub fn in_turn<'a>(
     dossier: &'a [u8],
 ) -> Result<impl Iterator<Item = Result<Record<'a>, Refusal>>, Refusal> {
@@ -77,7 +77,7 @@ fn record(dossier: &[u8], start: usize) -> Result<Record<'_>, Refusal> {
     };
     let record = Record { start, kind, bytes };
     let mut fields = kind.fields.iter();
-    let in_range = fields.all(|f| as_in(bytes, *f).allows(record.get(*f)));
+    let in_range = fields.all(|f| as_in(bytes, f).allows(f.read(bytes)));
     let in_turn = kind.mark != *b"RQ" || record.get(rq::FIRST) <= record.get(rq::LAST);
     if in_range && in_turn {
         Ok(record)

@@ -69,8 +69,8 @@ impl Field {
         }
     }
 
-    /// The field's number in a whole record: big-endian; signed ones, which all have 4 bytes, in two's
-    /// complement.
+    /// The field's number in a whole record: big-endian; signed ones, which all have 4 bytes, in
+    /// two's complement.
     pub fn read(&self, record: &[u8]) -> i128 {
         match record[self.at..self.at + self.width] {
             [a] => a.into(),

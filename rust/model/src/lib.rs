@@ -2,8 +2,8 @@
 //! conduct test and the report.
 //!
 //! Bench is run against this crate. It is written to be read beside the papers, goes over a dossier
-//! once for each question, and shares no code with Bench. The functions named at the end of this page take bytes and
-//! give whole answers; the modules follow the paper's order.
+//! once for each question, and shares no code with Bench. The functions named at the end of this
+//! page take bytes and give whole answers; the modules follow the paper's order.
 
 pub mod accept;
 pub mod conduct;

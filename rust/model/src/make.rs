@@ -1,7 +1,8 @@
 //! A seeded maker of test dossiers, hours, offers and prices.
 //!
 //! Sound dossiers (`sound`) are accepted; damaged ones (`damage`) draw the number they aim at; some
-//! are written out (`written`, `forecast`). The offers and prices (`offers`) crowd around the floors and limits of the dossier they are put to.
+//! are written out (`written`, `forecast`). The offers and prices (`offers`) crowd around the floors
+//! and limits of the dossier they are put to.
 
 pub mod damage;
 pub mod forecast;
@@ -106,7 +107,7 @@ fn any_record(random: &mut Random, kind: &Kind) -> Vec<u8> {
     let mut record = vec![0; kind.length];
     record[..2].copy_from_slice(&kind.mark);
     for field in kind.fields {
-        let value = value(random, as_in(&record, *field));
+        let value = value(random, *as_in(&record, field));
         field.write(&mut record, value);
     }
     let issue = random.spread(0, u32::MAX.into());
@@ -125,7 +126,7 @@ fn reconcile(record: &mut [u8]) {
     }
     if record.starts_with(b"RS") {
         let window = rs::WINDOW.read(record);
-        let most = as_in(record, rs::WINDOW).highest;
+        let most = as_in(record, &rs::WINDOW).highest;
         rs::WINDOW.write(record, window.min(most));
     }
 }

@@ -186,9 +186,9 @@ pub fn kind_of(mark: &Mark) -> Option<&'static Kind> {
 }
 
 /// A field with the range that it has in this record: 3 goes by what an RS itself says.
-pub fn as_in(record: &[u8], field: Field) -> Field {
-    if field == rs::WINDOW && rs::TECHNOLOGY.read(record) == Technology::Hydro.byte() {
-        rs::LONG_WINDOW
+pub fn as_in<'f>(record: &[u8], field: &'f Field) -> &'f Field {
+    if *field == rs::WINDOW && rs::TECHNOLOGY.read(record) == Technology::Hydro.byte() {
+        &rs::LONG_WINDOW
     } else {
         field
     }

@@ -73,14 +73,14 @@ fn equal_prices_count_each() {
 
 #[test]
 fn a_negative_price_counts_as_0() {
-    let addition = record(b"AD", 1, &[1, 3, 1, 2_500_000]);
+    let addition = [record(b"AD", 1, &[1, 3, 1, 2_500_000])];
     for highest in [-200_000, -1, 0] {
         let mut prices = [highest; 100];
         // the second highest counts
         prices[63] = 7_000;
         let dossier = hydro(&prices);
         assert_eq!(energy_level(&dossier), 0);
-        assert_eq!(energy_level(&with(dossier, &[addition.clone()])), 250);
+        assert_eq!(energy_level(&with(dossier, &addition)), 250);
     }
 }
 

@@ -147,7 +147,7 @@ fn one_byte_left(random: &mut Random, draft: &mut Draft) -> Option<()> {
 fn bounded_field(random: &mut Random, draft: &Draft) -> Option<(usize, Field)> {
     let at = any_place(random, draft)?;
     let record = &draft.records[at];
-    let field = as_in(record, random.pick(kind(record).fields));
+    let field = *as_in(record, &random.pick(kind(record).fields));
     (field.highest < ceiling(field)).then_some((at, field))
 }
 

@@ -24,8 +24,8 @@ impl Order {
     }
 }
 
-/// A station with all 4,000 places, some costs, and a threshold for each of its levels. `arrival` is
-/// the order in which the places lie in the dossier, `prices` that of their prices by place.
+/// A station with all 4,000 places, some costs, and a threshold for each of its levels. `arrival`
+/// is the order in which the places lie in the dossier, `prices` that of their prices by place.
 pub fn full(arrival: Order, prices: Order) -> Vec<u8> {
     // 0.25 dollar apart, up to 500.00
     let mut by_place: Vec<i128> = (1..=4_000).map(|n| 25 * n - 50_000).collect();

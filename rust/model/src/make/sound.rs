@@ -259,7 +259,7 @@ impl Maker<'_> {
                 &rest
             };
             for field in changed {
-                let value = value(self.random, as_in(&record, *field));
+                let value = value(self.random, *as_in(&record, field));
                 field.write(&mut record, value);
             }
             set_issue(&mut record, issue);
