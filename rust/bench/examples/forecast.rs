@@ -6,7 +6,7 @@
 //! A cell is the model and the library in nanoseconds, and their ratio within a round: medians over
 //! the rounds. The status is 1 if an answer differs or a ratio is above 3.
 
-use model::make::forecast::{full, FULL_LEVEL, ORDERS};
+use model::make::forecast::{full, orders, FULL_LEVEL};
 use model::make::offers;
 use std::fmt::Debug;
 use std::hint::black_box;
@@ -107,8 +107,8 @@ fn main() -> ExitCode {
     );
     println!("|---|---|---|---|---|---|");
     let mut all_hold = true;
-    for (arrival, prices) in ORDERS.iter().flat_map(|a| ORDERS.map(|p| (a, p))) {
-        let cells = cells(rounds, &full(*arrival, prices));
+    for (arrival, prices) in orders() {
+        let cells = cells(rounds, &full(arrival, prices));
         let [accept, levels, energy_test, report] = cells.each_ref().map(Cell::text);
         println!("| {arrival:?} | {prices:?} | {accept} | {levels} | {energy_test} | {report} |");
         all_hold &= cells.iter().all(Cell::holds);

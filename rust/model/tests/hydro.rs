@@ -7,7 +7,7 @@ use common::{energy_level, with};
 use model::accept::accepted;
 use model::costs::forecast_price;
 use model::dossier::{records, LONGEST};
-use model::make::forecast::{edges, full, FULL_LEVEL, ORDERS};
+use model::make::forecast::{edges, full, orders, FULL_LEVEL};
 use model::make::sound::sound_of;
 use model::make::written::{hydro, plain_thermal, record};
 use model::raise::is_raise;
@@ -116,8 +116,8 @@ fn what_does_not_count() {
 
 #[test]
 fn full_forecasts_in_every_order() {
-    for (arrival, prices) in ORDERS.iter().flat_map(|a| ORDERS.map(|p| (a, p))) {
-        assert_eq!(energy_level(&full(*arrival, prices)), FULL_LEVEL);
+    for (arrival, prices) in orders() {
+        assert_eq!(energy_level(&full(arrival, prices)), FULL_LEVEL);
     }
     let (accepted, refused): (Vec<_>, Vec<_>) =
         edges().into_iter().partition(|d| accept(d).is_ok());

@@ -11,7 +11,12 @@ pub enum Order {
     Any,
 }
 
-pub const ORDERS: [Order; 3] = [Order::Rising, Order::Falling, Order::Any];
+/// Each order of arrival with each order of prices.
+pub fn orders() -> impl Iterator<Item = (Order, Order)> {
+    let orders = [Order::Rising, Order::Falling, Order::Any];
+    let pairs = orders.map(|arrival| orders.map(|prices| (arrival, prices)));
+    pairs.into_iter().flatten()
+}
 
 impl Order {
     /// Puts a list that rises into this order.
@@ -51,8 +56,7 @@ pub const FULL_LEVEL: u64 = 48_025 + 150 + 80;
 /// Full forecasts, one with older issues as far as 60,000 bytes reach, windows about the steps of
 /// the place from the top, prices about 0, and each of these once more without its last record.
 pub fn edges() -> Vec<Vec<u8>> {
-    let orders = ORDERS.iter().flat_map(|a| ORDERS.map(|p| (*a, p)));
-    let mut edges: Vec<Vec<u8>> = orders.map(|(a, p)| full(a, p)).collect();
+    let mut edges: Vec<Vec<u8>> = orders().map(|(a, p)| full(a, p)).collect();
     let older = (1..=988).flat_map(|place| record(b"FP", 0, &[place, 200_000]));
     edges.push(edges[0].iter().copied().chain(older).collect());
     for window in [1, 49, 50, 51, 99, 100, 149, 150, 168, 169, 2_928, 3_999] {

@@ -176,7 +176,7 @@ impl Maker<'_> {
             (1, -500, -1),
         ];
         let (step, low, high) = self.random.pick(&prices);
-        let beyond = (window + 1..=4_000.min(window + 4)).chain([4_000]);
+        let beyond = (window + 1..=4_000).filter(|p| *p <= window + 4 || *p == 4_000);
         let beyond: Vec<i128> = beyond.filter(|_| self.random.one_in(8)).collect();
         for place in (1..=window).chain(beyond) {
             let price = step * self.random.between(low, high);
