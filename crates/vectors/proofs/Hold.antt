@@ -7,29 +7,65 @@ line2 : cases.Line2
 unfolding computed
 line2 = refl
 
-line9 : cases.Line9
+line5 : cases.Line5
 unfolding computed
-line9 = refl
+line5 = refl
+
+line12 : cases.Line12
+unfolding computed
+line12 = refl
+
+line15 : cases.Line15
+unfolding computed
+line15 = refl
 
 line16 : cases.Line16
 unfolding computed
 line16 = refl
 
-line18 : cases.Line18
+line23 : cases.Line23
 unfolding computed
-line18 = refl
+line23 = refl
 
-line20 : cases.Line20
+line25 : cases.Line25
 unfolding computed
-line20 = refl
+line25 = refl
+
+line26 : cases.Line26
+unfolding computed
+line26 = refl
+
+line27 : cases.Line27
+unfolding computed
+line27 = refl
+
+line28 : cases.Line28
+unfolding computed
+line28 = refl
+
+line29 : cases.Line29
+unfolding computed
+line29 = refl
 
 line30 : cases.Line30
 unfolding computed
 line30 = refl
 
-line37 : cases.Line37
+line31 : cases.Line31
 unfolding computed
-line37 = refl
+line31 = refl
+
+line32 : cases.Line32
+unfolding computed
+line32 = refl
+
+line38 : cases.Line38
+unfolding computed
+line38 = refl
+
+line39 : cases.Line39
+unfolding computed
+line39 = refl
 
 line40 : cases.Line40
 unfolding computed
@@ -39,29 +75,25 @@ line41 : cases.Line41
 unfolding computed
 line41 = refl
 
-line42 : cases.Line42
+line44 : cases.Line44
 unfolding computed
-line42 = refl
+line44 = refl
 
-line43 : cases.Line43
+line45 : cases.Line45
 unfolding computed
-line43 = refl
+line45 = refl
 
-line51 : cases.Line51
+line46 : cases.Line46
 unfolding computed
-line51 = refl
+line46 = refl
+
+line47 : cases.Line47
+unfolding computed
+line47 = refl
 
 line52 : cases.Line52
 unfolding computed
 line52 = refl
-
-line53 : cases.Line53
-unfolding computed
-line53 = refl
-
-line54 : cases.Line54
-unfolding computed
-line54 = refl
 
 line55 : cases.Line55
 unfolding computed
@@ -75,21 +107,41 @@ line57 : cases.Line57
 unfolding computed
 line57 = refl
 
-line58 : cases.Line58
+line59 : cases.Line59
 unfolding computed
-line58 = refl
+line59 = refl
 
-line66 : cases.Line66
+line62 : cases.Line62
 unfolding computed
-line66 = refl
+line62 = refl
 
-line79 : cases.Line79
+line65 : cases.Line65
 unfolding computed
-line79 = refl
+line65 = refl
 
-line80 : cases.Line80
+line67 : cases.Line67
 unfolding computed
-line80 = refl
+line67 = refl
+
+line71 : cases.Line71
+unfolding computed
+line71 = refl
+
+line74 : cases.Line74
+unfolding computed
+line74 = refl
+
+line81 : cases.Line81
+unfolding computed
+line81 = refl
+
+line84 : cases.Line84
+unfolding computed
+line84 = refl
+
+line86 : cases.Line86
+unfolding computed
+line86 = refl
 
 line87 : cases.Line87
 unfolding computed
@@ -99,13 +151,25 @@ line88 : cases.Line88
 unfolding computed
 line88 = refl
 
-line89 : cases.Line89
+line96 : cases.Line96
 unfolding computed
-line89 = refl
+line96 = refl
 
-line94 : cases.Line94
+line97 : cases.Line97
 unfolding computed
-line94 = refl
+line97 = refl
+
+line98 : cases.Line98
+unfolding computed
+line98 = refl
+
+line99 : cases.Line99
+unfolding computed
+line99 = refl
+
+line100 : cases.Line100
+unfolding computed
+line100 = refl
 
 line101 : cases.Line101
 unfolding computed
@@ -114,14 +178,6 @@ line101 = refl
 line102 : cases.Line102
 unfolding computed
 line102 = refl
-
-line104 : cases.Line104
-unfolding computed
-line104 = refl
-
-line105 : cases.Line105
-unfolding computed
-line105 = refl
 
 line106 : cases.Line106
 unfolding computed
@@ -135,141 +191,281 @@ line108 : cases.Line108
 unfolding computed
 line108 = refl
 
+line109 : cases.Line109
+unfolding computed
+line109 = refl
+
+line113 : cases.Line113
+unfolding computed
+line113 = refl
+
+line114 : cases.Line114
+unfolding computed
+line114 = refl
+
 line115 : cases.Line115
 unfolding computed
 line115 = refl
 
-line116 : cases.Line116
+line122 : cases.Line122
 unfolding computed
-line116 = refl
+line122 = refl
 
-line118 : cases.Line118
+line123 : cases.Line123
 unfolding computed
-line118 = refl
+line123 = refl
+
+line124 : cases.Line124
+unfolding computed
+line124 = refl
+
+line125 : cases.Line125
+unfolding computed
+line125 = refl
+
+line129 : cases.Line129
+unfolding computed
+line129 = refl
 
 line130 : cases.Line130
 unfolding computed
 line130 = refl
 
-line138 : cases.Line138
+line131 : cases.Line131
 unfolding computed
-line138 = refl
+line131 = refl
 
-line141 : cases.Line141
+line132 : cases.Line132
 unfolding computed
-line141 = refl
+line132 = refl
 
-line142 : cases.Line142
+line136 : cases.Line136
 unfolding computed
-line142 = refl
+line136 = refl
 
-line145 : cases.Line145
+line139 : cases.Line139
 unfolding computed
-line145 = refl
+line139 = refl
 
-line146 : cases.Line146
+line143 : cases.Line143
 unfolding computed
-line146 = refl
+line143 = refl
 
-line147 : cases.Line147
+line148 : cases.Line148
 unfolding computed
-line147 = refl
+line148 = refl
 
 line149 : cases.Line149
 unfolding computed
 line149 = refl
 
-line152 : cases.Line152
+line150 : cases.Line150
 unfolding computed
-line152 = refl
+line150 = refl
 
-line154 : cases.Line154
+line151 : cases.Line151
 unfolding computed
-line154 = refl
+line151 = refl
+
+line158 : cases.Line158
+unfolding computed
+line158 = refl
+
+line169 : cases.Line169
+unfolding computed
+line169 = refl
 
 line170 : cases.Line170
 unfolding computed
 line170 = refl
 
+line171 : cases.Line171
+unfolding computed
+line171 = refl
+
+line172 : cases.Line172
+unfolding computed
+line172 = refl
+
 line174 : cases.Line174
 unfolding computed
 line174 = refl
 
-line183 : cases.Line183
+line175 : cases.Line175
 unfolding computed
-line183 = refl
+line175 = refl
 
-line189 : cases.Line189
+line178 : cases.Line178
 unfolding computed
-line189 = refl
+line178 = refl
 
-line197 : cases.Line197
+line180 : cases.Line180
 unfolding computed
-line197 = refl
+line180 = refl
 
-line215 : cases.Line215
+line181 : cases.Line181
 unfolding computed
-line215 = refl
+line181 = refl
 
-line220 : cases.Line220
+line182 : cases.Line182
 unfolding computed
-line220 = refl
+line182 = refl
+
+line190 : cases.Line190
+unfolding computed
+line190 = refl
+
+line193 : cases.Line193
+unfolding computed
+line193 = refl
+
+line204 : cases.Line204
+unfolding computed
+line204 = refl
+
+line205 : cases.Line205
+unfolding computed
+line205 = refl
+
+line210 : cases.Line210
+unfolding computed
+line210 = refl
+
+line212 : cases.Line212
+unfolding computed
+line212 = refl
+
+line213 : cases.Line213
+unfolding computed
+line213 = refl
+
+line217 : cases.Line217
+unfolding computed
+line217 = refl
+
+line218 : cases.Line218
+unfolding computed
+line218 = refl
+
+line219 : cases.Line219
+unfolding computed
+line219 = refl
+
+line223 : cases.Line223
+unfolding computed
+line223 = refl
+
+line225 : cases.Line225
+unfolding computed
+line225 = refl
+
+line227 : cases.Line227
+unfolding computed
+line227 = refl
+
+line232 : cases.Line232
+unfolding computed
+line232 = refl
 
 line233 : cases.Line233
 unfolding computed
 line233 = refl
 
+line236 : cases.Line236
+unfolding computed
+line236 = refl
+
 line239 : cases.Line239
 unfolding computed
 line239 = refl
+
+line240 : cases.Line240
+unfolding computed
+line240 = refl
 
 line241 : cases.Line241
 unfolding computed
 line241 = refl
 
-line242 : cases.Line242
+line246 : cases.Line246
 unfolding computed
-line242 = refl
+line246 = refl
+
+line248 : cases.Line248
+unfolding computed
+line248 = refl
 
 line249 : cases.Line249
 unfolding computed
 line249 = refl
 
+line250 : cases.Line250
+unfolding computed
+line250 = refl
+
 line255 : cases.Line255
 unfolding computed
 line255 = refl
-
-line256 : cases.Line256
-unfolding computed
-line256 = refl
 
 line257 : cases.Line257
 unfolding computed
 line257 = refl
 
+line258 : cases.Line258
+unfolding computed
+line258 = refl
+
 line259 : cases.Line259
 unfolding computed
 line259 = refl
 
-line266 : cases.Line266
+line263 : cases.Line263
 unfolding computed
-line266 = refl
+line263 = refl
 
-line277 : cases.Line277
+line264 : cases.Line264
 unfolding computed
-line277 = refl
+line264 = refl
 
-line278 : cases.Line278
+line267 : cases.Line267
 unfolding computed
-line278 = refl
+line267 = refl
+
+line268 : cases.Line268
+unfolding computed
+line268 = refl
+
+line269 : cases.Line269
+unfolding computed
+line269 = refl
+
+line270 : cases.Line270
+unfolding computed
+line270 = refl
+
+line271 : cases.Line271
+unfolding computed
+line271 = refl
+
+line275 : cases.Line275
+unfolding computed
+line275 = refl
+
+line279 : cases.Line279
+unfolding computed
+line279 = refl
 
 line280 : cases.Line280
 unfolding computed
 line280 = refl
 
-line282 : cases.Line282
+line288 : cases.Line288
 unfolding computed
-line282 = refl
+line288 = refl
+
+line289 : cases.Line289
+unfolding computed
+line289 = refl
 
 line290 : cases.Line290
 unfolding computed
@@ -283,13 +479,33 @@ line294 : cases.Line294
 unfolding computed
 line294 = refl
 
-line311 : cases.Line311
+line295 : cases.Line295
 unfolding computed
-line311 = refl
+line295 = refl
 
-line312 : cases.Line312
+line296 : cases.Line296
 unfolding computed
-line312 = refl
+line296 = refl
+
+line297 : cases.Line297
+unfolding computed
+line297 = refl
+
+line302 : cases.Line302
+unfolding computed
+line302 = refl
+
+line306 : cases.Line306
+unfolding computed
+line306 = refl
+
+line307 : cases.Line307
+unfolding computed
+line307 = refl
+
+line310 : cases.Line310
+unfolding computed
+line310 = refl
 
 line313 : cases.Line313
 unfolding computed
@@ -299,33 +515,25 @@ line314 : cases.Line314
 unfolding computed
 line314 = refl
 
-line316 : cases.Line316
+line315 : cases.Line315
 unfolding computed
-line316 = refl
+line315 = refl
 
-line320 : cases.Line320
+line326 : cases.Line326
 unfolding computed
-line320 = refl
+line326 = refl
 
-line323 : cases.Line323
+line328 : cases.Line328
 unfolding computed
-line323 = refl
+line328 = refl
 
-line333 : cases.Line333
+line329 : cases.Line329
 unfolding computed
-line333 = refl
-
-line341 : cases.Line341
-unfolding computed
-line341 = refl
+line329 = refl
 
 line344 : cases.Line344
 unfolding computed
 line344 = refl
-
-line345 : cases.Line345
-unfolding computed
-line345 = refl
 
 line346 : cases.Line346
 unfolding computed
@@ -335,149 +543,161 @@ line347 : cases.Line347
 unfolding computed
 line347 = refl
 
+line348 : cases.Line348
+unfolding computed
+line348 = refl
+
 line349 : cases.Line349
 unfolding computed
 line349 = refl
 
-line352 : cases.Line352
+line357 : cases.Line357
 unfolding computed
-line352 = refl
+line357 = refl
 
-line354 : cases.Line354
+line358 : cases.Line358
 unfolding computed
-line354 = refl
+line358 = refl
 
-line355 : cases.Line355
+line369 : cases.Line369
 unfolding computed
-line355 = refl
+line369 = refl
 
-line363 : cases.Line363
+line370 : cases.Line370
 unfolding computed
-line363 = refl
+line370 = refl
 
-line366 : cases.Line366
+line374 : cases.Line374
 unfolding computed
-line366 = refl
+line374 = refl
 
-line372 : cases.Line372
+line390 : cases.Line390
 unfolding computed
-line372 = refl
+line390 = refl
 
-line381 : cases.Line381
+line393 : cases.Line393
 unfolding computed
-line381 = refl
-
-line382 : cases.Line382
-unfolding computed
-line382 = refl
-
-line395 : cases.Line395
-unfolding computed
-line395 = refl
+line393 = refl
 
 line396 : cases.Line396
 unfolding computed
 line396 = refl
 
+line397 : cases.Line397
+unfolding computed
+line397 = refl
+
+line398 : cases.Line398
+unfolding computed
+line398 = refl
+
+line399 : cases.Line399
+unfolding computed
+line399 = refl
+
+line400 : cases.Line400
+unfolding computed
+line400 = refl
+
 line401 : cases.Line401
 unfolding computed
 line401 = refl
+
+line402 : cases.Line402
+unfolding computed
+line402 = refl
+
+line403 : cases.Line403
+unfolding computed
+line403 = refl
 
 line404 : cases.Line404
 unfolding computed
 line404 = refl
 
-line405 : cases.Line405
-unfolding computed
-line405 = refl
-
-line406 : cases.Line406
-unfolding computed
-line406 = refl
-
-line407 : cases.Line407
-unfolding computed
-line407 = refl
-
 line408 : cases.Line408
 unfolding computed
 line408 = refl
-
-line409 : cases.Line409
-unfolding computed
-line409 = refl
-
-line412 : cases.Line412
-unfolding computed
-line412 = refl
-
-line413 : cases.Line413
-unfolding computed
-line413 = refl
-
-line414 : cases.Line414
-unfolding computed
-line414 = refl
 
 line419 : cases.Line419
 unfolding computed
 line419 = refl
 
-line422 : cases.Line422
+line428 : cases.Line428
 unfolding computed
-line422 = refl
-
-line425 : cases.Line425
-unfolding computed
-line425 = refl
+line428 = refl
 
 line429 : cases.Line429
 unfolding computed
 line429 = refl
 
-line430 : cases.Line430
+line438 : cases.Line438
 unfolding computed
-line430 = refl
+line438 = refl
 
-line431 : cases.Line431
+line439 : cases.Line439
 unfolding computed
-line431 = refl
+line439 = refl
 
-line462 : cases.Line462
+line440 : cases.Line440
 unfolding computed
-line462 = refl
+line440 = refl
 
-line463 : cases.Line463
+line444 : cases.Line444
 unfolding computed
-line463 = refl
+line444 = refl
+
+line451 : cases.Line451
+unfolding computed
+line451 = refl
+
+line454 : cases.Line454
+unfolding computed
+line454 = refl
+
+line457 : cases.Line457
+unfolding computed
+line457 = refl
+
+line458 : cases.Line458
+unfolding computed
+line458 = refl
+
+line461 : cases.Line461
+unfolding computed
+line461 = refl
 
 line464 : cases.Line464
 unfolding computed
 line464 = refl
 
-line466 : cases.Line466
+line475 : cases.Line475
 unfolding computed
-line466 = refl
+line475 = refl
 
-line471 : cases.Line471
+line477 : cases.Line477
 unfolding computed
-line471 = refl
+line477 = refl
 
-line472 : cases.Line472
+line478 : cases.Line478
 unfolding computed
-line472 = refl
+line478 = refl
 
-line473 : cases.Line473
+line479 : cases.Line479
 unfolding computed
-line473 = refl
+line479 = refl
 
-line481 : cases.Line481
+line480 : cases.Line480
 unfolding computed
-line481 = refl
+line480 = refl
 
-line489 : cases.Line489
+line482 : cases.Line482
 unfolding computed
-line489 = refl
+line482 = refl
+
+line487 : cases.Line487
+unfolding computed
+line487 = refl
 
 line494 : cases.Line494
 unfolding computed
@@ -487,117 +707,81 @@ line495 : cases.Line495
 unfolding computed
 line495 = refl
 
-line498 : cases.Line498
+line496 : cases.Line496
 unfolding computed
-line498 = refl
+line496 = refl
 
-line499 : cases.Line499
+line497 : cases.Line497
 unfolding computed
-line499 = refl
-
-line500 : cases.Line500
-unfolding computed
-line500 = refl
-
-line501 : cases.Line501
-unfolding computed
-line501 = refl
+line497 = refl
 
 line506 : cases.Line506
 unfolding computed
 line506 = refl
 
+line507 : cases.Line507
+unfolding computed
+line507 = refl
+
 line508 : cases.Line508
 unfolding computed
 line508 = refl
 
-line510 : cases.Line510
+line523 : cases.Line523
 unfolding computed
-line510 = refl
-
-line511 : cases.Line511
-unfolding computed
-line511 = refl
-
-line512 : cases.Line512
-unfolding computed
-line512 = refl
-
-line516 : cases.Line516
-unfolding computed
-line516 = refl
-
-line534 : cases.Line534
-unfolding computed
-line534 = refl
-
-line537 : cases.Line537
-unfolding computed
-line537 = refl
-
-line538 : cases.Line538
-unfolding computed
-line538 = refl
+line523 = refl
 
 line539 : cases.Line539
 unfolding computed
 line539 = refl
 
-line543 : cases.Line543
+line548 : cases.Line548
 unfolding computed
-line543 = refl
+line548 = refl
 
-line544 : cases.Line544
+line551 : cases.Line551
 unfolding computed
-line544 = refl
-
-line545 : cases.Line545
-unfolding computed
-line545 = refl
-
-line547 : cases.Line547
-unfolding computed
-line547 = refl
-
-line554 : cases.Line554
-unfolding computed
-line554 = refl
+line551 = refl
 
 line560 : cases.Line560
 unfolding computed
 line560 = refl
 
-line561 : cases.Line561
+line564 : cases.Line564
 unfolding computed
-line561 = refl
+line564 = refl
 
-line562 : cases.Line562
+line566 : cases.Line566
 unfolding computed
-line562 = refl
+line566 = refl
 
-line563 : cases.Line563
+line576 : cases.Line576
 unfolding computed
-line563 = refl
+line576 = refl
 
-line580 : cases.Line580
+line579 : cases.Line579
 unfolding computed
-line580 = refl
+line579 = refl
 
-line597 : cases.Line597
+line595 : cases.Line595
 unfolding computed
-line597 = refl
+line595 = refl
 
-line599 : cases.Line599
+line596 : cases.Line596
 unfolding computed
-line599 = refl
+line596 = refl
 
-line600 : cases.Line600
+line598 : cases.Line598
 unfolding computed
-line600 = refl
+line598 = refl
 
 line602 : cases.Line602
 unfolding computed
 line602 = refl
+
+line603 : cases.Line603
+unfolding computed
+line603 = refl
 
 line604 : cases.Line604
 unfolding computed
@@ -611,81 +795,69 @@ line607 : cases.Line607
 unfolding computed
 line607 = refl
 
-line611 : cases.Line611
+line610 : cases.Line610
 unfolding computed
-line611 = refl
+line610 = refl
 
 line613 : cases.Line613
 unfolding computed
 line613 = refl
 
-line614 : cases.Line614
+line616 : cases.Line616
 unfolding computed
-line614 = refl
+line616 = refl
 
-line622 : cases.Line622
+line619 : cases.Line619
 unfolding computed
-line622 = refl
+line619 = refl
+
+line621 : cases.Line621
+unfolding computed
+line621 = refl
 
 line626 : cases.Line626
 unfolding computed
 line626 = refl
 
-line627 : cases.Line627
-unfolding computed
-line627 = refl
-
-line628 : cases.Line628
-unfolding computed
-line628 = refl
-
-line629 : cases.Line629
-unfolding computed
-line629 = refl
-
-line630 : cases.Line630
-unfolding computed
-line630 = refl
-
-line636 : cases.Line636
-unfolding computed
-line636 = refl
-
-line637 : cases.Line637
-unfolding computed
-line637 = refl
-
 line638 : cases.Line638
 unfolding computed
 line638 = refl
+
+line639 : cases.Line639
+unfolding computed
+line639 = refl
 
 line640 : cases.Line640
 unfolding computed
 line640 = refl
 
-line641 : cases.Line641
+line644 : cases.Line644
 unfolding computed
-line641 = refl
+line644 = refl
 
-line642 : cases.Line642
+line648 : cases.Line648
 unfolding computed
-line642 = refl
-
-line646 : cases.Line646
-unfolding computed
-line646 = refl
-
-line650 : cases.Line650
-unfolding computed
-line650 = refl
-
-line653 : cases.Line653
-unfolding computed
-line653 = refl
+line648 = refl
 
 line654 : cases.Line654
 unfolding computed
 line654 = refl
+
+line655 : cases.Line655
+unfolding computed
+line655 = refl
+
+line657 : cases.Line657
+unfolding computed
+line657 = refl
+
+line658 : cases.Line658
+unfolding computed
+line658 = refl
+
+line659 : cases.Line659
+unfolding computed
+line659 = refl
 
 line660 : cases.Line660
 unfolding computed
@@ -695,113 +867,253 @@ line662 : cases.Line662
 unfolding computed
 line662 = refl
 
-line663 : cases.Line663
+line668 : cases.Line668
 unfolding computed
-line663 = refl
+line668 = refl
 
 line669 : cases.Line669
 unfolding computed
 line669 = refl
 
+line672 : cases.Line672
+unfolding computed
+line672 = refl
+
+line673 : cases.Line673
+unfolding computed
+line673 = refl
+
+line674 : cases.Line674
+unfolding computed
+line674 = refl
+
+line675 : cases.Line675
+unfolding computed
+line675 = refl
+
+line682 : cases.Line682
+unfolding computed
+line682 = refl
+
+line683 : cases.Line683
+unfolding computed
+line683 = refl
+
 line689 : cases.Line689
 unfolding computed
 line689 = refl
 
-line695 : cases.Line695
+line693 : cases.Line693
 unfolding computed
-line695 = refl
+line693 = refl
+
+line697 : cases.Line697
+unfolding computed
+line697 = refl
+
+line706 : cases.Line706
+unfolding computed
+line706 = refl
+
+line707 : cases.Line707
+unfolding computed
+line707 = refl
 
 line708 : cases.Line708
 unfolding computed
 line708 = refl
 
+line709 : cases.Line709
+unfolding computed
+line709 = refl
+
+line713 : cases.Line713
+unfolding computed
+line713 = refl
+
 line714 : cases.Line714
 unfolding computed
 line714 = refl
+
+line715 : cases.Line715
+unfolding computed
+line715 = refl
+
+line719 : cases.Line719
+unfolding computed
+line719 = refl
+
+line720 : cases.Line720
+unfolding computed
+line720 = refl
 
 line721 : cases.Line721
 unfolding computed
 line721 = refl
 
-line725 : cases.Line725
+line722 : cases.Line722
 unfolding computed
-line725 = refl
+line722 = refl
 
-line727 : cases.Line727
+line723 : cases.Line723
 unfolding computed
-line727 = refl
+line723 = refl
 
-line733 : cases.Line733
+line724 : cases.Line724
 unfolding computed
-line733 = refl
+line724 = refl
+
+line730 : cases.Line730
+unfolding computed
+line730 = refl
 
 line734 : cases.Line734
 unfolding computed
 line734 = refl
 
-line735 : cases.Line735
-unfolding computed
-line735 = refl
-
-line736 : cases.Line736
-unfolding computed
-line736 = refl
-
 line738 : cases.Line738
 unfolding computed
 line738 = refl
+
+line741 : cases.Line741
+unfolding computed
+line741 = refl
 
 line751 : cases.Line751
 unfolding computed
 line751 = refl
 
-line762 : cases.Line762
+line752 : cases.Line752
 unfolding computed
-line762 = refl
+line752 = refl
 
-line784 : cases.Line784
+line758 : cases.Line758
 unfolding computed
-line784 = refl
+line758 = refl
+
+line759 : cases.Line759
+unfolding computed
+line759 = refl
+
+line760 : cases.Line760
+unfolding computed
+line760 = refl
+
+line761 : cases.Line761
+unfolding computed
+line761 = refl
+
+line768 : cases.Line768
+unfolding computed
+line768 = refl
+
+line770 : cases.Line770
+unfolding computed
+line770 = refl
+
+line772 : cases.Line772
+unfolding computed
+line772 = refl
+
+line776 : cases.Line776
+unfolding computed
+line776 = refl
+
+line779 : cases.Line779
+unfolding computed
+line779 = refl
+
+line780 : cases.Line780
+unfolding computed
+line780 = refl
+
+line781 : cases.Line781
+unfolding computed
+line781 = refl
+
+line783 : cases.Line783
+unfolding computed
+line783 = refl
+
+line789 : cases.Line789
+unfolding computed
+line789 = refl
+
+line790 : cases.Line790
+unfolding computed
+line790 = refl
 
 line791 : cases.Line791
 unfolding computed
 line791 = refl
 
-line793 : cases.Line793
-unfolding computed
-line793 = refl
-
 line795 : cases.Line795
 unfolding computed
 line795 = refl
+
+line796 : cases.Line796
+unfolding computed
+line796 = refl
+
+line797 : cases.Line797
+unfolding computed
+line797 = refl
+
+line798 : cases.Line798
+unfolding computed
+line798 = refl
 
 line799 : cases.Line799
 unfolding computed
 line799 = refl
 
-line809 : cases.Line809
+line800 : cases.Line800
 unfolding computed
-line809 = refl
+line800 = refl
+
+line801 : cases.Line801
+unfolding computed
+line801 = refl
+
+line802 : cases.Line802
+unfolding computed
+line802 = refl
+
+line803 : cases.Line803
+unfolding computed
+line803 = refl
+
+line805 : cases.Line805
+unfolding computed
+line805 = refl
+
+line808 : cases.Line808
+unfolding computed
+line808 = refl
 
 line812 : cases.Line812
 unfolding computed
 line812 = refl
 
-line817 : cases.Line817
+line816 : cases.Line816
 unfolding computed
-line817 = refl
-
-line818 : cases.Line818
-unfolding computed
-line818 = refl
+line816 = refl
 
 line823 : cases.Line823
 unfolding computed
 line823 = refl
 
-line827 : cases.Line827
+line826 : cases.Line826
 unfolding computed
-line827 = refl
+line826 = refl
+
+line828 : cases.Line828
+unfolding computed
+line828 = refl
+
+line829 : cases.Line829
+unfolding computed
+line829 = refl
 
 line830 : cases.Line830
 unfolding computed
@@ -815,21 +1127,13 @@ line832 : cases.Line832
 unfolding computed
 line832 = refl
 
-line834 : cases.Line834
+line838 : cases.Line838
 unfolding computed
-line834 = refl
+line838 = refl
 
-line842 : cases.Line842
+line841 : cases.Line841
 unfolding computed
-line842 = refl
-
-line843 : cases.Line843
-unfolding computed
-line843 = refl
-
-line846 : cases.Line846
-unfolding computed
-line846 = refl
+line841 = refl
 
 line848 : cases.Line848
 unfolding computed
@@ -839,53 +1143,77 @@ line849 : cases.Line849
 unfolding computed
 line849 = refl
 
-line859 : cases.Line859
+line850 : cases.Line850
 unfolding computed
-line859 = refl
+line850 = refl
+
+line858 : cases.Line858
+unfolding computed
+line858 = refl
+
+line860 : cases.Line860
+unfolding computed
+line860 = refl
 
 line861 : cases.Line861
 unfolding computed
 line861 = refl
 
-line881 : cases.Line881
+line868 : cases.Line868
 unfolding computed
-line881 = refl
+line868 = refl
+
+line874 : cases.Line874
+unfolding computed
+line874 = refl
+
+line875 : cases.Line875
+unfolding computed
+line875 = refl
+
+line876 : cases.Line876
+unfolding computed
+line876 = refl
+
+line878 : cases.Line878
+unfolding computed
+line878 = refl
 
 line885 : cases.Line885
 unfolding computed
 line885 = refl
 
-line888 : cases.Line888
+line898 : cases.Line898
 unfolding computed
-line888 = refl
+line898 = refl
 
-line890 : cases.Line890
+line909 : cases.Line909
 unfolding computed
-line890 = refl
+line909 = refl
 
-line893 : cases.Line893
+line913 : cases.Line913
 unfolding computed
-line893 = refl
+line913 = refl
 
-line900 : cases.Line900
+line916 : cases.Line916
 unfolding computed
-line900 = refl
+line916 = refl
 
-line912 : cases.Line912
+line917 : cases.Line917
 unfolding computed
-line912 = refl
+line917 = refl
 
-line918 : cases.Line918
+line919 : cases.Line919
 unfolding computed
-line918 = refl
+line919 = refl
+
+line923 : cases.Line923
+unfolding computed
+line923 = refl
 
 line924 : cases.Line924
 unfolding computed
 line924 = refl
-
-line926 : cases.Line926
-unfolding computed
-line926 = refl
 
 line927 : cases.Line927
 unfolding computed
@@ -894,6 +1222,10 @@ line927 = refl
 line928 : cases.Line928
 unfolding computed
 line928 = refl
+
+line929 : cases.Line929
+unfolding computed
+line929 = refl
 
 line930 : cases.Line930
 unfolding computed
@@ -915,37 +1247,53 @@ line937 : cases.Line937
 unfolding computed
 line937 = refl
 
-line938 : cases.Line938
+line941 : cases.Line941
 unfolding computed
-line938 = refl
+line941 = refl
 
-line939 : cases.Line939
+line943 : cases.Line943
 unfolding computed
-line939 = refl
+line943 = refl
 
-line954 : cases.Line954
+line944 : cases.Line944
 unfolding computed
-line954 = refl
+line944 = refl
+
+line945 : cases.Line945
+unfolding computed
+line945 = refl
+
+line946 : cases.Line946
+unfolding computed
+line946 = refl
+
+line950 : cases.Line950
+unfolding computed
+line950 = refl
 
 line956 : cases.Line956
 unfolding computed
 line956 = refl
 
-line960 : cases.Line960
+line957 : cases.Line957
 unfolding computed
-line960 = refl
+line957 = refl
+
+line958 : cases.Line958
+unfolding computed
+line958 = refl
+
+line961 : cases.Line961
+unfolding computed
+line961 = refl
 
 line964 : cases.Line964
 unfolding computed
 line964 = refl
 
-line971 : cases.Line971
+line967 : cases.Line967
 unfolding computed
-line971 = refl
-
-line980 : cases.Line980
-unfolding computed
-line980 = refl
+line967 = refl
 
 line981 : cases.Line981
 unfolding computed
@@ -959,81 +1307,65 @@ line983 : cases.Line983
 unfolding computed
 line983 = refl
 
-line988 : cases.Line988
+line991 : cases.Line991
 unfolding computed
-line988 = refl
+line991 = refl
 
-line989 : cases.Line989
+line992 : cases.Line992
 unfolding computed
-line989 = refl
+line992 = refl
 
-line990 : cases.Line990
+line993 : cases.Line993
 unfolding computed
-line990 = refl
+line993 = refl
+
+line994 : cases.Line994
+unfolding computed
+line994 = refl
 
 line995 : cases.Line995
 unfolding computed
 line995 = refl
 
-line999 : cases.Line999
+line996 : cases.Line996
 unfolding computed
-line999 = refl
+line996 = refl
 
-line1000 : cases.Line1000
+line997 : cases.Line997
 unfolding computed
-line1000 = refl
+line997 = refl
 
-line1002 : cases.Line1002
+line998 : cases.Line998
 unfolding computed
-line1002 = refl
+line998 = refl
 
-line1005 : cases.Line1005
+line1009 : cases.Line1009
 unfolding computed
-line1005 = refl
+line1009 = refl
 
-line1006 : cases.Line1006
+line1011 : cases.Line1011
 unfolding computed
-line1006 = refl
+line1011 = refl
 
-line1007 : cases.Line1007
+line1012 : cases.Line1012
 unfolding computed
-line1007 = refl
+line1012 = refl
 
-line1008 : cases.Line1008
+line1013 : cases.Line1013
 unfolding computed
-line1008 = refl
-
-line1010 : cases.Line1010
-unfolding computed
-line1010 = refl
+line1013 = refl
 
 line1014 : cases.Line1014
 unfolding computed
 line1014 = refl
 
-line1019 : cases.Line1019
+line1015 : cases.Line1015
 unfolding computed
-line1019 = refl
+line1015 = refl
 
 line1020 : cases.Line1020
 unfolding computed
 line1020 = refl
-
-line1021 : cases.Line1021
-unfolding computed
-line1021 = refl
-
-line1023 : cases.Line1023
-unfolding computed
-line1023 = refl
-
-line1024 : cases.Line1024
-unfolding computed
-line1024 = refl
-
-line1028 : cases.Line1028
-unfolding computed
-line1028 = refl
 
 line1029 : cases.Line1029
 unfolding computed
@@ -1047,17 +1379,17 @@ line1031 : cases.Line1031
 unfolding computed
 line1031 = refl
 
-line1036 : cases.Line1036
+line1032 : cases.Line1032
 unfolding computed
-line1036 = refl
+line1032 = refl
 
-line1039 : cases.Line1039
+line1038 : cases.Line1038
 unfolding computed
-line1039 = refl
+line1038 = refl
 
-line1043 : cases.Line1043
+line1046 : cases.Line1046
 unfolding computed
-line1043 = refl
+line1046 = refl
 
 line1047 : cases.Line1047
 unfolding computed
@@ -1071,294 +1403,74 @@ line1049 : cases.Line1049
 unfolding computed
 line1049 = refl
 
-line1050 : cases.Line1050
+line1081 : cases.Line1081
 unfolding computed
-line1050 = refl
+line1081 = refl
 
-line1053 : cases.Line1053
+line1084 : cases.Line1084
 unfolding computed
-line1053 = refl
+line1084 = refl
 
-line1056 : cases.Line1056
+line1085 : cases.Line1085
 unfolding computed
-line1056 = refl
+line1085 = refl
 
-line1075 : cases.Line1075
+line1086 : cases.Line1086
 unfolding computed
-line1075 = refl
-
-line1076 : cases.Line1076
-unfolding computed
-line1076 = refl
-
-line1077 : cases.Line1077
-unfolding computed
-line1077 = refl
+line1086 = refl
 
 line1087 : cases.Line1087
 unfolding computed
 line1087 = refl
 
-line1088 : cases.Line1088
+line1090 : cases.Line1090
 unfolding computed
-line1088 = refl
+line1090 = refl
 
-line1102 : cases.Line1102
+line1093 : cases.Line1093
 unfolding computed
-line1102 = refl
+line1093 = refl
 
-line1121 : cases.Line1121
+line1101 : cases.Line1101
 unfolding computed
-line1121 = refl
+line1101 = refl
 
-line1126 : cases.Line1126
+line1105 : cases.Line1105
 unfolding computed
-line1126 = refl
+line1105 = refl
 
-line1131 : cases.Line1131
+line1108 : cases.Line1108
 unfolding computed
-line1131 = refl
+line1108 = refl
 
-line1133 : cases.Line1133
+line1110 : cases.Line1110
 unfolding computed
-line1133 = refl
+line1110 = refl
 
-line1143 : cases.Line1143
+line1111 : cases.Line1111
 unfolding computed
-line1143 = refl
+line1111 = refl
 
-line1149 : cases.Line1149
+line1116 : cases.Line1116
 unfolding computed
-line1149 = refl
+line1116 = refl
 
-line1150 : cases.Line1150
+line1117 : cases.Line1117
 unfolding computed
-line1150 = refl
+line1117 = refl
 
-line1153 : cases.Line1153
+line1127 : cases.Line1127
 unfolding computed
-line1153 = refl
+line1127 = refl
 
-line1168 : cases.Line1168
+line1136 : cases.Line1136
 unfolding computed
-line1168 = refl
+line1136 = refl
 
-line1184 : cases.Line1184
+line1140 : cases.Line1140
 unfolding computed
-line1184 = refl
+line1140 = refl
 
-line1187 : cases.Line1187
+line1147 : cases.Line1147
 unfolding computed
-line1187 = refl
-
-line1188 : cases.Line1188
-unfolding computed
-line1188 = refl
-
-line1189 : cases.Line1189
-unfolding computed
-line1189 = refl
-
-line1190 : cases.Line1190
-unfolding computed
-line1190 = refl
-
-line1199 : cases.Line1199
-unfolding computed
-line1199 = refl
-
-line1202 : cases.Line1202
-unfolding computed
-line1202 = refl
-
-line1206 : cases.Line1206
-unfolding computed
-line1206 = refl
-
-line1207 : cases.Line1207
-unfolding computed
-line1207 = refl
-
-line1208 : cases.Line1208
-unfolding computed
-line1208 = refl
-
-line1219 : cases.Line1219
-unfolding computed
-line1219 = refl
-
-line1221 : cases.Line1221
-unfolding computed
-line1221 = refl
-
-line1222 : cases.Line1222
-unfolding computed
-line1222 = refl
-
-line1223 : cases.Line1223
-unfolding computed
-line1223 = refl
-
-line1234 : cases.Line1234
-unfolding computed
-line1234 = refl
-
-line1235 : cases.Line1235
-unfolding computed
-line1235 = refl
-
-line1238 : cases.Line1238
-unfolding computed
-line1238 = refl
-
-line1239 : cases.Line1239
-unfolding computed
-line1239 = refl
-
-line1246 : cases.Line1246
-unfolding computed
-line1246 = refl
-
-line1254 : cases.Line1254
-unfolding computed
-line1254 = refl
-
-line1257 : cases.Line1257
-unfolding computed
-line1257 = refl
-
-line1258 : cases.Line1258
-unfolding computed
-line1258 = refl
-
-line1259 : cases.Line1259
-unfolding computed
-line1259 = refl
-
-line1264 : cases.Line1264
-unfolding computed
-line1264 = refl
-
-line1265 : cases.Line1265
-unfolding computed
-line1265 = refl
-
-line1292 : cases.Line1292
-unfolding computed
-line1292 = refl
-
-line1294 : cases.Line1294
-unfolding computed
-line1294 = refl
-
-line1302 : cases.Line1302
-unfolding computed
-line1302 = refl
-
-line1306 : cases.Line1306
-unfolding computed
-line1306 = refl
-
-line1317 : cases.Line1317
-unfolding computed
-line1317 = refl
-
-line1321 : cases.Line1321
-unfolding computed
-line1321 = refl
-
-line1326 : cases.Line1326
-unfolding computed
-line1326 = refl
-
-line1327 : cases.Line1327
-unfolding computed
-line1327 = refl
-
-line1328 : cases.Line1328
-unfolding computed
-line1328 = refl
-
-line1337 : cases.Line1337
-unfolding computed
-line1337 = refl
-
-line1351 : cases.Line1351
-unfolding computed
-line1351 = refl
-
-line1358 : cases.Line1358
-unfolding computed
-line1358 = refl
-
-line1359 : cases.Line1359
-unfolding computed
-line1359 = refl
-
-line1360 : cases.Line1360
-unfolding computed
-line1360 = refl
-
-line1361 : cases.Line1361
-unfolding computed
-line1361 = refl
-
-line1363 : cases.Line1363
-unfolding computed
-line1363 = refl
-
-line1371 : cases.Line1371
-unfolding computed
-line1371 = refl
-
-line1372 : cases.Line1372
-unfolding computed
-line1372 = refl
-
-line1375 : cases.Line1375
-unfolding computed
-line1375 = refl
-
-line1376 : cases.Line1376
-unfolding computed
-line1376 = refl
-
-line1377 : cases.Line1377
-unfolding computed
-line1377 = refl
-
-line1381 : cases.Line1381
-unfolding computed
-line1381 = refl
-
-line1384 : cases.Line1384
-unfolding computed
-line1384 = refl
-
-line1388 : cases.Line1388
-unfolding computed
-line1388 = refl
-
-line1389 : cases.Line1389
-unfolding computed
-line1389 = refl
-
-line1392 : cases.Line1392
-unfolding computed
-line1392 = refl
-
-line1398 : cases.Line1398
-unfolding computed
-line1398 = refl
-
-line1406 : cases.Line1406
-unfolding computed
-line1406 = refl
-
-line1410 : cases.Line1410
-unfolding computed
-line1410 = refl
-
-line1416 : cases.Line1416
-unfolding computed
-line1416 = refl
+line1147 = refl

@@ -22,7 +22,7 @@ pub use levels::{levels, levels_into, Lamination, Levels, WORDS};
 #[cfg(feature = "report")]
 pub use report::report;
 
-/// Why a call is turned back: the number of document 01's rule, and the place.
+/// Why a call is turned back: the number of the rule, and the place.
 #[derive(Clone, Copy, Debug, PartialEq, Eq)]
 pub struct Refusal {
     pub number: u32,

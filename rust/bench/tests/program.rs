@@ -85,3 +85,11 @@ fn short_empty_and_overlong_inputs() {
         check(&mut random, &input).unwrap();
     }
 }
+
+#[test]
+fn forecasts() {
+    for dossier in make::forecast::edges() {
+        let input = [vec![0; 4], dossier].concat();
+        check(&mut Random::new(0), &input).unwrap();
+    }
+}

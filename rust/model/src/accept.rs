@@ -1,8 +1,8 @@
-//! Acceptance: 5 to 9, each tried over the whole dossier before the next.
+//! Acceptance: 5 to 9 and 17, each tried over the whole dossier before the next.
 
 use crate::dossier::Record;
 use crate::station::{Current, Station};
-use crate::table::{ad, fu, hp, mm, rq, rs, th, Field, Technology};
+use crate::table::{ad, fp, hp, hr, mm, rq, rs, th, Field, Mark, Technology};
 use crate::{refuse, Refusal};
 
 /// Accepted, or refused with number and place.
@@ -20,6 +20,7 @@ pub fn accepted(dossier: &[u8]) -> Result<Station<'_>, Refusal> {
         (7, curve_is_sound(&station)),
         (8, fuel_is_there(&station)),
         (9, window_is_full(&station)),
+        (17, forecast_is_full(&station)),
     ];
     match sound.into_iter().find(|(_, holds)| !holds) {
         Some((number, _)) => refuse(number, dossier.len()),
@@ -44,7 +45,8 @@ fn fits(station: &Station, record: &Record) -> bool {
         b"RS" => rs_fits(technology, record),
         b"HP" => thermal,
         b"HR" | b"CH" => technology == Technology::Storage,
-        b"FU" => thermal || record.get(fu::EMISSION) == 0,
+        b"FP" => technology == Technology::Hydro,
+        b"FU" => technology.unpriced().iter().all(|f| record.get(*f) == 0),
         // Nuclear holds level 1 alone, so a held level is the 1 that cost 5 wants.
         b"AD" => {
             let prorated = record.get(ad::COST) == ad::PRORATED;
@@ -112,7 +114,32 @@ fn window_is_full(station: &Station) -> bool {
     }
     let window = station.amount(rs::WINDOW);
     let charged = (1..=window).contains(&hours_of_charge(station));
-    charged && (1..=window).all(|hour| station.current.get(b"HR", &[hour as u8]).is_some())
+    charged && priced(station, b"HR", hr::HOUR).count() as u128 == window
+}
+
+/// 17: a hydroelectric station has a window with a place from the top, and a price for each place.
+fn forecast_is_full(station: &Station) -> bool {
+    if station.technology != Technology::Hydro {
+        return true;
+    }
+    let places = priced(station, b"FP", fp::PLACE).count() as u128;
+    place_from_the_top(station) > 0 && places == station.amount(rs::WINDOW)
+}
+
+/// Of the window's prices, the highest first, which one counts; 0 for none.
+pub fn place_from_the_top(station: &Station) -> u128 {
+    station.amount(rs::WINDOW) / fp::ONE_IN
+}
+
+/// The current records of a mark whose key lies in the window, by rising key.
+pub fn priced<'s, 'a>(
+    station: &'s Station<'a>,
+    mark: &Mark,
+    key: Field,
+) -> impl Iterator<Item = &'s Record<'a>> {
+    let window = station.amount(rs::WINDOW);
+    let records = station.current.of_mark(mark);
+    records.take_while(move |record| record.amount(key) <= window)
 }
 
 /// X: the whole hours that the charge lasts at capacity.

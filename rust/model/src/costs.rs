@@ -1,10 +1,10 @@
 //! The formulas of "From records to levels", each as the paper prints it, in micro-dollars.
 
-use crate::accept::{hours_of_charge, rise};
+use crate::accept::{hours_of_charge, place_from_the_top, priced, rise};
 use crate::dossier::Record;
 use crate::levels::{profile_at, Lamination, Money};
 use crate::station::Station;
-use crate::table::{ad, ch, fu, hp, hr, mm, rs, ENERGY, NO_LOAD, START};
+use crate::table::{ad, ch, fp, fu, hp, hr, mm, rs, ENERGY, NO_LOAD, START};
 
 /// A station's costs in the profile of an hour.
 pub struct Costs<'s, 'a> {
@@ -116,6 +116,12 @@ impl<'s, 'a> Costs<'s, 'a> {
         let short_run = stored.plus(&self.energy_additions());
         short_run.max(opportunity_cost(self.station))
     }
+
+    /// The forecast's price, 0 if below 0, which AD and MM join.
+    pub fn hydro_energy<M: Money>(&self) -> M {
+        let price = forecast_price(self.station).max(0).unsigned_abs();
+        M::quotient(price * 10_000, 1).plus(&self.energy_additions())
+    }
 }
 
 fn total<M: Money>(terms: impl Iterator<Item = M>) -> M {
@@ -137,12 +143,19 @@ pub fn charging_cost<M: Money>(station: &Station) -> M {
 
 /// The mean of the X highest prices in the window; equal prices count each.
 pub fn opportunity_cost<M: Money>(station: &Station) -> M {
-    let window = station.amount(rs::WINDOW);
-    let hours = station.current.of_mark(b"HR");
-    let inside = hours.filter(|r| r.amount(hr::HOUR) <= window);
-    let mut prices: Vec<i128> = inside.map(|r| r.get(hr::PRICE)).collect();
+    let hours = priced(station, b"HR", hr::HOUR);
+    let mut prices: Vec<i128> = hours.map(|r| r.get(hr::PRICE)).collect();
     prices.sort_unstable_by(|a, b| b.cmp(a));
     let x = hours_of_charge(station);
     let best: i128 = prices[..x as usize].iter().sum();
     M::quotient(best.max(0).unsigned_abs() * 10_000, x)
+}
+
+/// The price at the place from the top of the window; equal prices count each.
+pub fn forecast_price(station: &Station) -> i128 {
+    let places = priced(station, b"FP", fp::PLACE);
+    let mut prices: Vec<i128> = places.map(|r| r.get(fp::PRICE)).collect();
+    let higher = place_from_the_top(station) as usize - 1;
+    let (_, price, _) = prices.select_nth_unstable_by(higher, |a, b| b.cmp(a));
+    *price
 }

@@ -1,9 +1,8 @@
 //! "At most 60,000 bytes of records, back to back": the records of a dossier, with 13, then 1 to 3
-//! for each record in turn, then 4.
+//! for each record in turn.
 
-use crate::table::{kind_of, rq, Field, Kind, HEAD};
+use crate::table::{as_in, kind_of, rq, Field, Kind, HEAD};
 use crate::{refuse, Refusal};
-use std::collections::BTreeSet;
 
 pub const LONGEST: usize = 60_000;
 
@@ -16,8 +15,9 @@ pub struct Record<'a> {
 }
 
 impl<'a> Record<'a> {
-    pub fn issue(&self) -> &'a [u8] {
-        &self.bytes[2..HEAD]
+    pub fn issue(&self) -> u32 {
+        let issue = self.bytes[2..HEAD].try_into();
+        u32::from_be_bytes(issue.expect("4 bytes"))
     }
 
     pub fn key(&self) -> &'a [u8] {
@@ -25,7 +25,7 @@ impl<'a> Record<'a> {
     }
 
     /// Mark, issue and key together: no two records may share all three.
-    fn claim(&self) -> &'a [u8] {
+    pub fn claim(&self) -> &'a [u8] {
         &self.bytes[..HEAD + self.kind.key_width]
     }
 
@@ -39,52 +39,49 @@ impl<'a> Record<'a> {
     }
 }
 
-/// The records in the order they lie, or 13, 1, 2, 3 or 4.
+/// The records in the order they lie, or 13, 1, 2 or 3.
 pub fn records(dossier: &[u8]) -> Result<Vec<Record<'_>>, Refusal> {
+    in_turn(dossier)?.collect()
+}
+
+/// The records in the order they lie, each read when it is asked for; the first that draws 1, 2 or
+/// 3 is the last. 13 comes before them all.
+pub fn in_turn<'a>(
+    dossier: &'a [u8],
+) -> Result<impl Iterator<Item = Result<Record<'a>, Refusal>>, Refusal> {
     if dossier.len() > LONGEST {
         return refuse(13, 0);
     }
-    let mut records = Vec::new();
     let mut start = 0;
-    while start < dossier.len() {
-        let record = record(dossier, start)?;
-        start += record.bytes.len();
-        records.push(record);
-    }
-    no_twins(&records)?;
-    Ok(records)
+    Ok(std::iter::from_fn(move || {
+        if start >= dossier.len() {
+            return None;
+        }
+        let record = record(dossier, start);
+        start += record.as_ref().map_or(dossier.len(), |r| r.bytes.len());
+        Some(record)
+    }))
 }
 
 /// The record that starts here, tried for its mark, its length and its ranges.
 fn record(dossier: &[u8], start: usize) -> Result<Record<'_>, Refusal> {
     let rest = &dossier[start..];
-    if rest.len() < 2 {
+    let Some(mark) = rest.first_chunk() else {
         return refuse(2, start);
-    }
-    let Some(kind) = kind_of(&rest[..2]) else {
+    };
+    let Some(kind) = kind_of(mark) else {
         return refuse(1, start);
     };
-    if rest.len() < kind.length {
+    let Some(bytes) = rest.get(..kind.length) else {
         return refuse(2, start);
-    }
-    let bytes = &rest[..kind.length];
+    };
     let record = Record { start, kind, bytes };
-    let in_range = kind.fields.iter().all(|f| f.allows(record.get(*f)));
+    let mut fields = kind.fields.iter();
+    let in_range = fields.all(|f| as_in(bytes, f).allows(f.read(bytes)));
     let in_turn = kind.mark != *b"RQ" || record.get(rq::FIRST) <= record.get(rq::LAST);
     if in_range && in_turn {
         Ok(record)
     } else {
         refuse(3, start)
     }
-}
-
-/// 4 is tried once all records are read, and names the later of the two.
-fn no_twins(records: &[Record]) -> Result<(), Refusal> {
-    let mut seen = BTreeSet::new();
-    for record in records {
-        if !seen.insert(record.claim()) {
-            return refuse(4, record.start);
-        }
-    }
-    Ok(())
 }

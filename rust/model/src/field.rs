@@ -69,14 +69,15 @@ impl Field {
         }
     }
 
-    /// The field's number in a whole record: big-endian, two's complement where signed.
+    /// The field's number in a whole record: big-endian; signed ones, which all have 4 bytes, in
+    /// two's complement.
     pub fn read(&self, record: &[u8]) -> i128 {
-        let bytes = &record[self.at..self.at + self.width];
-        let number = bytes.iter().fold(0, |n, b| n << 8 | i128::from(*b));
-        if self.signed && bytes[0] >= 0x80 {
-            number - (1 << (8 * self.width))
-        } else {
-            number
+        match record[self.at..self.at + self.width] {
+            [a] => a.into(),
+            [a, b] => u16::from_be_bytes([a, b]).into(),
+            [a, b, c, d] if self.signed => i32::from_be_bytes([a, b, c, d]).into(),
+            [a, b, c, d] => u32::from_be_bytes([a, b, c, d]).into(),
+            ref bytes => u64::from_be_bytes(bytes.try_into().expect("8 bytes")).into(),
         }
     }
 

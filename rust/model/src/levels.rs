@@ -126,6 +126,7 @@ pub fn reckon<M: Money>(station: &Station, hour: u32) -> Levels<M> {
             Technology::Thermal => costs.thermal_energy(),
             Technology::Nuclear => costs.one_lamination(costs.nuclear_energy()),
             Technology::Storage => costs.one_lamination(costs.storage_energy()),
+            Technology::Hydro => costs.one_lamination(costs.hydro_energy()),
         },
         start: held(START).then(|| costs.start()),
         no_load: held(NO_LOAD).then(|| costs.no_load()),

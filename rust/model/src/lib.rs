@@ -1,8 +1,9 @@
-//! Document 01 in plain Rust: a dossier's acceptance, its levels, the conduct test and the report.
+//! Document 01 with request 1 of document 02 in plain Rust: a dossier's acceptance, its levels, the
+//! conduct test and the report.
 //!
-//! Bench is run against this crate. It is written to be read beside the paper and not to be fast,
-//! and it shares no code with Bench. The functions named at the end of this page take bytes and
-//! give whole answers; the modules follow the paper's order.
+//! Bench is run against this crate. It is written to be read beside the papers, goes over a dossier
+//! once for each question, and shares no code with Bench. The functions named at the end of this
+//! page take bytes and give whole answers; the modules follow the paper's order.
 
 pub mod accept;
 pub mod conduct;
@@ -35,6 +36,6 @@ pub struct Refusal {
 }
 
 /// The refusal as the error of a result, which is how every function here hands it on.
-pub(crate) fn refuse<T>(number: u8, place: usize) -> Result<T, Refusal> {
+pub fn refuse<T>(number: u8, place: usize) -> Result<T, Refusal> {
     Err(Refusal { number, place })
 }

@@ -1,9 +1,11 @@
 //! A seeded maker of test dossiers, hours, offers and prices.
 //!
-//! Sound dossiers (`sound`) are accepted; damaged ones (`damage`) draw the number they aim at. The
-//! offers and prices (`offers`) crowd around the floors and limits of the dossier they are put to.
+//! Sound dossiers (`sound`) are accepted; damaged ones (`damage`) draw the number they aim at; some
+//! are written out (`written`, `forecast`). The offers and prices (`offers`) crowd around the floors
+//! and limits of the dossier they are put to.
 
 pub mod damage;
+pub mod forecast;
 mod incomplete;
 pub mod offers;
 pub mod sound;
@@ -12,7 +14,7 @@ mod unfit;
 pub mod written;
 
 use crate::random::Random;
-use crate::table::{kind_of, rq, Field, Kind, Mark, Technology, HEAD, TABLE};
+use crate::table::{as_in, kind_of, rq, rs, Field, Kind, Mark, Technology, HEAD, TABLE};
 
 /// A dossier in the making: its records in the order they lie.
 #[derive(Clone, Debug)]
@@ -64,12 +66,13 @@ impl Draft {
 }
 
 fn is_whole(record: &[u8]) -> bool {
-    let kind = record.get(..2).and_then(kind_of);
+    let kind = record.first_chunk().and_then(kind_of);
     kind.is_some_and(|kind| record.len() == kind.length)
 }
 
 fn kind(record: &[u8]) -> &'static Kind {
-    kind_of(&record[..2]).expect("a whole record")
+    let kind = record.first_chunk().and_then(kind_of);
+    kind.expect("a whole record")
 }
 
 fn key(record: &[u8]) -> &[u8] {
@@ -104,23 +107,28 @@ fn any_record(random: &mut Random, kind: &Kind) -> Vec<u8> {
     let mut record = vec![0; kind.length];
     record[..2].copy_from_slice(&kind.mark);
     for field in kind.fields {
-        let value = value(random, *field);
+        let value = value(random, *as_in(&record, field));
         field.write(&mut record, value);
     }
     let issue = random.spread(0, u32::MAX.into());
     set_issue(&mut record, issue as u32);
-    turn_hours(&mut record);
+    reconcile(&mut record);
     record
 }
 
-/// Puts a request's hours in order; leaves other records.
-fn turn_hours(record: &mut [u8]) {
-    if !record.starts_with(b"RQ") {
-        return;
+/// Puts right what 3 asks of two fields together: a request's hours in order, and a window that the
+/// record's own technology allows.
+fn reconcile(record: &mut [u8]) {
+    if record.starts_with(b"RQ") {
+        let (first, last) = (rq::FIRST.read(record), rq::LAST.read(record));
+        rq::FIRST.write(record, first.min(last));
+        rq::LAST.write(record, first.max(last));
     }
-    let (first, last) = (rq::FIRST.read(record), rq::LAST.read(record));
-    rq::FIRST.write(record, first.min(last));
-    rq::LAST.write(record, first.max(last));
+    if record.starts_with(b"RS") {
+        let window = rs::WINDOW.read(record);
+        let most = as_in(record, &rs::WINDOW).highest;
+        rs::WINDOW.write(record, window.min(most));
+    }
 }
 
 /// A dossier of any sort: sound, damaged once or twice, or noise.
@@ -141,7 +149,7 @@ pub fn noise(random: &mut Random) -> Vec<u8> {
         0 => bytes.resize_with(random.spread(0, 300) as usize, || random.next() as u8),
         1 => {
             for _ in 0..random.below(8) {
-                let kind = random.pick(&[&TABLE[0], &TABLE[2], &TABLE[5], &TABLE[8]]);
+                let kind = random.pick(&[&TABLE[0], &TABLE[2], &TABLE[5], &TABLE[8], &TABLE[9]]);
                 let mut record = any_record(random, kind);
                 let at = random.between(2, record.len() as i128 - 1) as usize;
                 record[at] = random.next() as u8;

@@ -4,14 +4,13 @@ use crate::accept::accepted;
 use crate::dossier::{records, Record};
 use crate::levels::Levels;
 use crate::random::Random;
-use crate::table::{fu, Field, Role, Technology};
+use crate::table::{Field, Role, Technology};
 
 /// How high a money amount may rise; 0 where the technology wants 0.
 ///
-/// Only emission can stand in an accepted dossier that wants it 0, in an FU that isn't current.
+/// In an accepted dossier such an amount can be above 0 only in an FU that isn't current.
 fn limit(technology: Technology, record: &Record, field: Field) -> i128 {
-    let emission = record.kind.mark == *b"FU" && field == fu::EMISSION;
-    if emission && technology != Technology::Thermal {
+    if record.kind.mark == *b"FU" && technology.unpriced().contains(&field) {
         0
     } else {
         field.highest

@@ -1,46 +1,71 @@
 //! "Of one mark and key, the highest issue is current": the current records, wherever they lie.
 
-use crate::dossier::{records, Record};
-use crate::table::{rs, Field, Mark, Technology, TECHNOLOGIES};
+use crate::dossier::{in_turn, records, Record};
+use crate::table::{kind_of, rs, Field, Kind, Mark, Technology, TABLE, TECHNOLOGIES};
 use crate::{refuse, Refusal};
-use std::collections::BTreeMap;
+use std::collections::HashSet;
 
 /// The current records of a dossier that draws none of 13 and 1 to 4.
-///
-/// They are kept by mark and key. Keys are big-endian, so those of one mark come in rising order.
 pub struct Current<'a> {
     pub dossier: &'a [u8],
-    by_mark: BTreeMap<Mark, BTreeMap<&'a [u8], Record<'a>>>,
+    /// For each kind, in the table's order, a slot for each key up to the highest that comes.
+    by_kind: [Vec<Option<Record<'a>>>; TABLE.len()],
+}
+
+/// Where a kind stands in the table.
+fn rank(kind: &Kind) -> usize {
+    let found = TABLE.iter().position(|other| std::ptr::eq(other, kind));
+    found.expect("a kind of the table")
 }
 
 impl<'a> Current<'a> {
     pub fn of(dossier: &'a [u8]) -> Result<Current<'a>, Refusal> {
-        let mut by_mark: BTreeMap<Mark, BTreeMap<_, Record>> = BTreeMap::new();
-        for record in records(dossier)? {
-            let by_key = by_mark.entry(record.kind.mark).or_default();
-            let held = by_key.entry(record.key()).or_insert(record);
-            // Big-endian issue numbers of one width order as their bytes do.
-            if record.issue() > held.issue() {
-                *held = record;
+        let mut by_kind = [const { Vec::new() }; TABLE.len()];
+        let mut risen = true;
+        for record in in_turn(dossier)? {
+            let record = record?;
+            let slots: &mut Vec<Option<Record>> = &mut by_kind[rank(record.kind)];
+            let slot = record.kind.slot(record.bytes);
+            if slots.len() <= slot {
+                slots.resize(slot + 1, None);
+            }
+            let held = &mut slots[slot];
+            if held.is_none_or(|held| held.issue() < record.issue()) {
+                *held = Some(record);
+            } else {
+                risen = false;
             }
         }
-        Ok(Current { dossier, by_mark })
+        // The later of two twins never rises above the record held before it.
+        if !risen {
+            no_twins(dossier)?;
+        }
+        Ok(Current { dossier, by_kind })
     }
 
     pub fn get(&self, mark: &Mark, key: &[u8]) -> Option<&Record<'a>> {
-        self.by_mark.get(mark)?.get(key)
+        let mut of_mark = self.of_mark(mark);
+        of_mark.find(|record| record.key() == key)
     }
 
     /// The current records of one mark, by rising key.
     pub fn of_mark(&self, mark: &Mark) -> impl Iterator<Item = &Record<'a>> {
-        self.by_mark
-            .get(mark)
-            .into_iter()
-            .flat_map(BTreeMap::values)
+        let slots = kind_of(mark).map(|kind| &self.by_kind[rank(kind)]);
+        slots.into_iter().flatten().flatten()
     }
 
     pub fn all(&self) -> impl Iterator<Item = &Record<'a>> {
-        self.by_mark.values().flat_map(BTreeMap::values)
+        self.by_kind.iter().flatten().flatten()
+    }
+}
+
+/// 4 is tried once all records are read, and names the later of the two.
+fn no_twins(dossier: &[u8]) -> Result<(), Refusal> {
+    let mut seen = HashSet::new();
+    let mut records = records(dossier)?.into_iter();
+    match records.find(|record| !seen.insert(record.claim())) {
+        Some(twin) => refuse(4, twin.start),
+        None => Ok(()),
     }
 }
 

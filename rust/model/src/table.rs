@@ -1,4 +1,4 @@
-//! "A constant table holds each mark's whole length and key bounds": the nine marks, their fields
+//! "A constant table holds each mark's whole length and key bounds": the ten marks, their fields
 //! with their ranges, and what each technology holds and uses.
 
 pub use crate::field::{Field, Role, HEAD};
@@ -13,7 +13,7 @@ pub const PRICE: i128 = 200_000;
 
 pub mod rs {
     use super::Field;
-    pub const TECHNOLOGY: Field = Field::first(1, 1, 3);
+    pub const TECHNOLOGY: Field = Field::first(1, 1, 4);
     pub const CAPACITY: Field = TECHNOLOGY.next(2, 1, 20_000);
     pub const FACTOR: Field = CAPACITY.next(2, 500, 2_000).or_zero();
     pub const START_HEAT: Field = FACTOR.next(4, 0, 20_000_000);
@@ -22,6 +22,8 @@ pub mod rs {
     pub const CHARGE: Field = INCREMENTAL_FUEL.next(4, 0, 1_000_000);
     pub const EFFICIENCY: Field = CHARGE.next(2, 500, 1_000).or_zero();
     pub const WINDOW: Field = EFFICIENCY.next(2, 0, 168);
+    /// The window in an RS that says hydro.
+    pub const LONG_WINDOW: Field = EFFICIENCY.next(2, 0, 4_000);
 }
 
 pub mod hp {
@@ -92,6 +94,14 @@ pub mod th {
     pub const NONE: i128 = ANY;
 }
 
+pub mod fp {
+    use super::{Field, PRICE as P};
+    pub const PLACE: Field = Field::first(2, 1, 4_000).key();
+    pub const PRICE: Field = PLACE.next(4, -P, P).money();
+    /// Greater than 98% of the forecast: the place from the top is the window over this.
+    pub const ONE_IN: u128 = 50;
+}
+
 /// One kind of record.
 #[derive(Debug)]
 pub struct Kind {
@@ -100,6 +110,17 @@ pub struct Kind {
     /// How many bytes the key takes; they follow the head.
     pub key_width: usize,
     pub fields: &'static [Field],
+}
+
+impl Kind {
+    /// Where the key of a whole record in range stands among all keys in bounds, the lowest at 0.
+    pub fn slot(&self, record: &[u8]) -> usize {
+        let key = self.fields.iter().take_while(|f| f.role == Role::Key);
+        key.fold(0, |slot, field| {
+            let above = |number| (number - field.lowest) as usize;
+            slot * (above(field.highest) + 1) + above(field.read(record))
+        })
+    }
 }
 
 const fn kind(mark: &Mark, length: usize, key_width: usize, fields: &'static [Field]) -> Kind {
@@ -111,7 +132,7 @@ const fn kind(mark: &Mark, length: usize, key_width: usize, fields: &'static [Fi
     }
 }
 
-pub static TABLE: [Kind; 9] = [
+pub static TABLE: [Kind; 10] = [
     kind(
         b"RS",
         31,
@@ -156,11 +177,21 @@ pub static TABLE: [Kind; 9] = [
         2,
         &[th::CONDITION, th::LEVEL, th::PERCENT, th::MARGIN, th::FLOOR],
     ),
+    kind(b"FP", 12, 2, &[fp::PLACE, fp::PRICE]),
 ];
 
 /// The kind that a mark names, if it names one.
-pub fn kind_of(mark: &[u8]) -> Option<&'static Kind> {
-    TABLE.iter().find(|kind| kind.mark == mark)
+pub fn kind_of(mark: &Mark) -> Option<&'static Kind> {
+    TABLE.iter().find(|kind| kind.mark == *mark)
+}
+
+/// A field with the range that it has in this record: 3 goes by what an RS itself says.
+pub fn as_in<'f>(record: &[u8], field: &'f Field) -> &'f Field {
+    if *field == rs::WINDOW && rs::TECHNOLOGY.read(record) == Technology::Hydro.byte() {
+        &rs::LONG_WINDOW
+    } else {
+        field
+    }
 }
 
 #[derive(Clone, Copy, Debug, PartialEq, Eq)]
@@ -168,12 +199,14 @@ pub enum Technology {
     Thermal,
     Nuclear,
     Storage,
+    Hydro,
 }
 
-pub const TECHNOLOGIES: [Technology; 3] = [
+pub const TECHNOLOGIES: [Technology; 4] = [
     Technology::Thermal,
     Technology::Nuclear,
     Technology::Storage,
+    Technology::Hydro,
 ];
 
 pub const ENERGY: u8 = 1;
@@ -188,6 +221,7 @@ impl Technology {
             Technology::Thermal => 1,
             Technology::Nuclear => 2,
             Technology::Storage => 3,
+            Technology::Hydro => 4,
         }
     }
 
@@ -196,7 +230,7 @@ impl Technology {
         match self {
             Technology::Thermal => &[ENERGY, START, NO_LOAD, RESERVE],
             Technology::Nuclear => &[ENERGY],
-            Technology::Storage => &[ENERGY, RESERVE],
+            Technology::Storage | Technology::Hydro => &[ENERGY, RESERVE],
         }
     }
 
@@ -210,6 +244,16 @@ impl Technology {
             Technology::Thermal => &[rs::FACTOR, rs::START_HEAT, rs::NO_LOAD_HEAT],
             Technology::Nuclear => &[rs::FACTOR, rs::INCREMENTAL_FUEL],
             Technology::Storage => &[rs::CHARGE, rs::EFFICIENCY, rs::WINDOW],
+            Technology::Hydro => &[rs::WINDOW],
+        }
+    }
+
+    /// The prices of an FU that it wants 0.
+    pub fn unpriced(self) -> &'static [Field] {
+        match self {
+            Technology::Thermal => &[],
+            Technology::Nuclear | Technology::Storage => &[fu::EMISSION],
+            Technology::Hydro => &[fu::FUEL, fu::EMISSION],
         }
     }
 }

@@ -6,11 +6,7 @@ use model::make::written::{evenly_rising, r1, record};
 use model::make::{offers, sound};
 use model::random::Random;
 use model::table::Technology;
-use model::{accept, current, energy_test, levels, program, report, Refusal, Verdict};
-
-fn refused<T>(number: u8, place: usize) -> Result<T, Refusal> {
-    Err(Refusal { number, place })
-}
+use model::{accept, current, energy_test, levels, program, refuse, report, Refusal, Verdict};
 
 #[test]
 fn sixty_thousand_bytes() {
@@ -20,8 +16,8 @@ fn sixty_thousand_bytes() {
         assert_eq!(dossier.len(), 60_000);
         assert_eq!(accept(&dossier), Ok(()));
         dossier.push(b'R');
-        assert_eq!(accept(&dossier), refused(13, 0));
-        assert_eq!(accept(&vec![0; 60_001]), refused(13, 0));
+        assert_eq!(accept(&dossier), refuse(13, 0));
+        assert_eq!(accept(&vec![0; 60_001]), refuse(13, 0));
     }
 }
 
@@ -32,7 +28,7 @@ fn twenty_one_points() {
         20
     );
     let dossier = evenly_rising(22, 1_000);
-    assert_eq!(accept(&dossier), refused(3, dossier.len() - 13));
+    assert_eq!(accept(&dossier), refuse(3, dossier.len() - 13));
 }
 
 #[test]
@@ -52,9 +48,9 @@ fn twenty_pairs() {
 
 #[test]
 fn an_empty_dossier_has_no_rs() {
-    assert_eq!(accept(&[]), refused(5, 0));
-    assert_eq!(accept(b"R"), refused(2, 0));
-    assert_eq!(accept(b"XY"), refused(1, 0));
+    assert_eq!(accept(&[]), refuse(5, 0));
+    assert_eq!(accept(b"R"), refuse(2, 0));
+    assert_eq!(accept(b"XY"), refuse(1, 0));
 }
 
 #[test]
@@ -73,7 +69,7 @@ fn a_short_buffer_keeps_its_bytes() {
     let length = report(&r1(), 0, &mut buffer).unwrap();
     for short in 0..length {
         let mut buffer = vec![7; short];
-        assert_eq!(report(&r1(), 0, &mut buffer), refused(15, 0));
+        assert_eq!(report(&r1(), 0, &mut buffer), refuse(15, 0));
         assert!(buffer.iter().all(|b| *b == 7));
     }
 }

@@ -76,7 +76,7 @@ fn every_number_occurs() {
         }
     }
     assert_eq!(program(&[0; 3]), b"refused 16 at 0\n");
-    let expected: BTreeSet<u8> = (1..=15).chain([100, 200]).collect();
+    let expected: BTreeSet<u8> = (1..=15).chain([17, 100, 200]).collect();
     assert_eq!(numbers, expected);
 }
 

@@ -1,5 +1,8 @@
 //! The marked values M1 to M9 and the worked examples of the storage memo (source document 002).
 
+mod common;
+
+use common::{energy_level, with};
 use model::accept::{accepted, hours_of_charge};
 use model::costs::{charging_cost, opportunity_cost};
 use model::levels::Micro;
@@ -11,16 +14,6 @@ const FAILS: Verdict = Verdict::Fails {
     pair: 0,
     lamination: 0,
 };
-
-fn with(dossier: Vec<u8>, more: &[Vec<u8>]) -> Vec<u8> {
-    [dossier, more.concat()].concat()
-}
-
-fn energy_level(dossier: &[u8]) -> u64 {
-    let levels = levels(dossier, 0).unwrap();
-    assert_eq!(levels.energy.len(), 1);
-    levels.energy[0].level
-}
 
 #[test]
 fn m1_five_lines() {

@@ -4,7 +4,7 @@ use crate::cases::{run, same, Check};
 use crate::refusal;
 use model::dossier::records;
 use model::make::written::{evenly_rising, r1};
-use model::make::{self, sound};
+use model::make::{self, forecast, sound};
 use model::raise::raised;
 use model::random::Random;
 use model::report::refusal_line;
@@ -47,6 +47,7 @@ fn edges() {
     edges.extend([vec![0; 60_000], vec![0; 60_001]]);
     edges.extend([evenly_rising(21, 1_000), evenly_rising(22, 1_000)]);
     edges.extend((0..r1().len()).map(|length| r1()[..length].to_vec()));
+    edges.extend(forecast::edges());
     for dossier in edges {
         check(&mut Random::new(0), &dossier).unwrap();
     }
@@ -118,6 +119,19 @@ fn check_lookup(random: &mut Random, dossier: &[u8]) -> Check {
 #[test]
 fn keys_present_absent_and_out_of_bounds() {
     run("current", 2_500, make::dossier, check_lookup);
+}
+
+/// Keys of FP in and out of bounds, where the forecast is full and where the dossier draws 17.
+#[test]
+fn every_place_of_a_forecast() {
+    let full = forecast::full(forecast::Order::Any, forecast::Order::Any);
+    for dossier in [&full[..], &full[..full.len() - 12]] {
+        for key in (0..=4_100).step_by(41).chain([1, 3_999, 4_000, 4_001]) {
+            let found = bench::current(dossier, *b"FP", key);
+            same(&format!("FP {key}"), found, part(dossier, *b"FP", key)).unwrap();
+        }
+        check_lookup(&mut Random::new(0), dossier).unwrap();
+    }
 }
 
 /// Of a program's output, acceptance decides whether it is a refusal, and which.

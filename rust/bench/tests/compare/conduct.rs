@@ -4,7 +4,7 @@ use crate::cases::{run, same, Check};
 use crate::refusal;
 use model::make::offers::{bytes, condition, level, offer, price, Target};
 use model::make::written::{r1, record};
-use model::make::{self, sound};
+use model::make::{self, forecast, sound};
 use model::raise::raised;
 use model::random::Random;
 use model::vectors::{read, Vector};
@@ -75,6 +75,13 @@ fn check(random: &mut Random, dossier: &[u8]) -> Check {
 #[test]
 fn offers_and_prices() {
     run("conduct", 50_000, mostly_sound, check);
+}
+
+#[test]
+fn forecasts() {
+    for dossier in forecast::edges() {
+        check(&mut Random::new(0), &dossier).unwrap();
+    }
 }
 
 #[test]

@@ -5,7 +5,7 @@ use crate::refusal;
 use model::exact::{all_near, exact_levels};
 use model::levels::{Lamination, Levels};
 use model::make::written::evenly_rising;
-use model::make::{self, sound};
+use model::make::{self, forecast, sound};
 use model::raise::{none_lower, raised};
 use model::random::Random;
 use model::report::text;
@@ -137,6 +137,9 @@ fn a_raise_lowers_no_level() {
 fn edges() {
     for points in 2..=22 {
         check(&mut Random::new(0), &evenly_rising(points, 1_000)).unwrap();
+    }
+    for dossier in forecast::edges() {
+        check(&mut Random::new(0), &dossier).unwrap();
     }
     let mut random = Random::new(60_000);
     for _ in 0..10 {

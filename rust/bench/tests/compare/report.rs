@@ -3,7 +3,7 @@
 use crate::cases::{run, same, Check};
 use crate::refusal;
 use model::make::written::{r1, R1_LINES};
-use model::make::{self, sound};
+use model::make::{self, forecast, sound};
 use model::random::Random;
 use model::report::{refusal_line, text};
 use model::vectors::{read, Vector};
@@ -52,6 +52,13 @@ fn r1_byte_for_byte() {
     assert_eq!(bench::report(&r1(), 0, &mut buffer), Ok(R1_LINES.len()));
     assert!(buffer.starts_with(R1_LINES));
     assert!(buffer[R1_LINES.len()..].iter().all(|byte| *byte == b'x'));
+}
+
+#[test]
+fn forecasts() {
+    for dossier in forecast::edges() {
+        check(&mut Random::new(0), &dossier).unwrap();
+    }
 }
 
 #[test]

@@ -3,10 +3,10 @@
 use super::incomplete::*;
 use super::sound::{sound, sound_of};
 use super::unfit::*;
-use super::{any_record, is_whole, key, kind, noise, turn_hours, Draft};
+use super::{any_record, is_whole, key, kind, noise, reconcile, Draft};
 use crate::dossier::LONGEST;
 use crate::random::Random;
-use crate::table::{kind_of, rq, Field, Mark, Technology};
+use crate::table::{as_in, kind_of, rq, rs, Field, Mark, Technology};
 
 /// One way: its name, the number it draws, and what it does to a sound dossier. `None` says that
 /// this dossier can't be broken in this way.
@@ -25,17 +25,18 @@ macro_rules! damages {
 pub static DAMAGES: &[Damage] = damages! {
     1: unknown_mark, unknown_mark_at_the_end;
     2: cut_short, one_byte_left;
-    3: below_range, above_range, first_after_last;
+    3: below_range, above_range, first_after_last, long_window_elsewhere;
     4: twin;
     5: no_rs;
     6: used_field_zero, unused_field_set, point_not_thermal, hour_not_storage,
-       interval_not_storage, emission_not_thermal, addition_not_held, prorated_not_nuclear,
-       start_hours_not_thermal, threshold_not_held;
+       interval_not_storage, place_not_hydro, fuel_at_hydro, emission_not_thermal,
+       addition_not_held, prorated_not_nuclear, start_hours_not_thermal, threshold_not_held;
     7: no_point, one_point, point_missing, output_not_rising, heat_falling, slope_falling,
        curve_not_to_capacity;
     8: no_first_fuel, no_named_fuel;
     9: charge_too_small, charge_too_large, hour_missing;
     13: too_long;
+    17: window_too_short, place_missing, window_too_long;
 };
 
 /// A dossier with one damage, which it names.
@@ -94,7 +95,7 @@ pub(super) fn put(random: &mut Random, draft: &mut Draft, mark: &Mark, fields: &
     for (field, value) in fields {
         field.write(&mut record, *value);
     }
-    turn_hours(&mut record);
+    reconcile(&mut record);
     draft.put(random, record);
 }
 
@@ -145,7 +146,8 @@ fn one_byte_left(random: &mut Random, draft: &mut Draft) -> Option<()> {
 /// A field of any record that doesn't take every value of its bytes.
 fn bounded_field(random: &mut Random, draft: &Draft) -> Option<(usize, Field)> {
     let at = any_place(random, draft)?;
-    let field = random.pick(kind(&draft.records[at]).fields);
+    let record = &draft.records[at];
+    let field = *as_in(record, &random.pick(kind(record).fields));
     (field.highest < ceiling(field)).then_some((at, field))
 }
 
@@ -192,6 +194,16 @@ fn first_after_last(random: &mut Random, draft: &mut Draft) -> Option<()> {
     Some(())
 }
 
+/// An RS, current or not, with a window that only hydro has.
+fn long_window_elsewhere(random: &mut Random, draft: &mut Draft) -> Option<()> {
+    let at = any_place(random, draft).filter(|i| draft.records[*i].starts_with(b"RS"))?;
+    let record = &mut draft.records[at];
+    rs::TECHNOLOGY.write(record, random.between(1, 3));
+    let window = random.between(rs::WINDOW.highest + 1, rs::LONG_WINDOW.highest);
+    rs::WINDOW.write(record, window);
+    Some(())
+}
+
 /// The mark, key and issue of a record, current or not, once more; the rest as it was or not.
 fn twin(random: &mut Random, draft: &mut Draft) -> Option<()> {
     let at = any_place(random, draft)?;
@@ -200,7 +212,7 @@ fn twin(random: &mut Random, draft: &mut Draft) -> Option<()> {
         let fresh = any_record(random, kind(&twin));
         let claim = super::HEAD + key(&twin).len();
         twin[claim..].copy_from_slice(&fresh[claim..]);
-        turn_hours(&mut twin);
+        reconcile(&mut twin);
     }
     // A lone byte or a cut record stays last, or the twin would complete it.
     let end = draft.records.len() - usize::from(!is_whole(draft.records.last()?));

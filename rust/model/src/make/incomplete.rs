@@ -1,4 +1,5 @@
-//! Damage that draws 7 to 9: a curve that isn't sound, a fuel or a window hour that isn't there.
+//! Damage that draws 7 to 9 and 17: a curve that isn't sound, a fuel, a window hour or a place of
+//! the forecast that isn't there.
 
 use super::damage::{change_rs, only, put};
 use super::Draft;
@@ -145,4 +146,35 @@ pub fn hour_missing(random: &mut Random, draft: &mut Draft) -> Option<()> {
     let missing = random.pick(&[1, any, window]);
     draft.remove(b"HR", &[missing as u8]);
     Some(())
+}
+
+/// The window of a hydroelectric dossier.
+fn forecast(draft: &Draft) -> Option<i128> {
+    only(draft, Technology::Hydro)?;
+    let rs = *draft.current(b"RS").first()?;
+    Some(rs::WINDOW.read(&draft.records[rs]))
+}
+
+/// A window with no place from the top, whether its places are there or not.
+pub fn window_too_short(random: &mut Random, draft: &mut Draft) -> Option<()> {
+    forecast(draft)?;
+    let any = random.between(1, 49);
+    let window = random.pick(&[1, any, 49]);
+    change_rs(draft, rs::WINDOW, window)
+}
+
+pub fn place_missing(random: &mut Random, draft: &mut Draft) -> Option<()> {
+    let window = forecast(draft)?;
+    let any = random.between(1, window.max(1));
+    let missing = random.pick(&[1, any, window]);
+    draft.remove(b"FP", &(missing as u16).to_be_bytes());
+    Some(())
+}
+
+/// A window that ends one place after the last that is there.
+pub fn window_too_long(_: &mut Random, draft: &mut Draft) -> Option<()> {
+    let longer = forecast(draft)? + 1;
+    rs::LONG_WINDOW.allows(longer).then_some(())?;
+    draft.remove(b"FP", &(longer as u16).to_be_bytes());
+    change_rs(draft, rs::WINDOW, longer)
 }

@@ -1,12 +1,12 @@
 //! Dossiers that are accepted, of all technologies and many shapes.
 
 use super::written::record;
-use super::{any_record, set_issue, turn_hours, value, Draft};
+use super::{any_record, reconcile, set_issue, value, Draft};
 use crate::accept::accepted;
 use crate::dossier::LONGEST;
 use crate::levels::{profile_at, reckon, Levels, Micro};
 use crate::random::Random;
-use crate::table::{ad, fu, kind_of, mm, rq, th};
+use crate::table::{ad, as_in, fu, kind_of, mm, rq, th};
 use crate::table::{Field, Mark, Role, Technology, ENERGY, TECHNOLOGIES};
 use std::collections::{BTreeMap, BTreeSet};
 
@@ -28,6 +28,7 @@ pub fn sound_of(random: &mut Random, technology: Technology) -> Draft {
         Technology::Thermal => maker.thermal(),
         Technology::Nuclear => maker.nuclear(),
         Technology::Storage => maker.storage(),
+        Technology::Hydro => maker.hydro(),
     }
     maker.requests_and_fuel();
     maker.additions();
@@ -59,7 +60,9 @@ pub fn filled(random: &mut Random, length: usize) -> Draft {
             rq::PROFILE.write(&mut record, 1);
         } else {
             fu::PROFILE.write(&mut record, 4);
-            fu::EMISSION.write(&mut record, 0);
+            for price in draft.technology.unpriced() {
+                price.write(&mut record, 0);
+            }
         }
         draft.records.push(record);
     }
@@ -111,7 +114,7 @@ impl Maker<'_> {
         for (field, value) in fields {
             field.write(&mut record, *value);
         }
-        turn_hours(&mut record);
+        reconcile(&mut record);
         self.records.push(record);
     }
 
@@ -150,9 +153,7 @@ impl Maker<'_> {
                 continue;
             }
             let mut fields = vec![(fu::PROFILE, profile)];
-            if self.technology != Technology::Thermal {
-                fields.push((fu::EMISSION, 0));
-            }
+            fields.extend(self.technology.unpriced().iter().map(|f| (*f, 0)));
             self.add(b"FU", &fields);
         }
     }
@@ -258,11 +259,11 @@ impl Maker<'_> {
                 &rest
             };
             for field in changed {
-                let value = value(self.random, *field);
+                let value = value(self.random, *as_in(&record, field));
                 field.write(&mut record, value);
             }
             set_issue(&mut record, issue);
-            turn_hours(&mut record);
+            reconcile(&mut record);
             older.insert(issue, record);
             if rarity == 1 && self.random.one_in(2) {
                 break;

@@ -1,8 +1,9 @@
-//! The heart of a sound dossier: an RS with its curve, its fuel, or its prices and charging.
+//! The heart of a sound dossier: an RS with its curve, its fuel, its prices and charging, or its
+//! forecast.
 
 use super::sound::Maker;
 use super::value;
-use crate::table::{ch, hp, hr, kind_of, rs, Field, Technology};
+use crate::table::{ch, fp, hp, hr, kind_of, rs, Field, Technology};
 use std::collections::BTreeSet;
 
 impl Maker<'_> {
@@ -159,6 +160,37 @@ impl Maker<'_> {
             let energy = value(self.random, ch::ENERGY);
             let energy = if idle { 0 } else { energy };
             self.add(b"CH", &[(ch::INTERVAL, interval), (ch::ENERGY, energy)]);
+        }
+    }
+
+    pub fn hydro(&mut self) {
+        let capacity = value(self.random, rs::CAPACITY);
+        let window = self.forecast();
+        self.station(Technology::Hydro, capacity, &[(rs::WINDOW, window)]);
+        // few prices, so that many are equal; many; and hardly one or none above 0
+        let prices = [
+            (100, -20, 60),
+            (1, -2_000, 15_000),
+            (1, -200_000, 200_000),
+            (10, -40, 0),
+            (1, -500, -1),
+        ];
+        let (step, low, high) = self.random.pick(&prices);
+        let beyond = (window + 1..=4_000).filter(|p| *p <= window + 4 || *p == 4_000);
+        let beyond: Vec<i128> = beyond.filter(|_| self.random.one_in(8)).collect();
+        for place in (1..=window).chain(beyond) {
+            let price = step * self.random.between(low, high);
+            self.add(b"FP", &[(fp::PLACE, place), (fp::PRICE, price)]);
+        }
+    }
+
+    /// The places of a window: most of the time few, with the steps of the place from the top.
+    fn forecast(&mut self) -> i128 {
+        match self.random.below(400) {
+            0 => self.random.pick(&[2_928, 3_999, 4_000]),
+            1..=8 => self.random.between(169, 1_000),
+            9..=99 => self.random.between(50, 200),
+            _ => self.random.pick(&[50, 50, 51, 99, 100]),
         }
     }
 }

@@ -1,9 +1,9 @@
 //! Damage that draws 6: a current record that doesn't fit the technology.
 
-use super::damage::{change_rs, not, put};
+use super::damage::{change_rs, not, only, put};
 use super::{value, Draft};
 use crate::random::Random;
-use crate::table::{ad, ch, fu, hr, kind_of, mm, rs, th, Technology};
+use crate::table::{ad, ch, fp, fu, hr, kind_of, mm, rs, th, Technology};
 
 pub fn used_field_zero(random: &mut Random, draft: &mut Draft) -> Option<()> {
     let field = random.pick(draft.technology.uses());
@@ -40,6 +40,20 @@ pub fn interval_not_storage(random: &mut Random, draft: &mut Draft) -> Option<()
     not(draft, Technology::Storage)?;
     let interval = value(random, ch::INTERVAL);
     put(random, draft, b"CH", &[(ch::INTERVAL, interval)]);
+    Some(())
+}
+
+pub fn place_not_hydro(random: &mut Random, draft: &mut Draft) -> Option<()> {
+    not(draft, Technology::Hydro)?;
+    let place = value(random, fp::PLACE);
+    put(random, draft, b"FP", &[(fp::PLACE, place)]);
+    Some(())
+}
+
+pub fn fuel_at_hydro(random: &mut Random, draft: &mut Draft) -> Option<()> {
+    only(draft, Technology::Hydro)?;
+    let fuel = random.spread(1, fu::FUEL.highest);
+    put(random, draft, b"FU", &[(fu::FUEL, fuel), (fu::EMISSION, 0)]);
     Some(())
 }
 

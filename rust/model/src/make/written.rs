@@ -75,3 +75,15 @@ pub fn storage(charge: i128, capacity: i128, prices: &[i128]) -> Vec<u8> {
     records.extend(hours.map(|(hour, price)| record(b"HR", 1, &[hour, *price])));
     records.concat()
 }
+
+/// A hydroelectric station with one price in cents for each place of the window, and no other cost.
+pub fn hydro(prices: &[i128]) -> Vec<u8> {
+    let window = prices.len() as i128;
+    let mut records = vec![
+        record(b"RS", 1, &[4, 1_000, 0, 0, 0, 0, 0, 0, window]),
+        record(b"FU", 1, &[1, 0, 0]),
+    ];
+    let places = (1..).zip(prices);
+    records.extend(places.map(|(place, price)| record(b"FP", 1, &[place, *price])));
+    records.concat()
+}
