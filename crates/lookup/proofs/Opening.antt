@@ -80,16 +80,21 @@ module _ (d : List ℕ) (w : ℕ) where
           let z : Stopped n p ≡ Stopped m q = e ∙ ap passOf (way (Refused m q) s) in
           ap₂ (λ (x y : ℕ). Refused x y) (ap (λ x. elim x [ Ended u v ↦ n | Stopped i j ↦ i ]) z) (ap (λ x. elim x [ Ended u v ↦ p | Stopped i j ↦ j ]) z) ∙ sym (after d h ∙ rw s refl)
 
-  -- the index that the pass leaves
-  pub pass-indexed : {ix x : List ℕ} {b c : Bool} → ix ≡ replicate w 0 → narrow ≤ w → length d ≤ 60000 → Ended b c ≡ passOf (walk (keepStep d) (kept ix true true) d) → x ≡ slotsOf x (walk (keepStep d) (kept ix true true) d) → Indexed d x × (c ≡ true → Complete d x)
+  -- the index that the pass leaves, where nothing is drawn
+  pub pass-filled : {ix x : List ℕ} → ix ≡ replicate w 0 → narrow ≤ w → length d ≤ 60000 → scan 0 (records d) ≡ Accepted → x ≡ slotsOf x (walk (keepStep d) (kept ix true true) d) → (Indexed d x) × (length x ≡ w)
   unfolding slotsOf outcome indexOf fold
-  pass-indexed {x = x} {c = c} z r h e i =
+  pass-filled {x = x} z r h s i =
+      let f : x ≡ fold .slots = (rw z at i) ∙ ap (slotsOf x) (way Accepted s) in
+      let n : length x ≡ w = ap length f ∙ folded-length d 0 (fresh w) (records d) ∙ length-replicate {A = ℕ} w 0 in
+      (record { short = h; clean = s; roomy = omega (arith, r, n); here = f ∙ ap (λ (v : ℕ). folded (keepStep d) 0 (fresh v) (records d) .slots) (sym n) }, n)
+
+  -- and what it says of the slots
+  pub pass-indexed : {ix x : List ℕ} {b c : Bool} → ix ≡ replicate w 0 → narrow ≤ w → length d ≤ 60000 → Ended b c ≡ passOf (walk (keepStep d) (kept ix true true) d) → x ≡ slotsOf x (walk (keepStep d) (kept ix true true) d) → Indexed d x × (c ≡ true → Complete d x)
+  unfolding fold
+  pass-indexed {c = c} z r h e i =
       let p = pass-ended (rw z at e) in
-      let f : x ≡ fold .slots = (rw z at i) ∙ ap (slotsOf x) (way Accepted (p .0)) in
-      let n : length x ≡ w = ap length f ∙ folded-length d 0 (fresh w) (records d) ∙ length-replicate {A = ℕ} w 0 in (
-        record { short = h; clean = p .0; roomy = omega (arith, r, n); here = f ∙ ap (λ (v : ℕ). folded (keepStep d) 0 (fresh v) (records d) .slots) (sym n) },
-        λ q. rw (n ∙ sym (length-replicate {A = ℕ} w 0)) (complete-slots d 0 (fresh w) (records d) (sym (p .2) ∙ q)),
-      )
+      let g = pass-filled z r h (p .0) i in
+      (g .0, λ q. rw (g .1 ∙ sym (length-replicate {A = ℕ} w 0)) (complete-slots d 0 (fresh w) (records d) (sym (p .2) ∙ q)))
 
   -- ---- from the scan to the answer
 

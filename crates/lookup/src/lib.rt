@@ -8,7 +8,7 @@ ghost use Rattle.fields.specs.Numbers.{number};
 ghost use Rattle.records.specs.declared.Answer.the-variants.{Accepted};
 ghost use Rattle.records.specs.Table.{kinds};
 ghost use Rattle.records.specs.Record.{mark};
-ghost use Rattle.records.specs.Dossier.{records};
+ghost use Rattle.records.specs.Dossier.{records, scan};
 ghost use Rattle.station.specs.Current.{current, readable, lookupBytes};
 ghost use Rattle.index.specs.declared.Passed.the-variants.{Ended};
 ghost use Rattle.index.specs.Slots.{slot};
@@ -34,6 +34,14 @@ pub fn scan(d: &[u8], index: &mut [u16]) -> Passed
         };
     }
     index::pass(d, index)
+}
+
+// The index alone, of a dossier that is known to draw none of 13 and 1 to 3.
+pub fn fill(d: &[u8], index: &mut [u16])
+    requires { ⌜ Empty (now index) × (length (now d) ≤ 60000) × (scan 0 (records (now d)) ≡ Accepted) ⌝ }
+    ensures { λ r. ⌜ Indexed (now (d .entry)) (now (index .exit)) ⌝ }
+{
+    index::pass(d, index);
 }
 
 // A dossier is read: 13, 1 to 4, and its index. `judge` does the same by itself: the search for twins, called from two functions, keeps

@@ -6,7 +6,7 @@ use Rattle.station.specs.Parameters.{Parameters, Amounts, factor, startHeat, no
 use Rattle.acceptance.specs.Fit.{energy, start, noLoad}
 use Rattle.acceptance.specs.Curve.{rise}
 use Rattle.formulas.specs.Exact.{quotient, dropped}
-use Rattle.formulas.specs.Levels.{adders, maintenance, startMaintenance, thermalEnergy, heatCost, startCost, noLoadCost, nuclearEnergy}
+use Rattle.formulas.specs.Levels.{adders, maintenance, startMaintenance, thermalEnergy, heatCost, startCost, noLoadCost, nuclearEnergy, forecastPrice, hydroEnergy}
 
 module _ (s : Parameters) (m : Amounts) (p : ℕ) {f e k : ℕ} (fuel-is : f ≡ fuel m p) (emission-is : e ≡ emission m p) (factor-is : k ≡ factor s) where
   pub heat-costs : (h : ℕ) {r : ℕ} → r ≡ quotient (h * f * k) 1000000 + quotient (h * e) 1000 → r ≡ dropped (heatCost s m p h)
@@ -30,3 +30,7 @@ module _ (s : Parameters) (m : Amounts) (p : ℕ) where
   pub nuclear-costs : {u f k a t : ℕ} → u ≡ incrementalFuel s → f ≡ fuel m p → k ≡ factor s → a ≡ dropped (adders m p energy) → t ≡ dropped (maintenance s m p) → u * f * k / 1000000000 + a + t ≡ dropped (nuclearEnergy s m p)
   unfolding dropped quotient nuclearEnergy
   nuclear-costs e f g a t = rw (e, f, g, a, t) refl
+
+  pub hydro-costs : {x a t : ℕ} → x ≡ forecastPrice s m → a ≡ dropped (adders m p energy) → t ≡ dropped (maintenance s m p) → x * 10000 + a + t ≡ dropped (hydroEnergy s m p)
+  unfolding dropped hydroEnergy
+  hydro-costs e a t = rw (e, a, t) refl

@@ -4,7 +4,7 @@ use mathlib.Core.Bool.{true}
 use mathlib.Core.List.{List}
 use Prim.Native.Nat.{ℕ, suc, _+_, _*_, _≤_, _<_}
 use native.Mathlib.Omega.{arith}
-use lib.Dec.{eqb}
+use lib.Dec.{eqb, lit≤}
 use lib.ListN.{getD}
 use borrow.Author.Tests.{eqb-true}
 use Rattle.lists.proofs.Tests.{below-at}
@@ -16,7 +16,7 @@ use Rattle.station.specs.Parameters.{chargePrice, chargeEnergy}
 use Rattle.station.proofs.Fields.{chargeEnergy-at}
 use Rattle.index.specs.Slots.{slot}
 use Rattle.lookup.specs.Parts.{Indexed}
-use Rattle.lookup.proofs.Parts.{current-none, interval-key}
+use Rattle.lookup.proofs.Parts.{current-none, fits, interval-key}
 use Rattle.acceptance.specs.Looked.{slotsEmpty}
 use Rattle.formulas.specs.Sums.{sumTo}
 use Rattle.formulas.specs.Levels.{parametersIn, amountsIn}
@@ -41,7 +41,7 @@ module _ {d ix : List ℕ} (h : Indexed d ix) where
   uncharged : (n : ℕ) → 1 ≤ n → n ≤ 2016 → getD ix (slot CH n) 0 ≡ 0 → chargeEnergy (parametersIn d) n ≡ 0
   uncharged n a b e =
       chargeEnergy-at (records d) n
-      ∙ ap (number 12 4) (current-none d ix h CH n (interval-key n a b) e)
+      ∙ ap (number 12 4) (current-none d ix h CH n (interval-key n a b) (fits d ix h CH n (interval-key n a b) (lit≤ tt)) e)
       ∙ number-nil 12 4
 
   module _ (n m : ℕ) {j : ℕ} (first : j ≡ slot CH (n + 1)) (last : n + m ≤ 2016) (empty : slotsEmpty ix j m ≡ true) where

@@ -21,7 +21,7 @@ use Rattle.acceptance.specs.Curve.{points}
 use Rattle.acceptance.specs.Answer.{answer}
 use Rattle.reference.specs.declared.HourLevels.{HourLevels}
 use Rattle.formulas.specs.Exact.{Sum, dropped, cents}
-use Rattle.formulas.specs.Levels.{parametersIn, amountsIn, Line, amount, adders, startCost, noLoadCost, nuclearEnergy, storageEnergy, lamination, laminations, oneLamination, single, profile, linesOf, lines, levels}
+use Rattle.formulas.specs.Levels.{parametersIn, amountsIn, Line, amount, adders, startCost, noLoadCost, nuclearEnergy, storageEnergy, hydroEnergy, lamination, laminations, oneLamination, single, profile, linesOf, lines, levels}
 use Rattle.reference.specs.Packed.{Shown, row, shown, laminationsFrom, singleOf, unpacked, energyLines, amountOf, padded, hourLevels, packed, noLevels, levelsAnswer}
 
 -- ---- an array filled from the front
@@ -119,6 +119,11 @@ module _ (s : Parameters) (m : Amounts) (p : ℕ) where
   unfolding linesOf packed energyLines amountOf oneLamination single
   storage-packed e w x z r = rw (r, e, w, x, z) refl
 
+  pub hydro-packed : technology s ≡ 4 → {w x z : ℕ} {r : HourLevels} → w ≡ capacity s → x ≡ cents (dropped (hydroEnergy s m p)) → z ≡ cents (dropped (adders m p reserve))
+      → r ≡ hourLevels 4 p 1 (padded 20 (0 ∷ [])) (padded 20 (w ∷ [])) (padded 20 (x ∷ [])) 0 0 z → r ≡ packed (technology s) p (linesOf s m p)
+  unfolding linesOf packed energyLines amountOf oneLamination single
+  hydro-packed e w x z r = rw (r, e, w, x, z) refl
+
 -- at an hour
 pub levels-packed : (d : List ℕ) (h : ℕ) {q : ℕ} {r : HourLevels} → q ≡ profile (parameters (records d)) h
     → r ≡ packed (technology (parameters (records d))) q (linesOf (parameters (records d)) (amounts (records d)) q)
@@ -195,28 +200,34 @@ module _ (s : Parameters) (m : Amounts) (p : ℕ) where
   unfolding linesOf unpacked laminationsFrom singleOf holds levelsOf among packed energyLines amountOf padded oneLamination single
   storage-unpacked e f g = rw (e, f, g) refl
 
-  none-unpacked : eqb (technology s) 1 ≡ false → eqb (technology s) 2 ≡ false → eqb (technology s) 3 ≡ false → unpacked (packed (technology s) p (linesOf s m p)) ≡ map shown (linesOf s m p)
+  hydro-unpacked : eqb (technology s) 1 ≡ false → eqb (technology s) 2 ≡ false → eqb (technology s) 3 ≡ false → eqb (technology s) 4 ≡ true → unpacked (packed (technology s) p (linesOf s m p)) ≡ map shown (linesOf s m p)
+  unfolding linesOf unpacked laminationsFrom singleOf holds levelsOf among packed energyLines amountOf padded oneLamination single
+  hydro-unpacked e f g i = rw (e, f, g, i) refl
+
+  none-unpacked : eqb (technology s) 1 ≡ false → eqb (technology s) 2 ≡ false → eqb (technology s) 3 ≡ false → eqb (technology s) 4 ≡ false → unpacked (packed (technology s) p (linesOf s m p)) ≡ map shown (linesOf s m p)
   unfolding linesOf unpacked laminationsFrom singleOf holds levelsOf among packed energyLines
-  none-unpacked e f g = rw (e, f, g) refl
+  none-unpacked e f g i = rw (e, f, g, i) refl
 
   -- the arrays show each line, and no other
   pub unpacked-levels : unpacked (packed (technology s) p (linesOf s m p)) ≡ map shown (linesOf s m p)
   unpacked-levels =
       split (eqb (technology s) 1) thermal-unpacked
-      (λ e. split (eqb (technology s) 2) (nuclear-unpacked e) (λ f. split (eqb (technology s) 3) (storage-unpacked e f) (none-unpacked e f)))
+      (λ e. split (eqb (technology s) 2) (nuclear-unpacked e) (λ f. split (eqb (technology s) 3) (storage-unpacked e f) (λ g. split (eqb (technology s) 4) (hydro-unpacked e f g) (none-unpacked e f g))))
 
   -- no more laminations than places
   pub count-levels : (t : ℕ) → packed t p (linesOf s m p) .count ≤ 20
   unfolding linesOf packed energyLines oneLamination single
-  count-levels t = go (eqb (technology s) 1) (eqb (technology s) 2) (eqb (technology s) 3)
+  count-levels t = go (eqb (technology s) 1) (eqb (technology s) 2) (eqb (technology s) 3) (eqb (technology s) 4)
     where
-      go : (a b c : Bool)
+      go : (a b c d : Bool)
           → length (energyLines (cond a (laminations s m p 1 (points s - 1) (others (startCost s m p) (noLoadCost s m p) (adders m p reserve)))
-          (cond b (oneLamination s (nuclearEnergy s m p) ∷ []) (cond c (oneLamination s (storageEnergy s m p) ∷ single reserve (adders m p reserve) ∷ []) [])))) ≤ 20
-      go true b c = rw (energy-laminations s m p 1 (points s - 1) (others (startCost s m p) (noLoadCost s m p) (adders m p reserve)), lines-length s m p 1 (points s - 1)) (points-high s)
-      go false true c = lit≤ tt
-      go false false true = lit≤ tt
-      go false false false = lit≤ tt
+          (cond b (oneLamination s (nuclearEnergy s m p) ∷ []) (cond c (oneLamination s (storageEnergy s m p) ∷ single reserve (adders m p reserve) ∷ [])
+          (cond d (oneLamination s (hydroEnergy s m p) ∷ single reserve (adders m p reserve) ∷ []) []))))) ≤ 20
+      go true b c d = rw (energy-laminations s m p 1 (points s - 1) (others (startCost s m p) (noLoadCost s m p) (adders m p reserve)), lines-length s m p 1 (points s - 1)) (points-high s)
+      go false true c d = lit≤ tt
+      go false false true d = lit≤ tt
+      go false false false true = lit≤ tt
+      go false false false false = lit≤ tt
 
 -- ---- what `hour_levels` hands over
 

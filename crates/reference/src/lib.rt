@@ -1,4 +1,5 @@
 // Reference levels at an hour. The formulas are in specs/, their laws in proofs/.
+mod hydro;
 mod maintenance;
 mod nuclear;
 mod parameters;
@@ -101,13 +102,28 @@ fn nuclear_levels(d: &[u8], index: &[u16], p: usize) -> HourLevels
 }
 
 fn storage_levels(d: &[u8], index: &[u16], p: usize) -> HourLevels
-    requires { ⌜ Indexed (now d) (now index) × (1 ≤ p) × (p ≤ 4) × (technology (parametersIn (now d)) ≡ 3) × (fullHours (parametersIn (now d)) ≤ window (parametersIn (now d))) ⌝ }
+    requires { ⌜ Indexed (now d) (now index) × (1 ≤ p) × (p ≤ 4) × (technology (parametersIn (now d)) ≡ 3) × (fullHours (parametersIn (now d)) ≤ window (parametersIn (now d))) × (window (parametersIn (now d)) ≤ 168) ⌝ }
     ensures { λ r. ⌜ r ≡ packed (technology (parametersIn (now (d .entry)))) p (linesOf (parametersIn (now (d .entry))) (amountsIn (now (d .entry))) p) ⌝ }
 {
     let energy = Money::from_sum(storage::storage_energy(d, index, p));
     let reserve = Money::from_sum(maintenance::adders(d, index, p, 4));
     one_lamination(
         3,
+        p,
+        parameters::capacity(d, index),
+        energy.cents,
+        reserve.cents,
+    )
+}
+
+fn hydro_levels(d: &[u8], index: &[u16], p: usize) -> HourLevels
+    requires { ⌜ Indexed (now d) (now index) × (1 ≤ p) × (p ≤ 4) × (technology (parametersIn (now d)) ≡ 4) × (50 ≤ window (parametersIn (now d))) ⌝ }
+    ensures { λ r. ⌜ r ≡ packed (technology (parametersIn (now (d .entry)))) p (linesOf (parametersIn (now (d .entry))) (amountsIn (now (d .entry))) p) ⌝ }
+{
+    let energy = Money::from_sum(hydro::hydro_energy(d, index, p));
+    let reserve = Money::from_sum(maintenance::adders(d, index, p, 4));
+    one_lamination(
+        4,
         p,
         parameters::capacity(d, index),
         energy.cents,
@@ -128,7 +144,10 @@ pub fn hour_levels(d: &[u8], index: &[u16], hour: u32) -> HourLevels
     if technology == 2 {
         return nuclear_levels(d, index, p);
     }
-    storage_levels(d, index, p)
+    if technology == 3 {
+        return storage_levels(d, index, p);
+    }
+    hydro_levels(d, index, p)
 }
 
 // What a refused call shows.

@@ -2,13 +2,13 @@
 // sums in 64 bits rest.
 ghost use mathlib.Core.Path.{_≡_};
 ghost use Prim.Native.Nat.{_≤_};
-ghost use Rattle.station.specs.Parameters.{technology, capacity, factor, startHeat, noLoadHeat, incrementalFuel, charge, efficiency, window, output, heat, fuel, emission, adder, hourPrice};
-ghost use Rattle.lookup.specs.Parts.{Indexed};
+ghost use Rattle.station.specs.Parameters.{technology, capacity, factor, startHeat, noLoadHeat, incrementalFuel, charge, efficiency, window, output, heat, fuel, emission, adder, hourPrice, placePrice};
+ghost use Rattle.lookup.specs.Parts.{Indexed, Complete};
 ghost use Rattle.formulas.specs.Levels.{parametersIn, amountsIn};
 
 pub fn technology(d: &[u8], index: &[u16]) -> u8
     requires { ⌜ Indexed (now d) (now index) ⌝ }
-    ensures { λ r. ⌜ (r ≡ technology (parametersIn (now (d .entry)))) × (r ≤ 3) ⌝ }
+    ensures { λ r. ⌜ (r ≡ technology (parametersIn (now (d .entry)))) × (r ≤ 4) ⌝ }
 {
     fields::u8_at(lookup::rs(d, index), 6)
 }
@@ -64,7 +64,7 @@ pub fn efficiency(d: &[u8], index: &[u16]) -> u64
 
 pub fn window(d: &[u8], index: &[u16]) -> usize
     requires { ⌜ Indexed (now d) (now index) ⌝ }
-    ensures { λ r. ⌜ (r ≡ window (parametersIn (now (d .entry)))) × (r ≤ 168) ⌝ }
+    ensures { λ r. ⌜ (r ≡ window (parametersIn (now (d .entry)))) × (r ≤ 4000) ⌝ }
 {
     fields::u16_at(lookup::rs(d, index), 29) as usize
 }
@@ -110,4 +110,11 @@ pub fn hour_price(d: &[u8], index: &[u16], n: usize) -> u32
     ensures { λ r. ⌜ r ≡ hourPrice (amountsIn (now (d .entry))) n ⌝ }
 {
     arithmetic::biased(fields::u32_at(lookup::hr(d, index, n), 7))
+}
+
+pub fn place_price(d: &[u8], index: &[u16], n: usize) -> u32
+    requires { ⌜ Indexed (now d) (now index) × Complete (now d) (now index) × (1 ≤ n) × (n ≤ 4000) ⌝ }
+    ensures { λ r. ⌜ r ≡ placePrice (amountsIn (now (d .entry))) n ⌝ }
+{
+    arithmetic::biased(fields::u32_at(lookup::fp(d, index, n), 8))
 }

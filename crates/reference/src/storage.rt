@@ -120,7 +120,7 @@ fn highest_sum(d: &[u8], index: &[u16], hours: usize, window: usize) -> u64
 
 // The opportunity cost.
 fn opportunity_cost(d: &[u8], index: &[u16]) -> u64
-    requires { ⌜ Indexed (now d) (now index) × (fullHours (parametersIn (now d)) ≤ window (parametersIn (now d))) ⌝ }
+    requires { ⌜ Indexed (now d) (now index) × (fullHours (parametersIn (now d)) ≤ window (parametersIn (now d))) × (window (parametersIn (now d)) ≤ 168) ⌝ }
     ensures { λ r. ⌜ r ≡ dropped (opportunityCost (parametersIn (now (d .entry))) (amountsIn (now (d .entry)))) ⌝ }
 {
     let hours = arithmetic::share(parameters::charge(d, index), parameters::capacity(d, index));
@@ -134,7 +134,7 @@ fn opportunity_cost(d: &[u8], index: &[u16]) -> u64
 
 // The greater is taken.
 pub fn storage_energy(d: &[u8], index: &[u16], p: usize) -> u64
-    requires { ⌜ Indexed (now d) (now index) × (1 ≤ p) × (p ≤ 4) × (fullHours (parametersIn (now d)) ≤ window (parametersIn (now d))) ⌝ }
+    requires { ⌜ Indexed (now d) (now index) × (1 ≤ p) × (p ≤ 4) × (fullHours (parametersIn (now d)) ≤ window (parametersIn (now d))) × (window (parametersIn (now d)) ≤ 168) ⌝ }
     ensures { λ r. ⌜ r ≡ dropped (storageEnergy (parametersIn (now (d .entry))) (amountsIn (now (d .entry))) p) ⌝ }
 {
     arithmetic::greater(short_run_cost(d, index, p), opportunity_cost(d, index))

@@ -31,7 +31,7 @@ hours-are c = c .share .ensures .0 ∙ ap₂ quotient (c .before .before .charge
 highest-sum-requires : tie.Need-highest-sum-requires
 highest-sum-requires c κs =
     let a = c .before .before .before .before .before .before in
-    (a .pre .0, c .window .ensures .1, omega (arith, a .pre .1, hours-are (c .before), c .window .ensures .0))
+    (a .pre .0, omega (arith, a .pre .2, c .window .ensures .0), omega (arith, a .pre .1, hours-are (c .before), c .window .ensures .0))
 
 mul-less : tie.Need-mul-less
 mul-less c = omega arith

@@ -6,7 +6,7 @@ use lib.ListN.{length, drop, length-set}
 use Rattle.records.specs.Dossier.{records}
 use Rattle.station.specs.Parameters.{amounts, hourPrice}
 use Rattle.formulas.specs.Sums.{listTo}
-use Rattle.reference.proofs.Hours.{hours-more, hours-end, hours-none}
+use Rattle.reference.proofs.Prices.{prices-none, prices-more, prices-end}
 use Rattle.reference.proofs.storage.prices.Statement.{statement}
 use Rattle.reference.proofs.storage.prices.Tie as tie
 
@@ -17,7 +17,7 @@ abbrev μ-loop : tie.MeasureT-loop
 μ-loop d index window prices₀ n₀ prices n = window - n
 
 loop-holds : tie.Need-loop-holds Inv-loop μ-loop
-loop-holds c = (search needs, search needs, hours-none _ (c .before .before .before .args .prices .now) (c .before .before .before .pre .2))
+loop-holds c = (search needs, search needs, prices-none 168 _ (c .before .before .before .args .prices .now) (c .before .before .before .pre .2))
 
 add-hour-price : tie.Need-add-hour-price Inv-loop μ-loop
 add-hour-price c = omega arith
@@ -43,7 +43,7 @@ loop-less c = omega arith
 loop-again : tie.Need-loop-again Inv-loop μ-loop
 loop-again c =
     let l = c .before .before .loop in
-    (omega arith, simp length-set (l .inv .1), hours-more _ (l .prices) (l .n) _ (l .inv .1) (omega arith) (l .inv .2) (c .hour-price .ensures))
+    (omega arith, simp length-set (l .inv .1), prices-more 168 _ (l .prices) (l .n) _ _ (l .inv .1) (omega arith) (omega arith) (l .inv .2) (c .hour-price .ensures))
 
 same-length : tie.Need-same-length Inv-loop μ-loop
 same-length c = omega arith
@@ -51,7 +51,7 @@ same-length c = omega arith
 returns : tie.Need-returns Inv-loop μ-loop
 returns c =
     let l = c .before .loop in
-    hours-end _ (l .prices) (l .n) _ (c .loop-test .left) (l .inv .0) (l .inv .2)
+    prices-end 168 _ (l .prices) (l .n) _ (c .loop-test .left) (l .inv .0) (l .inv .2)
 
 pub prices-spec : {M : Type 1} → statement M
 prices-spec =

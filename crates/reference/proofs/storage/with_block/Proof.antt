@@ -2,7 +2,6 @@ use borrow.Author.Needs.{needs}
 use mathlib.Core.Path.{sym, _∙_}
 use native.Mathlib.Omega.{arith}
 use Rattle.index.specs.Slots.{slot}
-use Rattle.lookup.proofs.Parts.{index-length}
 use Rattle.reference.proofs.Intervals.{summed-past}
 use Rattle.reference.proofs.storage.with_block.Statement.{statement}
 use Rattle.reference.proofs.storage.with_block.Tie as tie
@@ -17,7 +16,7 @@ slots-empty-requires : tie.Need-slots-empty-requires
 unfolding slot
 slots-empty-requires c κs =
     let a = c .before .before .before in
-    omega (arith, c .slot-ch .ensures, index-length (a .args .d .now) (a .args .index .now) (a .pre .0))
+    omega (arith, c .slot-ch .ensures, a .pre .0 .roomy)
 
 returns : tie.Need-returns
 returns c =

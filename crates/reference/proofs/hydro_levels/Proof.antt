@@ -1,0 +1,43 @@
+use borrow.Author.Needs.{needs}
+use mathlib.Core.Path.{ap, _∙_}
+use Rattle.formulas.specs.Exact.{cents}
+use Rattle.reference.proofs.Packed.{hydro-packed}
+use Rattle.reference.proofs.hydro_levels.Statement.{statement}
+use Rattle.reference.proofs.hydro_levels.Tie as tie
+
+hydro-energy-requires : tie.Need-hydro-energy-requires
+hydro-energy-requires c κs = search needs
+
+from-sum-requires : tie.Need-from-sum-requires
+from-sum-requires c κs = search needs
+
+adders-requires : tie.Need-adders-requires
+adders-requires c κs = search needs
+
+from-sum-requires-2 : tie.Need-from-sum-requires-2
+from-sum-requires-2 c κs = search needs
+
+capacity-requires : tie.Need-capacity-requires
+capacity-requires c κs = search needs
+
+one-lamination-requires : tie.Need-one-lamination-requires
+one-lamination-requires c κs = search needs
+
+returns : tie.Need-returns
+returns c =
+    let a = c .before .before .before in
+    let e = a .before .before in
+    hydro-packed _ _ _ (e .before .before .before .pre .3) (c .before .capacity .ensures .0) (a .before .from-sum .ensures ∙ ap cents (e .hydro-energy .ensures))
+    (c .before .before .from-sum2 .ensures ∙ ap cents (a .adders .ensures .0)) (c .one-lamination .ensures)
+
+pub hydro-levels-spec : {M : Type 1} → statement M
+hydro-levels-spec =
+    tie.close
+    (tie.spec
+    hydro-energy-requires
+    from-sum-requires
+    adders-requires
+    from-sum-requires-2
+    capacity-requires
+    one-lamination-requires
+    returns)
