@@ -13,9 +13,9 @@ use Rattle.verdicts.specs.declared.Verdict.{Verdict}
 use Rattle.verdicts.specs.Refusals.{offerRefusal, priceRefusal}
 use Rattle.verdicts.specs.Verdict.{offerVerdict, priceVerdict}
 use Rattle.verdicts.proofs.Settled.{settle-accepted}
-use Rattle.conduct.specs.declared.Threshold.{Threshold}
-use Rattle.conduct.specs.Shapes.{thresholdOf, offerShown, priceShown}
-use Rattle.conduct.proofs.Laminations.{offer-shown, price-shown}
+use Rattle.limits.specs.declared.Threshold.{Threshold}
+use Rattle.limits.specs.Shapes.{thresholdOf, offerShown, priceShown}
+use Rattle.limits.proofs.Laminations.{offer-shown, price-shown}
 
 -- the levels r were handed over for l
 pub offer-tested :

@@ -2,8 +2,7 @@
 use mathlib.Core.Path.{_≡_, refl, ap, sym, _∙_}
 use mathlib.Core.Bool.{Bool, true, false, _&&_, _||_, not}
 use mathlib.Core.List.{List}
-use Prim.Native.Nat.{ℕ, suc, _+_, _-_, _*_, _%_, _≤_, _<_}
-use native.Mathlib.Nat.{sub-zero}
+use Prim.Native.Nat.{ℕ, _+_, _-_, _*_, _%_, _≤_, _<_}
 use native.Mathlib.Numerals.{add-one}
 use native.Mathlib.Omega.{arith}
 use lib.Dec.{leb, ltb, eqb}
@@ -21,6 +20,7 @@ use Rattle.station.specs.Parameters.{Parameters, parameters, capacity, technolo
 use Rattle.acceptance.specs.Fit.{holds}
 use Rattle.verdicts.specs.Test.{quantity, priceAt, before}
 use Rattle.verdicts.specs.Refusals.{levelRefusal, conditionRefusal, lengthRefusal, priceBefore, pairHolds, malformed, aboveCapacity}
+use Rattle.limits.proofs.Turns.{one-less}
 use Rattle.conduct.specs.Shapes.{pairTest}
 
 -- ---- chains of answers
@@ -42,17 +42,6 @@ unfolding orElse
 accepted-then b e = rw e refl
 
 -- ---- pairs in turn
-
-pub one-less : (n k : ℕ) → k < n → n - k ≡ suc (n - (k + 1))
-one-less n k h = omega arith
-
--- all pairs are left where the loop begins
-pub all-left : {A : Type 0} (f : ℕ → A) (n : ℕ) → f (n - 0) ≡ f n
-all-left f n = ap f (sub-zero n)
-
-pub before-next : (o : List ℕ) (k : ℕ) → quantity o k ≡ before o (k + 1)
-unfolding before
-before-next o k = rw (add-one k) refl
 
 pub priceBefore-next : (o : List ℕ) (k : ℕ) → priceAt o k ≡ priceBefore o (k + 1)
 unfolding priceBefore

@@ -1,66 +1,8 @@
--- The test in the shapes that code takes: over levels without their formulas, which it never looks at, and by the places of arrays. The
--- laws of proofs/Turns.antt and proofs/Laminations.antt tie each shape to its definition.
-use mathlib.Core.Bool.{Bool, true, cond, _&&_}
-use mathlib.Core.List.{List, [], _∷_}
-use Prim.Native.Nat.{ℕ, zero, suc, _+_, min}
-use lib.Dec.{leb, ltb, eqb}
-use lib.ListN.{getD}
-use Rattle.station.specs.Parameters.{Parameters, percent, margin, floor}
-use Rattle.acceptance.specs.Fit.{energy, start, noLoad}
-use Rattle.reference.specs.declared.HourLevels.{HourLevels}
-use Rattle.reference.specs.Packed.{Shown}
-use Rattle.conduct.specs.declared.Threshold.{Threshold}
-use Rattle.conduct.specs.declared.Pair.{Pair}
-use Rattle.verdicts.specs.declared.Verdict.{Verdict}
-use Rattle.verdicts.specs.declared.Verdict.the-variants.{Passes, Fails}
-use Rattle.verdicts.specs.Test.{fails, quantity, priceAt, before, overlap}
-
--- what TH says of a condition and level
-abbrev pub thresholdOf : Parameters → ℕ → ℕ → Threshold
-thresholdOf s c v = record { percent = percent s c v; margin = margin s c v; floor = floor s c v }
-
--- whether a price fails against a level x
-unfoldable pub failsAt : Threshold → ℕ → ℕ → Bool
-failsAt t price x = fails x (t .percent) (t .margin) (t .floor) price
+-- A refusal in the shape that code takes: over the numbers that were read. The law `pair-test` ties it to its definition.
+use mathlib.Core.Bool.{Bool, _&&_}
+use Prim.Native.Nat.{ℕ}
+use lib.Dec.{leb, ltb}
 
 -- as `pairHolds`, of the quantity and price before a pair and its own
 abbrev pub pairTest : ℕ → ℕ → ℕ → ℕ → Bool
 pairTest low last high price = ltb low high && leb 2147283648 price && leb price 2147683648 && leb last price
-
--- as `failing`
-unfoldable pub failingShown : ℕ → (ℕ → ℕ → Bool) → (ℕ → Bool) → ℕ → List Shown → Verdict → Verdict
-failingShown v meets test k [] rest = rest
-failingShown v meets test k (x ∷ l) rest =
-    let r = failingShown v meets test k l rest in
-    cond (eqb (x .level) v && meets (x .from) (x .to) && test (x .cents)) (Fails k (x .lamination)) r
-
--- as `offerFrom`
-unfoldable pub offerShown : Threshold → List Shown → List ℕ → ℕ → ℕ → Verdict
-offerShown t l o k zero = Passes
-offerShown t l o k (suc n) =
-    failingShown energy (overlap (before o k) (quantity o k)) (failsAt t (priceAt o k)) (k + 1) l (offerShown t l o (k + 1) n)
-
--- as `priceTest`
-unfoldable pub priceShown : Threshold → ℕ → ℕ → List Shown → Verdict
-priceShown t v price l = failingShown v (λ a b. true) (failsAt t price) 0 l Passes
-
--- ---- the same by the arrays, as code goes through them
-
--- whether a pair fails in a lamination of level x
-unfoldable pub failsIn : Threshold → Pair → ℕ → ℕ → ℕ → Bool
-failsIn t pair from to x = overlap (pair .low) (pair .high) from to && failsAt t (pair .price) x
-
--- the first of n laminations from place i on that a pair fails in, counted from 1; 0 where it fails in none
-unfoldable pub firstFailing : Threshold → Pair → List ℕ → List ℕ → List ℕ → ℕ → ℕ → ℕ
-firstFailing t pair from to cents i zero = 0
-firstFailing t pair from to cents i (suc n) =
-    cond (failsIn t pair (getD from i 0) (getD to i 0) (getD cents i 0)) (suc i) (firstFailing t pair from to cents (suc i) n)
-
--- the least of the first n levels; of none, the largest number of 64 bits
-unfoldable pub leastOf : List ℕ → ℕ → ℕ
-leastOf cents zero = 18446744073709551615
-leastOf cents (suc n) = min (leastOf cents n) (getD cents n 0)
-
--- the level of a kind that has no laminations
-unfoldable pub singleLevel : HourLevels → ℕ → ℕ
-singleLevel r v = cond (eqb v start) (r .start) (cond (eqb v noLoad) (r .noload) (r .reserve))

@@ -1,36 +1,35 @@
 // The conduct test, worked out through the index.
 mod refusals;
-mod test;
 
 ghost use mathlib.Core.Path.{_≡_};
-ghost use Prim.Native.Nat.{_<_};
+ghost use Prim.Native.Nat.{_<_, _≤_};
 ghost use Rattle.records.specs.Dossier.{records};
 ghost use Rattle.station.specs.Parameters.{parameters};
 ghost use Rattle.acceptance.specs.Answer.{IsAccepted};
 ghost use Rattle.formulas.specs.Levels.{levels};
 ghost use Rattle.lookup.specs.Parts.{Indexed};
+ghost use Rattle.limits.specs.Shapes.{thresholdOf};
 ghost use Rattle.verdicts.specs.Verdict.{offerVerdict, priceVerdict, onOffer, onPrice};
 use crate::refusals::offer_refusal;
 use crate::refusals::price_refusal;
-use crate::test::biased;
-use crate::test::offer_test;
-use crate::test::single_test;
-use crate::test::threshold_of;
+use limits::Threshold;
 use records::Answer;
 use verdicts::Verdict;
 
-// What a TH says of a condition and level.
-pub struct Threshold {
-    pub percent: u16,
-    pub margin: u32,
-    pub floor: u32,
-}
-
-// A pair of an offer: from where to where it reaches, in 0.1 MW, and its price, held plus 2^31.
-pub struct Pair {
-    pub low: u64,
-    pub high: u64,
-    pub price: u64,
+// What the TH of a condition and level says.
+fn threshold_of(d: &[u8], index: &[u16], condition: usize, level: usize) -> Threshold
+    requires { ⌜ Indexed (now d) (now index) × (1 ≤ condition) × (condition ≤ 3) × (1 ≤ level) × (level ≤ 4) ⌝ }
+    ensures { λ r. ⌜ r ≡ thresholdOf (parameters (records (now (d .entry)))) condition level ⌝ }
+{
+    let th = lookup::th(d, index, condition, level);
+    let percent = fields::u16_at(th, 8);
+    let margin = fields::u32_at(th, 10);
+    let floor = fields::u32_at(th, 14);
+    Threshold {
+        percent,
+        margin,
+        floor,
+    }
 }
 
 // The verdict on an energy offer, of an accepted dossier. The levels are worked out once no refusal is drawn.
@@ -44,7 +43,7 @@ fn offer_verdict(d: &[u8], index: &[u16], hour: u32, condition: u8, offer: &[u8]
         Answer::Accepted => {
             let lv = reference::hour_levels(d, index, hour);
             let t = threshold_of(d, index, c, 1);
-            offer_test(lv, t, offer)
+            limits::offer_test(lv, t, offer)
         }
     }
 }
@@ -67,7 +66,7 @@ fn price_verdict(
         Answer::Accepted => {
             let lv = reference::hour_levels(d, index, hour);
             let t = threshold_of(d, index, c, level as usize);
-            single_test(lv, t, level, price)
+            limits::single_test(lv, t, level, price)
         }
     }
 }
@@ -90,6 +89,6 @@ pub fn price_test(d: &[u8], hour: u32, level: u8, condition: u8, price: i32) -> 
     let mut index = [0u16; 2350];
     match acceptance::judge(d, &mut index) {
         Answer::Refused { number, place } => Verdict::Refused { number, place },
-        Answer::Accepted => price_verdict(d, &index, hour, level, condition, biased(price)),
+        Answer::Accepted => price_verdict(d, &index, hour, level, condition, limits::biased(price)),
     }
 }

@@ -7,8 +7,6 @@ ghost use Rattle.station.specs.Parameters.{parameters};
 ghost use Rattle.lookup.specs.Parts.{Indexed};
 ghost use Rattle.verdicts.specs.Refusals.{malformed as malformedFrom, aboveCapacity, lengthRefusal, levelRefusal, conditionRefusal, offerRefusal, priceRefusal};
 ghost use Rattle.conduct.specs.Shapes.{pairTest};
-use crate::test::price_at;
-use crate::test::quantity_at;
 use records::Answer;
 
 // Whether a pair holds beside the quantity and the price before it.
@@ -31,8 +29,8 @@ fn malformed(offer: &[u8]) -> Answer
     let mut last: u64 = 0;
     let mut k = 0;
     while k < pairs {
-        let high = quantity_at(offer, k);
-        let price = price_at(offer, k);
+        let high = limits::quantity_at(offer, k);
+        let price = limits::price_at(offer, k);
         if !pair_holds(low, last, high, price) {
             return Answer::Refused {
                 number: 10,
@@ -55,7 +53,7 @@ fn above_capacity(d: &[u8], index: &[u16], offer: &[u8]) -> Answer
     let pairs = offer.len() / 6;
     let mut k = 0;
     while k < pairs {
-        if capacity < quantity_at(offer, k) {
+        if capacity < limits::quantity_at(offer, k) {
             return Answer::Refused {
                 number: 11,
                 place: 6 * k,

@@ -23,7 +23,7 @@ use Rattle.formulas.specs.Sums.{sumTo, sumOf, listTo, insert, falling, sumFirst
 use Rattle.verdicts.specs.Refusals.{levelRefusal, conditionRefusal, priceBefore, pairHolds, malformed, aboveCapacity, lengthRefusal, offerRefusal, priceRefusal}
 use Rattle.verdicts.specs.Test.{limit, fails, failsUnder, failing, quantity, priceAt, before, overlap, offerFrom, priceTest}
 use Rattle.verdicts.specs.Verdict.{settle, numbers, offerVerdict, priceVerdict, onOffer, onPrice}
-use Rattle.conduct.specs.Shapes.{failsAt, failingShown, offerShown, priceShown, failsIn, firstFailing, leastOf, singleLevel}
+use Rattle.limits.specs.Shapes.{failsAt, failingShown, offerShown, priceShown, failsIn, firstFailing, leastOf, singleLevel}
 use Rattle.report.specs.Parts.{packedReport, otherLines}
 use Rattle.report.specs.Report.{profileLine, energyLine, amountLine, levelLine, levelLines, reportText, report, shortFor, bufferWith, written, reportAnswer, bufferAfter, printed, prints}
 

@@ -6,7 +6,8 @@ use native.Mathlib.Omega.{arith}
 use lib.ListN.{length}
 use Rattle.verdicts.specs.Test.{before}
 use Rattle.verdicts.specs.Refusals.{priceBefore, malformed}
-use Rattle.conduct.proofs.Turns.{all-left, before-next, priceBefore-next, malformed-stop, malformed-next, malformed-end}
+use Rattle.limits.proofs.Turns.{all-left, before-next}
+use Rattle.conduct.proofs.Turns.{priceBefore-next, malformed-stop, malformed-next, malformed-end}
 use Rattle.conduct.proofs.refusals.malformed.Statement.{statement}
 use Rattle.conduct.proofs.refusals.malformed.Tie as tie
 

@@ -1,0 +1,234 @@
+-- The test over levels as code hands them over is the test over the levels, and goes by the arrays' places.
+use mathlib.Core.Path.{_≡_, refl, ap, sym, _∙_}
+use mathlib.Core.Bool.{Bool, true, false, cond, _&&_}
+use mathlib.Core.List.{List, [], _∷_, _++_, map}
+use Prim.Native.Nat.{ℕ, zero, suc, _+_, _-_, _≤_, _<_, min}
+use native.Mathlib.Decide.{ℕ-discrete}
+use native.Mathlib.Numerals.{add-one}
+use native.Mathlib.Omega.{arith}
+use lib.Arith.{lt-of-le-ne}
+use lib.Dec.{eqb}
+use lib.ListN.{getD}
+use borrow.Author.Tests.{eq-eqb, ne-eqb}
+use Rattle.station.specs.Parameters.{Parameters}
+use Rattle.acceptance.specs.Fit.{energy, holds}
+use Rattle.reference.specs.declared.HourLevels.{HourLevels}
+use Rattle.formulas.specs.Levels.{Line, amount}
+use Rattle.reference.specs.Packed.{Shown, row, shown, laminationsFrom, singleOf, unpacked}
+use Rattle.limits.specs.declared.Threshold.{Threshold}
+use Rattle.limits.specs.declared.Pair.{Pair}
+use Rattle.verdicts.specs.declared.Verdict.{Verdict}
+use Rattle.verdicts.specs.declared.Verdict.the-variants.{Passes, Fails}
+use Rattle.verdicts.specs.Test.{failsUnder, failing, quantity, priceAt, before, overlap, offerFrom, priceTest}
+use Rattle.limits.specs.Shapes.{thresholdOf, failsAt, failingShown, offerShown, priceShown, failsIn, firstFailing, leastOf, singleLevel}
+use Rattle.verdicts.proofs.Stays.{pass-stays}
+use Rattle.limits.proofs.Turns.{one-less}
+
+-- ---- without the formulas
+
+module _ (v : ℕ) (meets : ℕ → ℕ → Bool) (test : ℕ → Bool) (k : ℕ) where
+  failing-shown : (l : List Line) (rest : Verdict) → failingShown v meets test k (map shown l) rest ≡ failing v meets test k l rest
+  unfolding failing failingShown
+  failing-shown [] rest = refl
+  failing-shown (x ∷ l) rest =
+      ap (cond (eqb (x .level) v && meets (x .from) (x .to) && test (amount x)) (Fails k (x .lamination))) (failing-shown l rest)
+
+  failing-append : (a b : List Shown) (rest : Verdict) → failingShown v meets test k (a ++ b) rest ≡ failingShown v meets test k a (failingShown v meets test k b rest)
+  unfolding failingShown
+  failing-append [] b rest = refl
+  failing-append (x ∷ a) b rest =
+      ap (cond (eqb (x .level) v && meets (x .from) (x .to) && test (x .cents)) (Fails k (x .lamination))) (failing-append a b rest)
+
+  -- a level without laminations
+  failing-single : (t u x : ℕ) (rest : Verdict) → failingShown v meets test k (singleOf t u x) rest ≡ cond (holds t u && (eqb u v && meets 0 0 && test x)) (Fails k 0) rest
+  unfolding failingShown singleOf
+  failing-single t u x rest = go (holds t u)
+    where
+      go : (b : Bool) → failingShown v meets test k (cond b (row u 0 0 0 x ∷ []) []) rest ≡ cond (b && (eqb u v && meets 0 0 && test x)) (Fails k 0) rest
+      go true = refl
+      go false = refl
+
+  -- of another kind
+  single-other : (t u x : ℕ) (rest : Verdict) → eqb u v ≡ false → failingShown v meets test k (singleOf t u x) rest ≡ rest
+  single-other t u x rest e = failing-single t u x rest ∙ rw e (go (holds t u))
+    where
+      go : (b : Bool) → cond (b && false) (Fails k 0) rest ≡ rest
+      go true = refl
+      go false = refl
+
+  laminations-other : (r : HourLevels) (i n : ℕ) (rest : Verdict) → eqb energy v ≡ false → failingShown v meets test k (laminationsFrom r i n) rest ≡ rest
+  unfolding failingShown laminationsFrom
+  laminations-other r i zero rest e = refl
+  laminations-other r i (suc n) rest e = rw e (laminations-other r (suc i) n rest e)
+
+  failing-unpacked :
+      (r : HourLevels) (rest : Verdict)
+      → failingShown v meets test k (unpacked r) rest
+      ≡ failingShown v meets test k (laminationsFrom r 0 (r .count))
+      (failingShown v meets test k (singleOf (r .technology) 2 (r .start))
+      (failingShown v meets test k (singleOf (r .technology) 3 (r .noload))
+      (failingShown v meets test k (singleOf (r .technology) 4 (r .reserve)) rest)))
+  unfolding unpacked
+  failing-unpacked r rest =
+      failing-append (laminationsFrom r 0 (r .count) ++ singleOf (r .technology) 2 (r .start) ++ singleOf (r .technology) 3 (r .noload)) (singleOf (r .technology) 4 (r .reserve)) rest
+      ∙ failing-append (laminationsFrom r 0 (r .count) ++ singleOf (r .technology) 2 (r .start)) (singleOf (r .technology) 3 (r .noload)) _
+      ∙ failing-append (laminationsFrom r 0 (r .count)) (singleOf (r .technology) 2 (r .start)) _
+
+module _ (s : Parameters) (c : ℕ) (l : List Line) where
+  pub offer-shown : (o : List ℕ) (k n : ℕ) → offerShown (thresholdOf s c energy) (map shown l) o k n ≡ offerFrom s c l o k n
+  unfolding offerShown offerFrom failsUnder failsAt
+  offer-shown o k zero = refl
+  offer-shown o k (suc n) =
+      ap (failingShown energy (overlap (before o k) (quantity o k)) (failsUnder s c energy (priceAt o k)) (k + 1) (map shown l)) (offer-shown o (k + 1) n)
+      ∙ failing-shown energy (overlap (before o k) (quantity o k)) (failsUnder s c energy (priceAt o k)) (k + 1) l (offerFrom s c l o (k + 1) n)
+
+  pub price-shown : (v price : ℕ) → priceShown (thresholdOf s c v) v price (map shown l) ≡ priceTest s c v price l
+  unfolding priceShown priceTest failsUnder failsAt
+  price-shown v price = failing-shown v (λ a b. true) (failsUnder s c v price) 0 l Passes
+
+-- ---- by the arrays' places
+
+-- pair k's lamination i as a verdict, or else what follows; no lamination is 0
+abbrev named : ℕ → ℕ → Verdict → Verdict
+named k i rest = cond (eqb i 0) rest (Fails k i)
+
+module _ (t : Threshold) (p : Pair) (r : HourLevels) (k : ℕ) (rest : Verdict) where
+  laminations-first :
+      (i n : ℕ)
+      → failingShown energy (overlap (p .low) (p .high)) (failsAt t (p .price)) k (laminationsFrom r i n) rest
+      ≡ named k (firstFailing t p (r .from) (r .to) (r .cents) i n) rest
+  unfolding failingShown laminationsFrom firstFailing failsIn
+  laminations-first i zero = refl
+  laminations-first i (suc n) =
+      go (overlap (p .low) (p .high) (getD (r .from) i 0) (getD (r .to) i 0) && failsAt t (p .price) (getD (r .cents) i 0))
+      (firstFailing t p (r .from) (r .to) (r .cents) (suc i) n) (laminations-first (suc i) n)
+    where
+      go : (b : Bool) {x : Verdict} (j : ℕ) → x ≡ named k j rest → cond b (Fails k (suc i)) x ≡ named k (cond b (suc i) j) rest
+      go true j e = rw (ne-eqb (suc i) 0 (λ z. omega arith)) refl
+      go false j e = e
+
+  pair-first :
+      failingShown energy (overlap (p .low) (p .high)) (failsAt t (p .price)) k (unpacked r) rest
+      ≡ named k (firstFailing t p (r .from) (r .to) (r .cents) 0 (r .count)) rest
+  pair-first =
+      failing-unpacked 1 (overlap (p .low) (p .high)) (failsAt t (p .price)) k r rest
+      ∙ ap (failingShown 1 (overlap (p .low) (p .high)) (failsAt t (p .price)) k (laminationsFrom r 0 (r .count)))
+      (single-other 1 (overlap (p .low) (p .high)) (failsAt t (p .price)) k (r .technology) 2 (r .start) _ refl
+      ∙ single-other 1 (overlap (p .low) (p .high)) (failsAt t (p .price)) k (r .technology) 3 (r .noload) _ refl
+      ∙ single-other 1 (overlap (p .low) (p .high)) (failsAt t (p .price)) k (r .technology) 4 (r .reserve) _ refl)
+      ∙ laminations-first 0 (r .count)
+
+-- one lamination
+module _ (t : Threshold) (p : Pair) (from to x : ℕ) where
+  pub overlapped : overlap (p .low) (p .high) from to ≡ true → failsAt t (p .price) x ≡ failsIn t p from to x
+  unfolding failsIn
+  overlapped e = rw e refl
+
+  pub untouched : overlap (p .low) (p .high) from to ≡ false → false ≡ failsIn t p from to x
+  unfolding failsIn
+  untouched e = rw e refl
+
+-- the least level, one further
+pub least-next : (cents : List ℕ) (i : ℕ) → min (leastOf cents i) (getD cents i 0) ≡ leastOf cents (i + 1)
+unfolding leastOf
+least-next cents i = rw (add-one i) refl
+
+least-le : (cents : List ℕ) (n i : ℕ) → i < n → leastOf cents n ≤ getD cents i 0
+unfolding leastOf
+least-le cents zero i h = absurd (omega arith)
+least-le cents (suc n) i h = go (ℕ-discrete i n) (least-le cents n i)
+  where
+    go : Dec (i ≡ n) → (i < n → leastOf cents n ≤ getD cents i 0) → min (leastOf cents n) (getD cents n 0) ≤ getD cents i 0
+    go (yes e) f = rw e (omega arith)
+    go (no e) f = omega (arith, f (lt-of-le-ne (omega arith) e))
+
+-- a price that passes at the least level passes in all laminations
+module _ (t : Threshold) (p : Pair) (from to cents : List ℕ) (x : ℕ) (e : failsAt t (p .price) x ≡ false) where
+  none-from : (n i : ℕ) → ((j : ℕ) → i ≤ j → j < i + n → x ≤ getD cents j 0) → 0 ≡ firstFailing t p from to cents i n
+  unfolding firstFailing failsIn failsAt
+  none-from zero i h = refl
+  none-from (suc n) i h =
+      rw (pass-stays (t .percent) (t .margin) (t .floor) (p .price) (h i (omega arith) (omega arith)) e)
+      (go (overlap (p .low) (p .high) (getD from i 0) (getD to i 0)) (none-from n (suc i) (λ j a b. h j (omega arith) (omega arith))))
+    where
+      go : (b : Bool) {j : ℕ} → 0 ≡ j → 0 ≡ cond (b && false) (suc i) j
+      go true f = f
+      go false f = f
+
+  pub least-passes : (n : ℕ) → x ≡ leastOf cents n → 0 ≡ firstFailing t p from to cents 0 n
+  least-passes n z = none-from n 0 (λ j a b. rw z (least-le cents n j (omega arith)))
+
+-- one turn over the laminations, at place i of n
+module _ (t : Threshold) (p : Pair) (from to cents : List ℕ) (n i : ℕ) (h : i < n) where
+  pub lamination-stop : failsIn t p (getD from i 0) (getD to i 0) (getD cents i 0) ≡ true → i + 1 ≡ firstFailing t p from to cents i (n - i)
+  unfolding firstFailing
+  lamination-stop e = rw (one-less n i h, e) (add-one i)
+
+  pub lamination-next : failsIn t p (getD from i 0) (getD to i 0) (getD cents i 0) ≡ false → firstFailing t p from to cents (i + 1) (n - (i + 1)) ≡ firstFailing t p from to cents i (n - i)
+  unfolding firstFailing
+  lamination-next e = rw (one-less n i h, e, add-one i) refl
+
+pub lamination-end : (t : Threshold) (p : Pair) (from to cents : List ℕ) (n i : ℕ) → n ≤ i → 0 ≡ firstFailing t p from to cents i (n - i)
+unfolding firstFailing
+lamination-end t p from to cents n i h = let z : n - i ≡ 0 = omega arith in rw z refl
+
+-- one turn over the pairs, at pair k of n: what was read of it, and the lamination i that it fails in
+module _ (t : Threshold) (r : HourLevels) (o : List ℕ) (n k : ℕ) (p : Pair) (i : ℕ) (h : k < n) (l : p .low ≡ before o k) (q : p .high ≡ quantity o k) (e : p .price ≡ priceAt o k) (f : i ≡ firstFailing t p (r .from) (r .to) (r .cents) 0 (r .count)) where
+  turn : named (k + 1) i (offerShown t (unpacked r) o (k + 1) (n - (k + 1))) ≡ offerShown t (unpacked r) o k (n - k)
+  unfolding offerShown
+  turn =
+      rw (one-less n k h, ← l, ← q, ← e)
+      (ap (λ (j : ℕ). named (k + 1) j (offerShown t (unpacked r) o (k + 1) (n - (k + 1)))) f
+      ∙ sym (pair-first t p r (k + 1) (offerShown t (unpacked r) o (k + 1) (n - (k + 1)))))
+
+  pub pair-stop : (i ≡ 0 → ⊥) → Fails (k + 1) i ≡ offerShown t (unpacked r) o k (n - k)
+  pair-stop z = rw (ne-eqb i 0 z) at turn
+
+  pub pair-next : i ≡ 0 → offerShown t (unpacked r) o (k + 1) (n - (k + 1)) ≡ offerShown t (unpacked r) o k (n - k)
+  pair-next z = rw (eq-eqb i 0 z) at turn
+
+pub pair-end : (t : Threshold) (m : List Shown) (o : List ℕ) (n k : ℕ) → n ≤ k → Passes ≡ offerShown t m o k (n - k)
+unfolding offerShown
+pair-end t m o n k h = let z : n - k ≡ 0 = omega arith in rw z refl
+
+-- ---- a single price, against the level of a kind that the technology holds
+
+by-kind : (P : ℕ → Type 0) → P 2 → P 3 → P 4 → (v : ℕ) → 2 ≤ v → v ≤ 4 → P v
+by-kind P x y z zero a b = absurd (omega arith)
+by-kind P x y z (suc zero) a b = absurd (omega arith)
+by-kind P x y z (suc (suc zero)) a b = x
+by-kind P x y z (suc (suc (suc zero))) a b = y
+by-kind P x y z (suc (suc (suc (suc zero)))) a b = z
+by-kind P x y z (suc (suc (suc (suc (suc v))))) a b = absurd (omega arith)
+
+module _ (t : Threshold) (r : HourLevels) (price : ℕ) where
+  abbrev at : ℕ → List Shown → Verdict → Verdict
+  at v l rest = failingShown v (λ a b. true) (failsAt t price) 0 l rest
+
+  abbrev others : (v u x : ℕ) (rest : Verdict) → eqb u v ≡ false → at v (singleOf (r .technology) u x) rest ≡ rest
+  others v u x rest e = single-other v (λ a b. true) (failsAt t price) 0 (r .technology) u x rest e
+
+  own : (v x : ℕ) (rest : Verdict) → holds (r .technology) v ≡ true → at v (singleOf (r .technology) v x) rest ≡ cond (failsAt t price x) (Fails 0 0) rest
+  own v x rest h = failing-single v (λ a b. true) (failsAt t price) 0 (r .technology) v x rest ∙ rw (h, eq-eqb v v refl) refl
+
+  singles : (v : ℕ) → eqb energy v ≡ false → at v (unpacked r) Passes ≡ at v (singleOf (r .technology) 2 (r .start)) (at v (singleOf (r .technology) 3 (r .noload)) (at v (singleOf (r .technology) 4 (r .reserve)) Passes))
+  singles v e = failing-unpacked v (λ a b. true) (failsAt t price) 0 r Passes ∙ laminations-other v (λ a b. true) (failsAt t price) 0 r 0 (r .count) _ e
+
+  single-verdict : (v : ℕ) → 2 ≤ v → v ≤ 4 → holds (r .technology) v ≡ true → cond (failsAt t price (singleLevel r v)) (Fails 0 0) Passes ≡ priceShown t v price (unpacked r)
+  unfolding priceShown singleLevel
+  single-verdict =
+      by-kind (λ (v : ℕ). holds (r .technology) v ≡ true → cond (failsAt t price (singleLevel r v)) (Fails 0 0) Passes ≡ priceShown t v price (unpacked r))
+      (λ h. sym (singles 2 refl ∙ own 2 (r .start) _ h ∙ ap (cond (failsAt t price (r .start)) (Fails 0 0)) (others 2 3 (r .noload) _ refl ∙ others 2 4 (r .reserve) _ refl)))
+      (λ h. sym (singles 3 refl ∙ others 3 2 (r .start) _ refl ∙ own 3 (r .noload) _ h ∙ ap (cond (failsAt t price (r .noload)) (Fails 0 0)) (others 3 4 (r .reserve) _ refl)))
+      (λ h. sym (singles 4 refl ∙ others 4 2 (r .start) _ refl ∙ others 4 3 (r .noload) _ refl ∙ own 4 (r .reserve) _ h))
+
+  -- with what was read of the levels
+  module _ (v x : ℕ) (a : 2 ≤ v) (b : v ≤ 4) (h : holds (r .technology) v ≡ true) (e : x ≡ singleLevel r v) where
+    settled : (w : Bool) → failsAt t price x ≡ w → cond w (Fails 0 0) Passes ≡ priceShown t v price (unpacked r)
+    settled w f = ap (λ (z : Bool). cond z (Fails 0 0) Passes) (sym f ∙ ap (failsAt t price) e) ∙ single-verdict v a b h
+
+    pub single-fails : failsAt t price x ≡ true → Fails 0 0 ≡ priceShown t v price (unpacked r)
+    single-fails f = settled true f
+
+    pub single-passes : failsAt t price x ≡ false → Passes ≡ priceShown t v price (unpacked r)
+    single-passes f = settled false f

@@ -1,0 +1,61 @@
+use borrow.Author.Needs.{needs}
+use mathlib.Core.Path.{_≡_, refl, ap, _∙_}
+use Prim.Native.Nat.{ℕ, _-_, _≤_, min}
+use native.Mathlib.Nat.{le-antisymm}
+use native.Mathlib.Omega.{arith}
+use lib.ListN.{getD}
+use Rattle.limits.specs.Shapes.{leastOf}
+use Rattle.limits.proofs.Laminations.{least-next}
+use Rattle.limits.proofs.least_level.Statement.{statement}
+use Rattle.limits.proofs.least_level.Tie as tie
+
+abbrev Inv-loop : tie.InvT-loop
+Inv-loop cents count least₀ i₀ least i = (i ≤ count) × (least ≡ leastOf cents i)
+
+abbrev μ-loop : tie.MeasureT-loop
+μ-loop cents count least₀ i₀ least i = count - i
+
+loop-holds : tie.Need-loop-holds Inv-loop μ-loop
+unfolding leastOf
+loop-holds c = (omega arith, refl)
+
+mul-lesser : tie.Need-mul-lesser Inv-loop μ-loop
+mul-lesser c = search needs
+
+element-copy-out-lesser : tie.Need-element-copy-out-lesser Inv-loop μ-loop
+element-copy-out-lesser c = search needs
+
+lesser-requires : tie.Need-lesser-requires Inv-loop μ-loop
+lesser-requires c κs = search needs
+
+add-i : tie.Need-add-i Inv-loop μ-loop
+add-i c = search needs
+
+loop-less : tie.Need-loop-less Inv-loop μ-loop
+loop-less c = search needs
+
+loop-again : tie.Need-loop-again Inv-loop μ-loop
+loop-again c =
+    let i = c .before .before .before .loop in
+    let l = c .before .before .before .before .args .cents .now in
+    (omega arith, c .lesser .ensures ∙ ap (λ (x : ℕ). min x (getD l (i .i) 0)) (i .inv .1) ∙ least-next l (i .i))
+
+returns : tie.Need-returns Inv-loop μ-loop
+returns c =
+    let i = c .before .loop in
+    i .inv .1 ∙ ap (leastOf (c .before .before .args .cents .now)) (le-antisymm (i .inv .0) (c .loop-test .left))
+
+pub least-level-spec : {M : Type 1} → statement M
+least-level-spec =
+    tie.close
+    (tie.spec
+    Inv-loop
+    μ-loop
+    loop-holds
+    mul-lesser
+    element-copy-out-lesser
+    lesser-requires
+    add-i
+    loop-less
+    loop-again
+    returns)
