@@ -13,11 +13,11 @@ use Rattle.records.specs.Table.{table, rowOf, fieldOf}
 use Rattle.station.specs.Current.{matches, better, currentFrom, current, startFrom, startOf, present, twin, anyTwin, twins, readable, lookup, lookupBytes}
 use Rattle.station.specs.Parameters.{parameters, amounts}
 use Rattle.acceptance.specs.Answer.{unsupported, answer}
-use Rattle.acceptance.specs.Curve.{points, rise, curveHolds, curveFits, fuelHolds, fullHours, hoursHold, windowFits}
+use Rattle.acceptance.specs.Curve.{points, rise, curveHolds, curveFits, fuelHolds, fullHours, hoursHold, windowFits, placesHold, forecastFits}
 use Rattle.acceptance.specs.Fit.{levelsOf, holds, fieldFits, ruleFits, fits, isCurrent, unfit}
 use Rattle.acceptance.specs.Looked.{slotFits, slotsFit, slotsEmpty, thermalFit, otherFit, allFit, notFit, lastRise, legHolds}
 use Rattle.formulas.specs.Exact.{quotient, dropped, cents, plus, sumOver, greaterOf, exact}
-use Rattle.formulas.specs.Levels.{covers, profileOf, profile, adders, maintenance, startMaintenance, thermalEnergy, heatCost, startCost, noLoadCost, nuclearEnergy, totalEnergy, chargingSum, chargingCost, shortRunCost, highestSum, opportunityCost, storageEnergy, laminations, oneLamination, single, linesOf, lines, levels}
+use Rattle.formulas.specs.Levels.{covers, profileOf, profile, adders, maintenance, startMaintenance, thermalEnergy, heatCost, startCost, noLoadCost, nuclearEnergy, totalEnergy, chargingSum, chargingCost, shortRunCost, highestSum, opportunityCost, storageEnergy, forecastPlace, forecastPrice, hydroEnergy, laminations, oneLamination, single, linesOf, lines, levels}
 use Rattle.reference.specs.Packed.{laminationsFrom, singleOf, unpacked, energyLines, amountOf, padded, packed, levelsAnswer}
 use Rattle.formulas.specs.Sums.{sumTo, sumOf, listTo, insert, falling, sumFirst, sumHighest, fromTop}
 use Rattle.verdicts.specs.Refusals.{levelRefusal, conditionRefusal, priceBefore, pairHolds, malformed, aboveCapacity, lengthRefusal, offerRefusal, priceRefusal}
@@ -29,5 +29,5 @@ use Rattle.report.specs.Report.{profileLine, energyLine, amountLine, lev
 
 -- how many definitions there are to open
 unfoldable pub computed : ℕ
-unfolding joined allBelow allTo countTo every everyOf among between number bytesOnto bytesOf signed biased biasedOf decimalIn decimal tenths hundredths refusalLine orElse refuseIf drawn isAccepted answerNumbers numberOf placeOf firstOf restOf recordsIn records moneyAtIn moneyAt firstDrawn scan limitOf markIn mark issue widths size offsetIn offset keyIn keyWidth keyOf moneyIn moneyByte read value inRange agrees rangesHold fault shape shapes shapeOf keyField keyFits keyTest table rowOf fieldOf matches better currentFrom current startFrom startOf present twin anyTwin twins readable lookup lookupBytes parameters amounts unsupported answer points rise curveHolds curveFits fuelHolds fullHours hoursHold windowFits levelsOf holds fieldFits ruleFits fits isCurrent unfit slotFits slotsFit slotsEmpty thermalFit otherFit allFit notFit lastRise legHolds quotient dropped cents plus sumOver greaterOf exact covers profileOf profile adders maintenance startMaintenance thermalEnergy heatCost startCost noLoadCost nuclearEnergy totalEnergy chargingSum chargingCost shortRunCost highestSum opportunityCost storageEnergy laminations oneLamination single linesOf lines levels laminationsFrom singleOf unpacked energyLines amountOf padded packed levelsAnswer sumTo sumOf listTo insert falling sumFirst sumHighest fromTop levelRefusal conditionRefusal priceBefore pairHolds malformed aboveCapacity lengthRefusal offerRefusal priceRefusal failsAt failingShown offerShown priceShown failsIn firstFailing leastOf singleLevel limit fails failsUnder failing quantity priceAt before overlap offerFrom priceTest settle numbers offerVerdict priceVerdict onOffer onPrice packedReport otherLines profileLine energyLine amountLine levelLine levelLines reportText report shortFor bufferWith written reportAnswer bufferAfter printed prints
-computed = 199
+unfolding joined allBelow allTo countTo every everyOf among between number bytesOnto bytesOf signed biased biasedOf decimalIn decimal tenths hundredths refusalLine orElse refuseIf drawn isAccepted answerNumbers numberOf placeOf firstOf restOf recordsIn records moneyAtIn moneyAt firstDrawn scan limitOf markIn mark issue widths size offsetIn offset keyIn keyWidth keyOf moneyIn moneyByte read value inRange agrees rangesHold fault shape shapes shapeOf keyField keyFits keyTest table rowOf fieldOf matches better currentFrom current startFrom startOf present twin anyTwin twins readable lookup lookupBytes parameters amounts unsupported answer points rise curveHolds curveFits fuelHolds fullHours hoursHold windowFits placesHold forecastFits levelsOf holds fieldFits ruleFits fits isCurrent unfit slotFits slotsFit slotsEmpty thermalFit otherFit allFit notFit lastRise legHolds quotient dropped cents plus sumOver greaterOf exact covers profileOf profile adders maintenance startMaintenance thermalEnergy heatCost startCost noLoadCost nuclearEnergy totalEnergy chargingSum chargingCost shortRunCost highestSum opportunityCost storageEnergy forecastPlace forecastPrice hydroEnergy laminations oneLamination single linesOf lines levels laminationsFrom singleOf unpacked energyLines amountOf padded packed levelsAnswer sumTo sumOf listTo insert falling sumFirst sumHighest fromTop levelRefusal conditionRefusal priceBefore pairHolds malformed aboveCapacity lengthRefusal offerRefusal priceRefusal failsAt failingShown offerShown priceShown failsIn firstFailing leastOf singleLevel limit fails failsUnder failing quantity priceAt before overlap offerFrom priceTest settle numbers offerVerdict priceVerdict onOffer onPrice packedReport otherLines profileLine energyLine amountLine levelLine levelLines reportText report shortFor bufferWith written reportAnswer bufferAfter printed prints
+computed = 204

@@ -96,14 +96,6 @@ pub turn : (r : HourLevels) (i : ℕ) (e : List ℕ) {at q : ℕ} {b b′ : List
     → Wrote (laminationLines r (i + 1)) e (at + q) (take at b ++ (b′ ++ drop (length b - at) (drop at b)))
 turn r i e p q = rw (next-line r i) (then (laminationLines r i) (lineAt r i) e p q)
 
--- "Thermal has all four levels, nuclear level 1 only, storage 1 and 4"
-holds-are : (t : ℕ) → (holds t start ≡ eqb t thermal) × (holds t noLoad ≡ eqb t thermal) × (holds t reserve ≡ eqb t thermal || eqb t storage)
-unfolding holds levelsOf among
-holds-are t =
-    split (eqb t thermal) (λ e. rw e (refl, refl, refl))
-    (λ e. rw e (split (eqb t nuclear) (λ f. rw (f, eqb-true t nuclear f) (refl, refl, refl))
-    (λ f. rw f (split (eqb t storage) (λ g. rw g (refl, refl, refl)) (λ g. rw g (refl, refl, refl))))))
-
 -- the line of a level without laminations, given its word
 single-line : (v x : ℕ) (word : List ℕ) (t : ℕ) (held : Bool) → levelLine (row v 0 0 0 x) ≡ amountLine word x → holds t v ≡ held
     → levelLines (singleOf t v x) ≡ heldLine held word x
@@ -112,16 +104,16 @@ single-line v x word t true e h = rw h (append-nil _ ∙ e)
 single-line v x word t false e h = rw h
 
 -- the other lines by their words
-pub others-are : (t x y z : ℕ) → otherLines t x y z ≡ heldLine (eqb t thermal) startWord x ++ heldLine (eqb t thermal) noLoadWord y ++ heldLine (eqb t thermal || eqb t storage) reserveWord z
+pub others-are : (t x y z : ℕ) → otherLines t x y z ≡ heldLine (holds t start) startWord x ++ heldLine (holds t noLoad) noLoadWord y ++ heldLine (holds t reserve) reserveWord z
 unfolding otherLines levelLine
 others-are t x y z =
     rw (
-      single-line start x startWord t (eqb t thermal) refl (holds-are t .0),
-      single-line noLoad y noLoadWord t (eqb t thermal) refl (holds-are t .1),
-      single-line reserve z reserveWord t (eqb t thermal || eqb t storage) refl (holds-are t .2),
+      single-line start x startWord t (holds t start) refl refl,
+      single-line noLoad y noLoadWord t (holds t noLoad) refl refl,
+      single-line reserve z reserveWord t (holds t reserve) refl refl,
     )
 
-pub others-length : (t x y z : ℕ) → length (otherLines t x y z) ≡ length (heldLine (eqb t thermal) startWord x) + length (heldLine (eqb t thermal) noLoadWord y) + length (heldLine (eqb t thermal || eqb t storage) reserveWord z)
+pub others-length : (t x y z : ℕ) → length (otherLines t x y z) ≡ length (heldLine (holds t start) startWord x) + length (heldLine (holds t noLoad) noLoadWord y) + length (heldLine (holds t reserve) reserveWord z)
 others-length t x y z = rw (others-are t x y z) (simp length-append)
 
 single-count : (t v x : ℕ) → length (singleOf t v x) ≤ 1

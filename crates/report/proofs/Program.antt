@@ -15,7 +15,7 @@ use Rattle.records.specs.declared.Answer.{Answer}
 use Rattle.records.specs.declared.Answer.the-variants.{Accepted, Refused as Turned}
 use Rattle.records.specs.Answers.{orElse, refuseIf, isAccepted}
 use Rattle.records.proofs.Answers.{orElse-none}
-use Rattle.records.specs.Table.{thermal, nuclear, storage, HP}
+use Rattle.records.specs.Table.{thermal, nuclear, storage, hydro, HP}
 use Rattle.records.specs.Dossier.{records}
 use Rattle.index.proofs.Turn.{tail}
 use Rattle.station.specs.Current.{readable}
@@ -55,7 +55,7 @@ lines-count : (s : Parameters) (m : Amounts) (p : ℕ) → length (linesOf s m p
 unfolding linesOf points
 lines-count s m p =
     either 23 (eqb (technology s) thermal) _ _ (laminations-within s m p (points s - 1) _ (omega (arith, count-within 21 (s .has HP))) (omega arith))
-    (either 23 (eqb (technology s) nuclear) _ _ (omega arith) (either 23 (eqb (technology s) storage) _ _ (omega arith) (omega arith)))
+    (either 23 (eqb (technology s) nuclear) _ _ (omega arith) (either 23 (eqb (technology s) storage) _ _ (omega arith) (either 23 (eqb (technology s) hydro) _ _ (omega arith) (omega arith))))
 
 -- every report has at most 2,283 bytes
 pub report-fits : (d : List ℕ) (h : ℕ) → length (report d h) ≤ 2283

@@ -4,8 +4,10 @@ ghost use mathlib.Core.List.{_++_};
 ghost use Prim.Native.Nat.{_≤_};
 ghost use lib.ListN.{length};
 ghost use Rattle.text.specs.Text.{over, tenths, space};
+ghost use Rattle.acceptance.specs.Fit.{holds};
 ghost use Rattle.report.specs.Parts.{laminationLines, heldLine, otherLines, packedReport};
 ghost use Rattle.report.specs.Report.{profileLine, energyLine, amountLine, shortFor, bufferWith, written, report, reportAnswer, bufferAfter, prints};
+use acceptance::technology::level_held;
 use records::Answer;
 use reference::HourLevels;
 
@@ -115,48 +117,44 @@ fn amount_line_len(word: &[u8], cents: u64) -> usize
 }
 
 // A line that is there where the technology holds its level.
-fn held_line_len(held: bool, word: &[u8], cents: u64) -> usize
+fn held_line_len(technology: u8, level: u8, word: &[u8], cents: u64) -> usize
     requires { ⌜ length (now word) ≤ 8 ⌝ }
-    ensures { λ r. ⌜ r ≡ length (heldLine held (now (word .entry)) cents) ⌝ }
+    ensures { λ r. ⌜ r ≡ length (heldLine (holds technology level) (now (word .entry)) cents) ⌝ }
 {
-    if held {
+    if level_held(technology, level) {
         amount_line_len(word, cents)
     } else {
         0
     }
 }
 
-fn put_held_line(buf: &mut [u8], held: bool, word: &[u8], cents: u64) -> usize
-    requires { ⌜ length (heldLine held (now word) cents) ≤ length (now buf) ⌝ }
-    ensures { λ r. ⌜ (r ≡ length (heldLine held (now (word .entry)) cents)) × (now (buf .exit) ≡ over (heldLine held (now (word .entry)) cents) (now (buf .entry))) ⌝ }
+fn put_held_line(buf: &mut [u8], technology: u8, level: u8, word: &[u8], cents: u64) -> usize
+    requires { ⌜ length (heldLine (holds technology level) (now word) cents) ≤ length (now buf) ⌝ }
+    ensures { λ r. ⌜ (r ≡ length (heldLine (holds technology level) (now (word .entry)) cents)) × (now (buf .exit) ≡ over (heldLine (holds technology level) (now (word .entry)) cents) (now (buf .entry))) ⌝ }
 {
-    if held {
+    if level_held(technology, level) {
         put_amount_line(buf, word, cents)
     } else {
         0
     }
 }
 
-// The other lines: a thermal station has all three, a storage one reserve alone.
+// The other lines: start, no-load and reserve, as the technology holds them.
 fn others_len(technology: u8, start: u64, noload: u64, reserve: u64) -> usize
     ensures { λ r. ⌜ r ≡ length (otherLines technology start noload reserve) ⌝ }
 {
-    let thermal = technology == 1;
-    let storage = technology == 3;
-    let a = held_line_len(thermal, b"start ", start);
-    let b = held_line_len(thermal, b"no-load ", noload);
-    a + b + held_line_len(thermal | storage, b"reserve ", reserve)
+    let a = held_line_len(technology, 2, b"start ", start);
+    let b = held_line_len(technology, 3, b"no-load ", noload);
+    a + b + held_line_len(technology, 4, b"reserve ", reserve)
 }
 
 fn put_others(buf: &mut [u8], technology: u8, start: u64, noload: u64, reserve: u64) -> usize
     requires { ⌜ length (otherLines technology start noload reserve) ≤ length (now buf) ⌝ }
     ensures { λ r. ⌜ (r ≡ length (otherLines technology start noload reserve)) × (now (buf .exit) ≡ over (otherLines technology start noload reserve) (now (buf .entry))) ⌝ }
 {
-    let thermal = technology == 1;
-    let storage = technology == 3;
-    let a = put_held_line(buf, thermal, b"start ", start);
-    let b = a + put_held_line(&mut buf[a..], thermal, b"no-load ", noload);
-    b + put_held_line(&mut buf[b..], thermal | storage, b"reserve ", reserve)
+    let a = put_held_line(buf, technology, 2, b"start ", start);
+    let b = a + put_held_line(&mut buf[a..], technology, 3, b"no-load ", noload);
+    b + put_held_line(&mut buf[b..], technology, 4, b"reserve ", reserve)
 }
 
 fn report_len(lv: HourLevels) -> usize

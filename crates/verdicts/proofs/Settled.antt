@@ -48,7 +48,7 @@ among-range v (m ∷ l) e h = go (eqb v m) refl h (λ z. among-range v l (and-ri
 
 holds-range : (t v : ℕ) → holds t v ≡ true → (1 ≤ v) × (v ≤ 4)
 unfolding holds levelsOf everyOf between
-holds-range t v = go (eqb t 1) (eqb t 2) (eqb t 3)
+holds-range t v = go (eqb t 1) (eqb t 2) (eqb t 3 || eqb t 4)
   where
     go : (a b c : Bool) → among v (cond a (1 ∷ 2 ∷ 3 ∷ 4 ∷ []) (cond b (1 ∷ []) (cond c (1 ∷ 4 ∷ []) []))) ≡ true → (1 ≤ v) × (v ≤ 4)
     go true b c = among-range v (1 ∷ 2 ∷ 3 ∷ 4 ∷ []) refl

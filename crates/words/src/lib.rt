@@ -5,6 +5,8 @@ ghost use mathlib.Core.List.{_++_};
 ghost use Prim.Native.Nat.{_≤_};
 ghost use lib.ListN.{length, drop};
 ghost use Rattle.words.specs.Words.{heldBits, wordsTo, wordsOf, wordsAnswer, wordsAfter};
+use acceptance::technology::choose;
+use acceptance::technology::level_held;
 use records::Answer;
 use reference::HourLevels;
 
@@ -12,16 +14,11 @@ use reference::HourLevels;
 fn held_bits(technology: u8) -> u64
     ensures { λ r. ⌜ r ≡ heldBits technology ⌝ }
 {
-    if technology == 1 {
-        return 15;
-    }
-    if technology == 2 {
-        return 1;
-    }
-    if technology == 3 {
-        return 9;
-    }
-    0
+    let energy = choose(level_held(technology, 1), 1, 0);
+    let start = choose(level_held(technology, 2), 2, 0);
+    let noload = choose(level_held(technology, 3), 4, 0);
+    let reserve = choose(level_held(technology, 4), 8, 0);
+    (energy + start + noload + reserve) as u64
 }
 
 // The profile, the number of laminations, and from, to and level of each place.

@@ -1,13 +1,12 @@
 -- `report::put_others` meets its contract: start, no-load and reserve, each behind the last.
-use mathlib.Core.Bool.{_||_}
 use mathlib.Core.List.{List, _++_}
 use Prim.Native.Nat.{ℕ, _+_, _≤_}
 use native.Mathlib.Omega.{arith}
 use borrow.Author.Needs.{needs}
-use lib.Dec.{eqb}
 use lib.ListN.{length}
 use Rattle.text.specs.Text.{startWord, noLoadWord, reserveWord}
 use Rattle.text.proofs.Over.{then}
+use Rattle.acceptance.specs.Fit.{holds}
 use Rattle.report.specs.Parts.{heldLine}
 use Rattle.report.proofs.Levels.{others-are, others-length}
 use Rattle.report.proofs.put_others.Statement.{statement}
@@ -15,13 +14,13 @@ use Rattle.report.proofs.put_others.Tie as tie
 
 -- the three lines
 abbrev start-line : tie.Start → List ℕ
-start-line c = heldLine (eqb (c .args .technology) 1) startWord (c .args .start)
+start-line c = heldLine (holds (c .args .technology) 2) startWord (c .args .start)
 
 abbrev no-load-line : tie.Start → List ℕ
-no-load-line c = heldLine (eqb (c .args .technology) 1) noLoadWord (c .args .noload)
+no-load-line c = heldLine (holds (c .args .technology) 3) noLoadWord (c .args .noload)
 
 abbrev reserve-line : tie.Start → List ℕ
-reserve-line c = heldLine (eqb (c .args .technology) 1 || eqb (c .args .technology) 3) reserveWord (c .args .reserve)
+reserve-line c = heldLine (holds (c .args .technology) 4) reserveWord (c .args .reserve)
 
 room : (c : tie.Start) → length (start-line c) + length (no-load-line c) + length (reserve-line c) ≤ length (c .args .buf .now)
 room c = omega (arith, others-length (c .args .technology) (c .args .start) (c .args .noload) (c .args .reserve))

@@ -1,27 +1,72 @@
 -- `words::held_bits` meets its contract.
-use mathlib.Core.Path.{refl}
-use borrow.Author.Tests.{ne-eqb}
-use Rattle.lists.specs.Tests.{among}
-use Rattle.acceptance.specs.Fit.{levelsOf, holds}
+use mathlib.Core.Path.{_≡_, refl}
+use mathlib.Core.Bool.{Bool, cond}
+use Prim.Native.Nat.{ℕ, _≤_}
+use native.Mathlib.Omega.{arith}
+use borrow.Author.Needs.{needs}
+use Rattle.acceptance.proofs.Curve.{cond-le}
 use Rattle.words.specs.Words.{heldBits}
 use Rattle.words.proofs.held_bits.Statement.{statement}
 use Rattle.words.proofs.held_bits.Tie as tie
 
+level-held-requires : tie.Need-level-held-requires
+level-held-requires c κs = search needs
+
+choose-requires : tie.Need-choose-requires
+choose-requires c κs = search needs
+
+level-held-requires-2 : tie.Need-level-held-requires-2
+level-held-requires-2 c κs = search needs
+
+choose-requires-2 : tie.Need-choose-requires-2
+choose-requires-2 c κs = search needs
+
+level-held-requires-3 : tie.Need-level-held-requires-3
+level-held-requires-3 c κs = search needs
+
+choose-requires-3 : tie.Need-choose-requires-3
+choose-requires-3 c κs = search needs
+
+level-held-requires-4 : tie.Need-level-held-requires-4
+level-held-requires-4 c κs = search needs
+
+choose-requires-4 : tie.Need-choose-requires-4
+choose-requires-4 c κs = search needs
+
+-- a bit that is there or not
+at-most : {r : ℕ} (b : Bool) (x : ℕ) → x ≤ 8 → r ≡ cond b x 0 → r ≤ 8
+at-most b x h e = rw e (cond-le b x 0 8 h (omega arith))
+
+bits : (c : tie.After-choose4) → (c .before .before .before .before .before .before .choose .result ≤ 8) × (c .before .before .before .before .choose2 .result ≤ 8) × (c .before .before .choose3 .result ≤ 8) × (c .choose4 .result ≤ 8)
+bits c = (at-most (c .before .before .before .before .before .before .before .level-held .result) 1 (omega arith) (c .before .before .before .before .before .before .choose .ensures), at-most (c .before .before .before .before .before .level-held2 .result) 2 (omega arith) (c .before .before .before .before .choose2 .ensures), at-most (c .before .before .before .level-held3 .result) 4 (omega arith) (c .before .before .choose3 .ensures), at-most (c .before .level-held4 .result) 8 (omega arith) (c .choose4 .ensures))
+
+add-result : tie.Need-add-result
+add-result c = omega (arith, bits c)
+
+add-result-2 : tie.Need-add-result-2
+add-result-2 c = omega (arith, bits c)
+
+add-result-3 : tie.Need-add-result-3
+add-result-3 c = omega (arith, bits c)
+
 returns : tie.Need-returns
-unfolding heldBits holds levelsOf among
-returns c = rw (c .if1 .taken) refl
-
-returns-2 : tie.Need-returns-2
-unfolding heldBits holds levelsOf among
-returns-2 c = rw (c .if2 .taken) refl
-
-returns-3 : tie.Need-returns-3
-unfolding heldBits holds levelsOf among
-returns-3 c = rw (c .if3 .taken) refl
-
-returns-4 : tie.Need-returns-4
-unfolding heldBits holds levelsOf among
-returns-4 c = rw (ne-eqb _ 1 (c .before .before .if1 .left), ne-eqb _ 2 (c .before .if2 .left), ne-eqb _ 3 (c .if3 .left)) refl
+unfolding heldBits
+returns c =
+    rw (c .choose4 .ensures, c .before .level-held4 .ensures, c .before .before .choose3 .ensures, c .before .before .before .level-held3 .ensures, c .before .before .before .before .choose2 .ensures, c .before .before .before .before .before .level-held2 .ensures, c .before .before .before .before .before .before .choose .ensures, c .before .before .before .before .before .before .before .level-held .ensures) refl
 
 pub held-bits-spec : {M : Type 1} → statement M
-held-bits-spec = tie.close (tie.spec returns returns-2 returns-3 returns-4)
+held-bits-spec =
+    tie.close
+    (tie.spec
+    level-held-requires
+    choose-requires
+    level-held-requires-2
+    choose-requires-2
+    level-held-requires-3
+    choose-requires-3
+    level-held-requires-4
+    choose-requires-4
+    add-result
+    add-result-2
+    add-result-3
+    returns)
