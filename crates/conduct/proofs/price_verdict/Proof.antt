@@ -23,8 +23,8 @@ enum-known-number c = search needs
 enum-told : tie.Need-enum-told
 enum-told c = search needs
 
-hour-levels-requires : tie.Need-hour-levels-requires
-hour-levels-requires c κs = search needs
+tested-levels-requires : tie.Need-tested-levels-requires
+tested-levels-requires c κs = search needs
 
 no-refusal : (c : tie.After-enum-told) → priceRefusal (parameters (records (c .before .before .before .before .before .args .d .now))) (c .before .before .before .before .before .args .level) (c .before .before .before .before .before .args .condition) ≡ Accepted
 no-refusal c = sym (c .before .before .price-refusal .ensures) ∙ c .enum-told .given .1
@@ -37,7 +37,7 @@ threshold-of-requires c κs =
 single-test-requires : tie.Need-single-test-requires
 single-test-requires c κs =
     let q = price-accepted _ _ _ (no-refusal (c .before .before)) in
-    (ap (λ (t : ℕ). holds t (c .before .before .before .before .before .before .before .args .level)) (handed-technology (c .before .before .before .before .before .before .before .args .d .now) (c .before .before .before .before .before .before .before .args .hour) _ (c .before .hour-levels .ensures)) ∙ q .0, q .1, q .2, c .before .before .before .before .before .before .before .pre .2)
+    (ap (λ (t : ℕ). holds t (c .before .before .before .before .before .before .before .args .level)) (handed-technology (c .before .before .before .before .before .before .before .args .d .now) (c .before .before .before .before .before .before .before .args .hour) _ (c .before .tested-levels .ensures)) ∙ q .0, q .1, q .2, c .before .before .before .before .before .before .before .pre .2)
 
 returns : tie.Need-returns
 returns c =
@@ -47,8 +47,8 @@ returns c =
 returns-2 : tie.Need-returns-2
 returns-2 c =
     let a = c .before .before .before .before .before .before .before .before .args in
-    price-tested (parameters (records (a .d .now))) (a .level) (a .condition) (levels (a .d .now) (a .hour)) (a .price) (c .before .before .hour-levels .result) (c .before .threshold-of .result)
-    (no-refusal (c .before .before .before)) (handed-shown (a .d .now) (a .hour) _ (c .before .before .hour-levels .ensures)) (c .before .threshold-of .ensures) (c .single-test .ensures)
+    price-tested (parameters (records (a .d .now))) (a .level) (a .condition) (levels (a .d .now) (a .hour)) (a .price) (c .before .before .tested-levels .result) (c .before .threshold-of .result)
+    (no-refusal (c .before .before .before)) (handed-shown (a .d .now) (a .hour) _ (c .before .before .tested-levels .ensures)) (c .before .threshold-of .ensures) (c .single-test .ensures)
 
 pub price-verdict-spec : {M : Type 1} → statement M
 price-verdict-spec =
@@ -57,7 +57,7 @@ price-verdict-spec =
     price-refusal-requires
     enum-known-number
     enum-told
-    hour-levels-requires
+    tested-levels-requires
     threshold-of-requires
     single-test-requires
     returns
