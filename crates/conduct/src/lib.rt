@@ -41,7 +41,7 @@ fn offer_verdict(d: &[u8], index: &[u16], hour: u32, condition: u8, offer: &[u8]
     match offer_refusal(d, index, c, offer) {
         Answer::Refused { number, place } => Verdict::Refused { number, place },
         Answer::Accepted => {
-            let lv = reference::tested_levels(d, index, hour);
+            let lv = reference::hour_levels(d, index, hour);
             let t = threshold_of(d, index, c, 1);
             limits::offer_test(lv, t, offer)
         }

@@ -131,20 +131,6 @@ fn hydro_levels(d: &[u8], index: &[u16], p: usize) -> HourLevels
     )
 }
 
-// The levels of a profile at any but a hydroelectric station.
-fn other_levels(d: &[u8], index: &[u16], kind: u8, p: usize) -> HourLevels
-    requires { ⌜ IsAccepted (now d) × Indexed (now d) (now index) × (kind ≡ technology (parametersIn (now d))) × (kind ≤ 3) × (1 ≤ p) × (p ≤ 4) ⌝ }
-    ensures { λ r. ⌜ r ≡ packed (technology (parametersIn (now (d .entry)))) p (linesOf (parametersIn (now (d .entry))) (amountsIn (now (d .entry))) p) ⌝ }
-{
-    if kind == 1 {
-        return thermal_levels(d, index, p);
-    }
-    if kind == 2 {
-        return nuclear_levels(d, index, p);
-    }
-    storage_levels(d, index, p)
-}
-
 // The levels of an accepted dossier at an hour.
 pub fn hour_levels(d: &[u8], index: &[u16], hour: u32) -> HourLevels
     requires { ⌜ IsAccepted (now d) × Indexed (now d) (now index) ⌝ }
@@ -152,23 +138,27 @@ pub fn hour_levels(d: &[u8], index: &[u16], hour: u32) -> HourLevels
 {
     let p = profile::profile(d, index, hour);
     let technology = parameters::technology(d, index);
-    if technology == 4 {
-        return hydro_levels(d, index, p);
+    if technology == 1 {
+        return thermal_levels(d, index, p);
     }
-    other_levels(d, index, technology, p)
+    if technology == 2 {
+        return nuclear_levels(d, index, p);
+    }
+    if technology == 3 {
+        return storage_levels(d, index, p);
+    }
+    hydro_levels(d, index, p)
 }
 
-// The same, for the conduct test: `hydro_levels`, called from two functions, keeps a frame of its own, and its tables cost nothing where no river runs.
+// The same, for the test of a single price. `hydro_levels`, called from two functions, keeps a frame of its own, and its tables cost nothing where it isn't called.
 pub fn tested_levels(d: &[u8], index: &[u16], hour: u32) -> HourLevels
     requires { ⌜ IsAccepted (now d) × Indexed (now d) (now index) ⌝ }
     ensures { λ r. ⌜ r ≡ packed (technology (parametersIn (now (d .entry)))) (profile (parametersIn (now (d .entry))) hour) (levels (now (d .entry)) hour) ⌝ }
 {
-    let p = profile::profile(d, index, hour);
-    let technology = parameters::technology(d, index);
-    if technology == 4 {
-        return hydro_levels(d, index, p);
+    if parameters::technology(d, index) == 4 {
+        return hydro_levels(d, index, profile::profile(d, index, hour));
     }
-    other_levels(d, index, technology, p)
+    hour_levels(d, index, hour)
 }
 
 // What a refused call shows.

@@ -20,8 +20,8 @@ enum-known-number c = search needs
 enum-told : tie.Need-enum-told
 enum-told c = search needs
 
-tested-levels-requires : tie.Need-tested-levels-requires
-tested-levels-requires c κs = search needs
+hour-levels-requires : tie.Need-hour-levels-requires
+hour-levels-requires c κs = search needs
 
 no-refusal : (c : tie.After-enum-told) → offerRefusal (parameters (records (c .before .before .before .before .before .before .args .d .now))) (c .before .before .before .before .before .before .args .condition) (c .before .before .before .before .before .before .args .offer .now) ≡ Accepted
 no-refusal c = sym (c .before .before .offer-refusal .ensures) ∙ c .enum-told .given .1
@@ -34,7 +34,7 @@ threshold-of-requires c κs =
 offer-test-requires : tie.Need-offer-test-requires
 offer-test-requires c κs =
     let a = c .before .before .before .before .before .before .before .before .args in
-    (handed-count (a .d .now) (a .hour) _ (c .before .tested-levels .ensures), offer-accepted _ _ _ (no-refusal (c .before .before)) .2)
+    (handed-count (a .d .now) (a .hour) _ (c .before .hour-levels .ensures), offer-accepted _ _ _ (no-refusal (c .before .before)) .2)
 
 returns : tie.Need-returns
 returns c =
@@ -44,8 +44,8 @@ returns c =
 returns-2 : tie.Need-returns-2
 returns-2 c =
     let a = c .before .before .before .before .before .before .before .before .before .args in
-    offer-tested (parameters (records (a .d .now))) (a .condition) (levels (a .d .now) (a .hour)) (a .offer .now) (c .before .before .tested-levels .result) (c .before .threshold-of .result)
-    (no-refusal (c .before .before .before)) (handed-shown (a .d .now) (a .hour) _ (c .before .before .tested-levels .ensures)) (c .before .threshold-of .ensures) (c .offer-test .ensures)
+    offer-tested (parameters (records (a .d .now))) (a .condition) (levels (a .d .now) (a .hour)) (a .offer .now) (c .before .before .hour-levels .result) (c .before .threshold-of .result)
+    (no-refusal (c .before .before .before)) (handed-shown (a .d .now) (a .hour) _ (c .before .before .hour-levels .ensures)) (c .before .threshold-of .ensures) (c .offer-test .ensures)
 
 pub offer-verdict-spec : {M : Type 1} → statement M
 offer-verdict-spec =
@@ -54,7 +54,7 @@ offer-verdict-spec =
     offer-refusal-requires
     enum-known-number
     enum-told
-    tested-levels-requires
+    hour-levels-requires
     threshold-of-requires
     offer-test-requires
     returns

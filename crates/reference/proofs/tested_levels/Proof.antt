@@ -8,35 +8,34 @@ use Rattle.reference.proofs.Packed.{levels-packed}
 use Rattle.reference.proofs.tested_levels.Statement.{statement}
 use Rattle.reference.proofs.tested_levels.Tie as tie
 
-profile-requires : tie.Need-profile-requires
-profile-requires c κs = search needs
-
 technology-requires : tie.Need-technology-requires
 technology-requires c κs = search needs
 
+profile-requires : tie.Need-profile-requires
+profile-requires c κs = search needs
+
 hydro-levels-requires : tie.Need-hydro-levels-requires
 hydro-levels-requires c κs =
-    let p = c .before .before in
-    let a = p .before .before .before in
-    let e : technology (parameters (records (a .args .d .now))) ≡ 4 = sym (c .before .technology .ensures .0) ∙ c .if1 .taken in
-    (a .pre .1, p .profile .ensures .1, p .profile .ensures .2, e, places-fit (accepted-sound (a .args .d .now) (a .pre .0) .1) e)
+    let a = c .before .before .before .before .before in
+    let e : technology (parameters (records (a .args .d .now))) ≡ 4 = sym (c .before .before .technology .ensures .0) ∙ c .before .if1 .taken in
+    (a .pre .1, c .profile .ensures .1, c .profile .ensures .2, e, places-fit (accepted-sound (a .args .d .now) (a .pre .0) .1) e)
 
 returns : tie.Need-returns
-returns c = levels-packed _ _ (c .before .before .before .profile .ensures .0) (c .hydro-levels .ensures)
+returns c = levels-packed _ _ (c .before .profile .ensures .0) (c .hydro-levels .ensures)
 
-other-levels-requires : tie.Need-other-levels-requires
-other-levels-requires c κs = search needs
+hour-levels-requires : tie.Need-hour-levels-requires
+hour-levels-requires c κs = search needs
 
 returns-2 : tie.Need-returns-2
-returns-2 c = levels-packed _ _ (c .before .before .before .profile .ensures .0) (c .other-levels .ensures)
+returns-2 c = search needs
 
 pub tested-levels-spec : {M : Type 1} → statement M
 tested-levels-spec =
     tie.close
     (tie.spec
-    profile-requires
     technology-requires
+    profile-requires
     hydro-levels-requires
     returns
-    other-levels-requires
+    hour-levels-requires
     returns-2)
