@@ -1,0 +1,45 @@
+use mathlib.Core.Path.{sym, _∙_}
+use borrow.Author.Needs.{needs}
+use Rattle.lookup.proofs.Opening.{scan-twins}
+use Rattle.acceptance.proofs.Answers.{unreadable}
+use Rattle.acceptance.proofs.indexed_answer.Statement.{statement}
+use Rattle.acceptance.proofs.indexed_answer.Tie as tie
+
+beyond-reading-requires : tie.Need-beyond-reading-requires
+beyond-reading-requires c κs = let p = c .before .before .before .pre in (p .0, p .1, p .2 (c .if1 .taken))
+
+returns : tie.Need-returns
+returns c = search needs
+
+first-twin-requires : tie.Need-first-twin-requires
+first-twin-requires c κs = search needs
+
+enum-told : tie.Need-enum-told
+enum-told c = search needs
+
+beyond-reading-requires-2 : tie.Need-beyond-reading-requires-2
+beyond-reading-requires-2 c κs =
+    let p = c .before .before .before .before .before .before .pre in
+    (p .0, p .1, scan-twins _ (p .0) ∙ sym (c .before .before .first-twin .ensures) ∙ c .enum-told .given .1)
+
+enum-known-number : tie.Need-enum-known-number
+enum-known-number c = search needs
+
+returns-2 : tie.Need-returns-2
+returns-2 c = search needs
+
+returns-3 : tie.Need-returns-3
+returns-3 c = unreadable _ _ _ (sym (c .before .number .given .1) ∙ c .before .before .before .first-twin .ensures ∙ sym (scan-twins _ (c .before .before .before .before .before .before .before .pre .0)))
+
+pub indexed-answer-spec : {M : Type 1} → statement M
+indexed-answer-spec =
+    tie.close
+    (tie.spec
+    beyond-reading-requires
+    returns
+    first-twin-requires
+    enum-told
+    beyond-reading-requires-2
+    enum-known-number
+    returns-2
+    returns-3)
