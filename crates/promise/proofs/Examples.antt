@@ -1,15 +1,18 @@
--- The claims are not empty: R1 is accepted, there is a real raise of it, and its records in another order are a reordering.
-use mathlib.Core.Path.{refl}
+-- The claims are not empty: R1 and a station on a river are accepted, there is a real raise of each, and their records in another order are a reordering.
+use mathlib.Core.Path.{_≡_, refl}
 use mathlib.Core.List.{List, [], _∷_, _++_}
 use Prim.Native.Nat.{ℕ}
 use Rattle.lists.specs.Lists.{Permutation, empty, keep, swap, then, joined}
-use Rattle.records.specs.Table.{thermal}
+use Rattle.records.specs.Table.{thermal, hydro}
+use Rattle.records.specs.Answers.{numberOf}
 use Rattle.records.proofs.RaiseTest.{riseTest, recordTest, recordsTest, raiseTest, raise-by}
-use Rattle.acceptance.specs.Answer.{IsAccepted}
+use Rattle.acceptance.specs.Answer.{answer, IsAccepted}
+use Rattle.formulas.specs.Levels.{hydroEnergy}
 use Rattle.report.proofs.Computed.{computed}
 use Rattle.promise.specs.Demand.{Raise, RaiseKeeps}
 use Rattle.promise.specs.Order.{SameMeaning}
-use Rattle.promise.specs.Stations.{valuesIn, made, r1, r1Raised}
+use Rattle.promise.specs.Stations.{valuesIn, made, r1, r1Raised, forecast, riverWith, river}
+use Rattle.promise.specs.Marked.{inCents}
 use Rattle.promise.proofs.Demand.{demand3}
 use Rattle.promise.proofs.Order.{arrival-order}
 
@@ -43,3 +46,31 @@ turned-permuted (r ∷ l) = behind r l
 pub r1-turned : SameMeaning (joined r1) (joined (turned r1))
 unfolding valuesIn made computed
 r1-turned = arrival-order (joined r1) (joined (turned r1)) r1-accepted (record { order = turned r1; same = turned-permuted r1; made = refl })
+
+-- ---- a station on a river
+
+river-accepted : IsAccepted (joined river)
+unfolding valuesIn made forecast computed
+river-accepted = record { clean = refl }
+
+-- its highest price, 50.00, and the consumables
+river-level : inCents (λ s m. hydroEnergy s m 1) river ≡ 5025 ∷ []
+unfolding valuesIn made forecast computed
+river-level = refl
+
+-- with place 50 missing it draws 17
+river-short : numberOf (answer (joined (riverWith 0 49))) ≡ 17
+unfolding valuesIn made forecast computed
+river-short = refl
+
+-- every price a cent dearer
+river-raise : Raise (joined river) (joined (riverWith 1 50))
+unfolding valuesIn made forecast riseTest recordTest recordsTest raiseTest computed
+river-raise = raise-by hydro (joined river) (joined (riverWith 1 50)) refl
+
+pub river-keeps : RaiseKeeps (joined river) (joined (riverWith 1 50))
+river-keeps = demand3 .raise (joined river) (joined (riverWith 1 50)) river-accepted river-raise
+
+pub river-turned : SameMeaning (joined river) (joined (turned river))
+unfolding valuesIn made forecast computed
+river-turned = arrival-order (joined river) (joined (turned river)) river-accepted (record { order = turned river; same = turned-permuted river; made = refl })

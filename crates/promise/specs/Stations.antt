@@ -1,8 +1,8 @@
--- The stations and offers of the marked cases, in the paper's numbers and, through the table, as bytes.
+-- The stations and offers of the marked cases and a station on a river, in the papers' numbers and, through the table, as bytes.
 use mathlib.Core.List.{List, [], _∷_, _++_}
-use Prim.Native.Nat.{ℕ, _-_}
+use Prim.Native.Nat.{ℕ, zero, suc, _+_, _*_, _-_}
 use Rattle.fields.specs.Numbers.{bytesOf}
-use Rattle.records.specs.Table.{Field, rowOf, RS, HP, FU, AD, MM, HR, CH, TH}
+use Rattle.records.specs.Table.{Field, rowOf, RS, HP, FU, AD, MM, HR, CH, TH, FP}
 
 -- ---- bytes from numbers
 
@@ -90,3 +90,19 @@ m9 =
     ∷ made HR 7 (3 ∷ 30250 ∷ [])
     ∷ made HR 6 (3 ∷ 99999 ∷ [])
     ∷ [])
+
+-- ---- document 02, request 1: a station on a river, capacity 50.0, window 50, consumables 0.25
+
+-- places 1 to n of a forecast, 1.00 at place 1, 2.00 at place 2 and so on, each some cents dearer
+unfoldable pub forecast : ℕ → ℕ → List (List ℕ)
+forecast dearer zero = []
+forecast dearer (suc n) = made FP 1 (suc n ∷ (suc n * 100 + dearer) ∷ []) ∷ forecast dearer n
+
+-- with n places of it
+abbrev pub riverWith : ℕ → ℕ → List (List ℕ)
+riverWith dearer n =
+    made RS 1 (4 ∷ 500 ∷ 0 ∷ 0 ∷ 0 ∷ 0 ∷ 0 ∷ 0 ∷ 50 ∷ []) ∷ made FU 1 (1 ∷ 0 ∷ 0 ∷ []) ∷ made AD 1 (1 ∷ 3 ∷ 1 ∷ 250000 ∷ []) ∷ forecast dearer n
+
+-- all 50
+abbrev pub river : List (List ℕ)
+river = riverWith 0 50
