@@ -1,7 +1,6 @@
 -- Worked answers: what a hydroelectric station with a window of 50 and no forecast draws.
 use mathlib.Core.Path.{_≡_, refl}
 use mathlib.Core.Bool.{Bool, true, false, cond, _&&_}
-use Prim.Native.Nat.{ℕ}
 use lib.Dec.{eqb}
 use Rattle.lists.specs.Tests.{allTo}
 use Rattle.records.specs.declared.Answer.the-variants.{Refused}

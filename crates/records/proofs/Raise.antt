@@ -1,21 +1,21 @@
 -- Laws of a raise: the records stay in step, and whatever is no money stays.
-use mathlib.Core.Path.{_≡_, refl, ap, sym, subst, _∙_}
-use mathlib.Core.Bool.{Bool, true, false, cond, _||_, not}
+use mathlib.Core.Path.{_≡_, refl, ap, sym, _∙_}
+use mathlib.Core.Bool.{Bool, true, false, cond}
 use mathlib.Core.List.{List, [], _∷_}
 use Prim.Native.Nat.{ℕ, zero, suc, _+_, _-_, _≤_, _<_}
 use native.Mathlib.Decide.{decLt}
 use native.Mathlib.Nat.{add-sub-cancel-left, le-refl, le-trans}
 use native.Mathlib.Omega.{arith}
-use lib.Dec.{leb, ltb, eqb}
+use lib.Dec.{ltb, eqb}
 use lib.ListN.{length, getD, take, drop, length-take, length-drop, List·getD-eq-default}
 use lib.Seq.{getD-take, getD-drop}
-use borrow.Author.Tests.{lt-ltb, le-ltb, eqb-true}
+use borrow.Author.Tests.{lt-ltb, le-ltb}
 use Rattle.lists.specs.Lists.{Pairwise, none, more}
 use Rattle.lists.specs.Tests.{among, allBelow, between}
 use Rattle.lists.proofs.Tests.{split, and-left, and-right, and-both, below-at, at-below, between-low, in-between}
 use Rattle.fields.specs.Numbers.{biased}
 use Rattle.fields.proofs.Numbers.{number-same}
-use Rattle.records.specs.Table.{Field, table, rowOf, fieldOf, RQ}
+use Rattle.records.specs.Table.{Field, rowOf, fieldOf}
 use Rattle.records.specs.Record.{mark, size, offset, isMoney, keyWidth, moneyByte, issue, keyOf, read, value, inRange, agrees, rangesHold, fault}
 use Rattle.records.specs.Dossier.{firstOf, restOf, recordsIn, records, moneyAtIn, moneyAt}
 use Rattle.records.specs.Raise.{Rise, stays, rises, limitOf, Rising, Raised, RaiseFor}

@@ -1,6 +1,6 @@
 -- One record: its mark, issue, key and fields, where its money lies, and what it draws of 1, 2 and 3. All of it follows
 -- from the table.
-use mathlib.Core.Bool.{Bool, true, false, cond, _&&_, _||_, not}
+use mathlib.Core.Bool.{Bool, true, false, cond, _&&_, _||_}
 use mathlib.Core.List.{List, [], _∷_}
 use Prim.Native.Nat.{ℕ, zero, suc, _+_}
 use lib.Dec.{leb, ltb, eqb}

@@ -1,20 +1,17 @@
 -- The report as its lines one after the other.
 use mathlib.Core.Path.{_≡_, refl, sym, ap, _∙_}
-use mathlib.Core.Bool.{Bool, true, false, _||_}
+use mathlib.Core.Bool.{Bool, true, false}
 use mathlib.Core.List.{List, [], _∷_, _++_, append-assoc, append-nil}
 use Prim.Native.Nat.{ℕ, zero, suc, _+_, _*_, _-_, _≤_}
 use native.Mathlib.Numerals.{add-one}
 use native.Mathlib.Omega.{arith}
-use borrow.Author.Tests.{eqb-true}
 use lib.Dec.{eqb}
 use lib.ListN.{length, take, drop, getD, length-append}
-use Rattle.lists.specs.Tests.{among}
 use Rattle.lists.proofs.Tests.{split}
 use Rattle.text.specs.Text.{startWord, noLoadWord, reserveWord}
 use Rattle.text.proofs.Decimal.{decimal-within}
 use Rattle.text.proofs.Over.{Wrote, then}
-use Rattle.records.specs.Table.{thermal, nuclear, storage}
-use Rattle.acceptance.specs.Fit.{energy, start, noLoad, reserve, levelsOf, holds}
+use Rattle.acceptance.specs.Fit.{energy, start, noLoad, reserve, holds}
 use Rattle.reference.specs.declared.HourLevels.{HourLevels}
 use Rattle.reference.specs.Packed.{Shown, row, laminationAt, laminationsFrom, singleOf, unpacked}
 use Rattle.report.specs.Parts.{packedReport, laminationLines, heldLine, otherLines}
