@@ -23,7 +23,7 @@ pub enum Verdict {
 pub const PAIR: usize = 6;
 pub const MOST_PAIRS: usize = 20;
 
-/// The energy test: 1 to 9 and 13, then 14, 10 and 11.
+/// The energy test: 1 to 9, 13 and 17, then 14, 10 and 11.
 pub fn energy_test(dossier: &[u8], hour: u32, condition: u8, offer: &[u8]) -> Verdict {
     let verdict = accepted(dossier).and_then(|s| energy_verdict(&s, hour, condition, offer));
     verdict.unwrap_or_else(Verdict::Refused)
@@ -52,7 +52,7 @@ fn energy_verdict(
     Ok(Verdict::Passes)
 }
 
-/// The single-price test: 1 to 9 and 13, then 12 and 14.
+/// The single-price test: 1 to 9, 13 and 17, then 12 and 14.
 pub fn price_test(dossier: &[u8], hour: u32, level: u8, condition: u8, price: i32) -> Verdict {
     let verdict = accepted(dossier).and_then(|s| price_verdict(&s, hour, level, condition, price));
     verdict.unwrap_or_else(Verdict::Refused)
