@@ -3,9 +3,9 @@ use mathlib.Core.Path.{_≡_, refl, ap}
 use Prim.Native.Nat.{ℕ, zero, suc, _+_, _*_, _-_}
 use native.Mathlib.Omega.{arith}
 use Rattle.fields.specs.Numbers.{bias}
-use Rattle.station.specs.Parameters.{Parameters, Amounts, chargePrice, chargeEnergy}
-use Rattle.formulas.specs.Sums.{sumTo}
-use Rattle.formulas.specs.Levels.{totalEnergy, chargingSum}
+use Rattle.station.specs.Parameters.{Parameters, Amounts, window, chargePrice, chargeEnergy, placePrice}
+use Rattle.formulas.specs.Sums.{sumTo, listTo, fromTop}
+use Rattle.formulas.specs.Levels.{totalEnergy, chargingSum, forecastPlace, forecastPrice}
 
 -- a held price is the bias and what is paid, less what is received
 split-sum : (held paid received energy : ℕ → ℕ) → ((k : ℕ) → held k + received k ≡ bias + paid k) → (n : ℕ)
@@ -20,3 +20,8 @@ pub charging-signed : (s : Parameters) (m : Amounts) (paid received : ℕ → �
     → chargingSum s m ≡ sumTo 2016 (λ k. paid k * chargeEnergy s k) - sumTo 2016 (λ k. received k * chargeEnergy s k)
 unfolding chargingSum totalEnergy
 charging-signed s m paid received h = omega (arith, split-sum (chargePrice m) paid received (chargeEnergy s) h 2016)
+
+-- the forecast's price is the signed one, stopped at 0
+pub forecast-signed : (s : Parameters) (m : Amounts) (paid received : ℕ) → fromTop (forecastPlace s) (listTo (window s) (placePrice m)) + received ≡ bias + paid → forecastPrice s m ≡ paid - received
+unfolding forecastPrice
+forecast-signed s m paid received h = omega (arith, h)
