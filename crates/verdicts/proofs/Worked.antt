@@ -1,5 +1,5 @@
--- Worked values of the limit, in cents: document 01's M3 and M4, a limit by margin, and one without a margin; of an offer's length; and
--- of refusals where several could be drawn.
+-- Worked values of the limit, in cents: document 01's M3 and M4, a limit by margin, and one without a margin; of an offer's length; of
+-- refusals where several could be drawn; and of a pair over two laminations.
 use mathlib.Core.Path.{_≡_, refl}
 use mathlib.Core.Bool.{true, false, cond}
 use mathlib.Core.List.{List, [], _∷_, _++_}
@@ -13,7 +13,10 @@ use Rattle.records.specs.Record.{inRange}
 use Rattle.records.specs.Answers.{orElse, refuseIf}
 use Rattle.station.specs.Parameters.{Parameters}
 use Rattle.acceptance.specs.Fit.{energy, holds, levelsOf}
-use Rattle.verdicts.specs.Test.{noMargin, limit, fails, quantity, priceAt, before}
+use Rattle.formulas.specs.Exact.{whole, dropped, cents}
+use Rattle.formulas.specs.Levels.{Line, line}
+use Rattle.verdicts.specs.declared.Verdict.the-variants.{Fails}
+use Rattle.verdicts.specs.Test.{noMargin, limit, fails, failsUnder, failing, quantity, priceAt, before, overlap, offerFrom}
 use Rattle.verdicts.specs.Refusals.{levelRefusal, conditionRefusal, priceBefore, pairHolds, malformed, aboveCapacity, lengthRefusal, offerRefusal, priceRefusal}
 
 -- M3: by percent 63.45, by margin 67.30
@@ -89,3 +92,21 @@ twelve-first = refl
 fourteen : priceRefusal station 2 4 ≡ Refused 14 0
 unfolding station priceRefusal levelRefusal conditionRefusal holds levelsOf among between orElse refuseIf
 fourteen = refl
+
+-- ---- laminations of 10.00 to 50.0 MW and 20.00 to 100.0 MW; 50 percent, no margin, no floor: limits 15.00 and 30.00
+
+curve : List Line
+curve = line energy 1 0 500 (whole 10000000) ∷ line energy 2 500 1000 (whole 20000000) ∷ []
+
+halfAbove : Parameters
+halfAbove = record { has = λ k n. true; says = λ k n i. cond (eqb i 2) 50 (cond (eqb i 3) noMargin 0) }
+
+-- 100.0 MW at 16.00: within the limit at its top, above that of the lamination below
+below-its-top : offerFrom halfAbove 1 curve (3 ∷ 232 ∷ 0 ∷ 0 ∷ 6 ∷ 64 ∷ []) 0 1 ≡ Fails 1 1
+unfolding curve halfAbove offerFrom failing failsUnder fails limit overlap quantity priceAt before number biased dropped cents
+below-its-top = refl
+
+-- 50.0 MW at 15.00, then to 100.0 MW at 30.01: pair 2 only touches the first lamination
+second-lamination : offerFrom halfAbove 1 curve (1 ∷ 244 ∷ 0 ∷ 0 ∷ 5 ∷ 220 ∷ 3 ∷ 232 ∷ 0 ∷ 0 ∷ 11 ∷ 185 ∷ []) 0 2 ≡ Fails 2 2
+unfolding curve halfAbove offerFrom failing failsUnder fails limit overlap quantity priceAt before number biased dropped cents
+second-lamination = refl
