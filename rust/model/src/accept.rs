@@ -44,7 +44,7 @@ fn fits(station: &Station, record: &Record) -> bool {
     match &record.kind.mark {
         b"RS" => rs_fits(technology, record),
         b"HP" => thermal,
-        b"HR" | b"CH" => technology == Technology::Storage,
+        b"HR" | b"CH" | b"LC" => technology == Technology::Storage,
         b"FP" => technology == Technology::Hydro,
         b"FU" => technology.unpriced().iter().all(|f| record.get(*f) == 0),
         // Nuclear holds level 1 alone, so a held level is the 1 that cost 5 wants.

@@ -4,7 +4,7 @@ use crate::accept::{hours_of_charge, place_from_the_top, priced, rise};
 use crate::dossier::Record;
 use crate::levels::{profile_at, Lamination, Money};
 use crate::station::Station;
-use crate::table::{ad, ch, fp, fu, hp, hr, mm, rs, ENERGY, NO_LOAD, START};
+use crate::table::{ad, ch, fp, fu, hp, hr, lc, mm, rs, ENERGY, NO_LOAD, START};
 
 /// A station's costs in the profile of an hour.
 pub struct Costs<'s, 'a> {
@@ -128,16 +128,18 @@ fn total<M: Money>(terms: impl Iterator<Item = M>) -> M {
     terms.fold(M::quotient(0, 1), |sum, term| sum.plus(&term))
 }
 
-/// The mean price of the energy that was charged, over the current intervals.
+/// The mean price of the energy that was charged, over the current intervals; if none was, the
+/// last charging cost, and 0 without one.
 pub fn charging_cost<M: Money>(station: &Station) -> M {
     let intervals = || station.current.of_mark(b"CH");
+    let energy: u128 = intervals().map(|r| r.amount(ch::ENERGY)).sum();
+    if energy == 0 {
+        let last = station.current.get(b"LC", &[]);
+        return M::quotient(last.map_or(0, |r| r.amount(lc::COST)), 1);
+    }
     let paid: i128 = intervals()
         .map(|r| r.get(ch::PRICE) * r.get(ch::ENERGY))
         .sum();
-    let energy: u128 = intervals().map(|r| r.amount(ch::ENERGY)).sum();
-    if energy == 0 {
-        return M::quotient(0, 1);
-    }
     M::quotient(paid.max(0).unsigned_abs() * 10_000, energy)
 }
 

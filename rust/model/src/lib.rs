@@ -1,5 +1,5 @@
-//! Document 01 with request 1 of document 02 in plain Rust: a dossier's acceptance, its levels, the
-//! conduct test and the report.
+//! Document 01 with requests 1 and 2 of document 02 in plain Rust: a dossier's acceptance, its
+//! levels, the conduct test and the report.
 //!
 //! Bench is run against this crate. It is written to be read beside the papers, goes over a dossier
 //! once for each question, and shares no code with Bench. The functions named at the end of this

@@ -1,5 +1,5 @@
-//! "A constant table holds each mark's whole length and key bounds": the ten marks, their fields
-//! with their ranges, and what each technology holds and uses.
+//! "A constant table holds each mark's whole length and key bounds": the eleven marks, their
+//! fields with their ranges, and what each technology holds and uses.
 
 pub use crate::field::{Field, Role, HEAD};
 
@@ -102,6 +102,12 @@ pub mod fp {
     pub const ONE_IN: u128 = 50;
 }
 
+pub mod lc {
+    use super::Field;
+    /// The last charging cost that wasn't 0, in micro-dollars.
+    pub const COST: Field = Field::first(4, 0, 2_000_000_000).money();
+}
+
 /// One kind of record.
 #[derive(Debug)]
 pub struct Kind {
@@ -132,7 +138,7 @@ const fn kind(mark: &Mark, length: usize, key_width: usize, fields: &'static [Fi
     }
 }
 
-pub static TABLE: [Kind; 10] = [
+pub static TABLE: [Kind; 11] = [
     kind(
         b"RS",
         31,
@@ -178,6 +184,7 @@ pub static TABLE: [Kind; 10] = [
         &[th::CONDITION, th::LEVEL, th::PERCENT, th::MARGIN, th::FLOOR],
     ),
     kind(b"FP", 12, 2, &[fp::PLACE, fp::PRICE]),
+    kind(b"LC", 10, 0, &[lc::COST]),
 ];
 
 /// The kind that a mark names, if it names one.
