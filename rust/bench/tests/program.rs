@@ -87,8 +87,8 @@ fn short_empty_and_overlong_inputs() {
 }
 
 #[test]
-fn forecasts() {
-    for dossier in make::forecast::edges() {
+fn edges() {
+    for dossier in make::edges() {
         let input = [vec![0; 4], dossier].concat();
         check(&mut Random::new(0), &input).unwrap();
     }

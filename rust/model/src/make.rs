@@ -1,11 +1,12 @@
 //! A seeded maker of test dossiers, hours, offers and prices.
 //!
 //! Sound dossiers (`sound`) are accepted; damaged ones (`damage`) draw the number they aim at; some
-//! are written out (`written`, `forecast`). The offers and prices (`offers`) crowd around the floors
-//! and limits of the dossier they are put to.
+//! are written out (`written`, `forecast`, `idle`). The offers and prices (`offers`) crowd around the
+//! floors and limits of the dossier they are put to.
 
 pub mod damage;
 pub mod forecast;
+pub mod idle;
 mod incomplete;
 pub mod offers;
 pub mod sound;
@@ -14,7 +15,7 @@ mod unfit;
 pub mod written;
 
 use crate::random::Random;
-use crate::table::{as_in, kind_of, rq, rs, Field, Kind, Mark, Technology, HEAD, TABLE};
+use crate::table::{as_in, kind_of, rq, rs, Field, Kind, Mark, Technology, HEAD};
 
 /// A dossier in the making: its records in the order they lie.
 #[derive(Clone, Debug)]
@@ -131,6 +132,11 @@ fn reconcile(record: &mut [u8]) {
     }
 }
 
+/// Written dossiers at the edges of forecasts and of idle weeks.
+pub fn edges() -> Vec<Vec<u8>> {
+    [forecast::edges(), idle::edges()].concat()
+}
+
 /// A dossier of any sort: sound, damaged once or twice, or noise.
 pub fn dossier(random: &mut Random) -> Vec<u8> {
     match random.below(20) {
@@ -149,8 +155,8 @@ pub fn noise(random: &mut Random) -> Vec<u8> {
         0 => bytes.resize_with(random.spread(0, 300) as usize, || random.next() as u8),
         1 => {
             for _ in 0..random.below(8) {
-                let kind = random.pick(&[&TABLE[0], &TABLE[2], &TABLE[5], &TABLE[8], &TABLE[9]]);
-                let mut record = any_record(random, kind);
+                let mark = random.pick(&[b"RS", b"FU", b"RQ", b"TH", b"FP", b"LC"]);
+                let mut record = any_record(random, kind_of(mark).expect("a known mark"));
                 let at = random.between(2, record.len() as i128 - 1) as usize;
                 record[at] = random.next() as u8;
                 bytes.extend(record);

@@ -47,7 +47,7 @@ fn edges() {
     edges.extend([vec![0; 60_000], vec![0; 60_001]]);
     edges.extend([evenly_rising(21, 1_000), evenly_rising(22, 1_000)]);
     edges.extend((0..r1().len()).map(|length| r1()[..length].to_vec()));
-    edges.extend(forecast::edges());
+    edges.extend(make::edges());
     for dossier in edges {
         check(&mut Random::new(0), &dossier).unwrap();
     }

@@ -4,7 +4,7 @@ use crate::cases::{run, same, Check};
 use crate::refusal;
 use model::make::offers::{bytes, condition, level, offer, price, Target};
 use model::make::written::{r1, record};
-use model::make::{self, forecast, sound};
+use model::make::{self, sound};
 use model::raise::raised;
 use model::random::Random;
 use model::vectors::{read, Vector};
@@ -78,8 +78,8 @@ fn offers_and_prices() {
 }
 
 #[test]
-fn forecasts() {
-    for dossier in forecast::edges() {
+fn edges() {
+    for dossier in make::edges() {
         check(&mut Random::new(0), &dossier).unwrap();
     }
 }

@@ -5,10 +5,11 @@ use crate::refusal;
 use model::exact::{all_near, exact_levels};
 use model::levels::{Lamination, Levels};
 use model::make::written::evenly_rising;
-use model::make::{self, forecast, sound};
+use model::make::{self, sound};
 use model::raise::{none_lower, raised};
 use model::random::Random;
 use model::report::text;
+use model::table::Technology;
 use model::vectors::{read, Vector};
 use model::Refusal;
 
@@ -107,6 +108,13 @@ fn dossiers_of_every_sort() {
     run("levels", 20_000, make::dossier, check);
 }
 
+/// Weeks with charging and without, each with a last charging cost and without.
+#[test]
+fn batteries() {
+    let make = |random: &mut Random| sound::sound_of(random, Technology::Storage).bytes();
+    run("levels of batteries", 10_000, make, check);
+}
+
 #[test]
 fn sums_at_the_half_cent() {
     let check = |random: &mut Random, dossier: &[u8]| check_hour(random, dossier, 0);
@@ -138,7 +146,7 @@ fn edges() {
     for points in 2..=22 {
         check(&mut Random::new(0), &evenly_rising(points, 1_000)).unwrap();
     }
-    for dossier in forecast::edges() {
+    for dossier in make::edges() {
         check(&mut Random::new(0), &dossier).unwrap();
     }
     let mut random = Random::new(60_000);

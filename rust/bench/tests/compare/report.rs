@@ -3,7 +3,7 @@
 use crate::cases::{run, same, Check};
 use crate::refusal;
 use model::make::written::{r1, R1_LINES};
-use model::make::{self, forecast, sound};
+use model::make::{self, sound};
 use model::random::Random;
 use model::report::{refusal_line, text};
 use model::vectors::{read, Vector};
@@ -55,8 +55,8 @@ fn r1_byte_for_byte() {
 }
 
 #[test]
-fn forecasts() {
-    for dossier in forecast::edges() {
+fn edges() {
+    for dossier in make::edges() {
         check(&mut Random::new(0), &dossier).unwrap();
     }
 }

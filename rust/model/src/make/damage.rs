@@ -29,8 +29,9 @@ pub static DAMAGES: &[Damage] = damages! {
     4: twin;
     5: no_rs;
     6: used_field_zero, unused_field_set, point_not_thermal, hour_not_storage,
-       interval_not_storage, place_not_hydro, fuel_at_hydro, emission_not_thermal,
-       addition_not_held, prorated_not_nuclear, start_hours_not_thermal, threshold_not_held;
+       interval_not_storage, last_cost_not_storage, place_not_hydro, fuel_at_hydro,
+       emission_not_thermal, addition_not_held, prorated_not_nuclear,
+       start_hours_not_thermal, threshold_not_held;
     7: no_point, one_point, point_missing, output_not_rising, heat_falling, slope_falling,
        curve_not_to_capacity;
     8: no_first_fuel, no_named_fuel;

@@ -140,9 +140,12 @@ impl Maker<'_> {
             }
         }
         self.charging();
+        if self.random.one_in(2) {
+            self.add(b"LC", &[]);
+        }
     }
 
-    /// From no interval at all to a full week, the larger the rarer.
+    /// From no interval at all to a full week, the larger the rarer; some weeks with no energy.
     fn charging(&mut self) {
         let count = match self.random.below(1_500) {
             0 => 2_016,
@@ -150,7 +153,7 @@ impl Maker<'_> {
             31..=300 => 0,
             _ => self.random.between(1, 6),
         };
-        let idle = self.random.one_in(10);
+        let idle = self.random.one_in(5);
         let mut intervals = BTreeSet::new();
         while intervals.len() < count as usize {
             let interval = self.random.between(1, 2_016);

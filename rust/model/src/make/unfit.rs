@@ -43,6 +43,12 @@ pub fn interval_not_storage(random: &mut Random, draft: &mut Draft) -> Option<()
     Some(())
 }
 
+pub fn last_cost_not_storage(random: &mut Random, draft: &mut Draft) -> Option<()> {
+    not(draft, Technology::Storage)?;
+    put(random, draft, b"LC", &[]);
+    Some(())
+}
+
 pub fn place_not_hydro(random: &mut Random, draft: &mut Draft) -> Option<()> {
     not(draft, Technology::Hydro)?;
     let place = value(random, fp::PLACE);
