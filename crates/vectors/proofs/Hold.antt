@@ -3,117 +3,73 @@ use mathlib.Core.Path.{refl}
 use Rattle.report.proofs.Computed.{computed}
 use Rattle.vectors.specs.Cases as cases
 
-line2 : cases.Line2
+line7 : cases.Line7
 unfolding computed
-line2 = refl
+line7 = refl
 
-line5 : cases.Line5
+line9 : cases.Line9
 unfolding computed
-line5 = refl
+line9 = refl
 
-line12 : cases.Line12
+line10 : cases.Line10
 unfolding computed
-line12 = refl
+line10 = refl
 
-line15 : cases.Line15
+line20 : cases.Line20
 unfolding computed
-line15 = refl
+line20 = refl
 
-line16 : cases.Line16
+line21 : cases.Line21
 unfolding computed
-line16 = refl
+line21 = refl
+
+line22 : cases.Line22
+unfolding computed
+line22 = refl
 
 line23 : cases.Line23
 unfolding computed
 line23 = refl
 
-line25 : cases.Line25
-unfolding computed
-line25 = refl
-
-line26 : cases.Line26
-unfolding computed
-line26 = refl
-
-line27 : cases.Line27
-unfolding computed
-line27 = refl
-
 line28 : cases.Line28
 unfolding computed
 line28 = refl
-
-line29 : cases.Line29
-unfolding computed
-line29 = refl
-
-line30 : cases.Line30
-unfolding computed
-line30 = refl
 
 line31 : cases.Line31
 unfolding computed
 line31 = refl
 
-line32 : cases.Line32
+line34 : cases.Line34
 unfolding computed
-line32 = refl
+line34 = refl
 
-line38 : cases.Line38
+line51 : cases.Line51
 unfolding computed
-line38 = refl
-
-line39 : cases.Line39
-unfolding computed
-line39 = refl
-
-line40 : cases.Line40
-unfolding computed
-line40 = refl
-
-line41 : cases.Line41
-unfolding computed
-line41 = refl
-
-line44 : cases.Line44
-unfolding computed
-line44 = refl
-
-line45 : cases.Line45
-unfolding computed
-line45 = refl
-
-line46 : cases.Line46
-unfolding computed
-line46 = refl
-
-line47 : cases.Line47
-unfolding computed
-line47 = refl
-
-line52 : cases.Line52
-unfolding computed
-line52 = refl
+line51 = refl
 
 line55 : cases.Line55
 unfolding computed
 line55 = refl
 
-line56 : cases.Line56
-unfolding computed
-line56 = refl
-
 line57 : cases.Line57
 unfolding computed
 line57 = refl
+
+line58 : cases.Line58
+unfolding computed
+line58 = refl
 
 line59 : cases.Line59
 unfolding computed
 line59 = refl
 
-line62 : cases.Line62
+line63 : cases.Line63
 unfolding computed
-line62 = refl
+line63 = refl
+
+line64 : cases.Line64
+unfolding computed
+line64 = refl
 
 line65 : cases.Line65
 unfolding computed
@@ -123,61 +79,65 @@ line67 : cases.Line67
 unfolding computed
 line67 = refl
 
+line70 : cases.Line70
+unfolding computed
+line70 = refl
+
 line71 : cases.Line71
 unfolding computed
 line71 = refl
+
+line72 : cases.Line72
+unfolding computed
+line72 = refl
+
+line73 : cases.Line73
+unfolding computed
+line73 = refl
 
 line74 : cases.Line74
 unfolding computed
 line74 = refl
 
+line75 : cases.Line75
+unfolding computed
+line75 = refl
+
+line76 : cases.Line76
+unfolding computed
+line76 = refl
+
+line78 : cases.Line78
+unfolding computed
+line78 = refl
+
+line79 : cases.Line79
+unfolding computed
+line79 = refl
+
 line81 : cases.Line81
 unfolding computed
 line81 = refl
 
-line84 : cases.Line84
+line90 : cases.Line90
 unfolding computed
-line84 = refl
+line90 = refl
 
-line86 : cases.Line86
+line94 : cases.Line94
 unfolding computed
-line86 = refl
-
-line87 : cases.Line87
-unfolding computed
-line87 = refl
-
-line88 : cases.Line88
-unfolding computed
-line88 = refl
-
-line96 : cases.Line96
-unfolding computed
-line96 = refl
-
-line97 : cases.Line97
-unfolding computed
-line97 = refl
+line94 = refl
 
 line98 : cases.Line98
 unfolding computed
 line98 = refl
 
-line99 : cases.Line99
+line104 : cases.Line104
 unfolding computed
-line99 = refl
+line104 = refl
 
-line100 : cases.Line100
+line105 : cases.Line105
 unfolding computed
-line100 = refl
-
-line101 : cases.Line101
-unfolding computed
-line101 = refl
-
-line102 : cases.Line102
-unfolding computed
-line102 = refl
+line105 = refl
 
 line106 : cases.Line106
 unfolding computed
@@ -195,85 +155,77 @@ line109 : cases.Line109
 unfolding computed
 line109 = refl
 
+line112 : cases.Line112
+unfolding computed
+line112 = refl
+
 line113 : cases.Line113
 unfolding computed
 line113 = refl
 
-line114 : cases.Line114
+line119 : cases.Line119
 unfolding computed
-line114 = refl
-
-line115 : cases.Line115
-unfolding computed
-line115 = refl
-
-line122 : cases.Line122
-unfolding computed
-line122 = refl
+line119 = refl
 
 line123 : cases.Line123
 unfolding computed
 line123 = refl
 
-line124 : cases.Line124
+line126 : cases.Line126
 unfolding computed
-line124 = refl
+line126 = refl
 
-line125 : cases.Line125
+line128 : cases.Line128
 unfolding computed
-line125 = refl
+line128 = refl
 
 line129 : cases.Line129
 unfolding computed
 line129 = refl
 
-line130 : cases.Line130
-unfolding computed
-line130 = refl
-
 line131 : cases.Line131
 unfolding computed
 line131 = refl
 
-line132 : cases.Line132
+line138 : cases.Line138
 unfolding computed
-line132 = refl
+line138 = refl
 
-line136 : cases.Line136
+line141 : cases.Line141
 unfolding computed
-line136 = refl
+line141 = refl
 
-line139 : cases.Line139
+line142 : cases.Line142
 unfolding computed
-line139 = refl
-
-line143 : cases.Line143
-unfolding computed
-line143 = refl
-
-line148 : cases.Line148
-unfolding computed
-line148 = refl
+line142 = refl
 
 line149 : cases.Line149
 unfolding computed
 line149 = refl
 
-line150 : cases.Line150
+line153 : cases.Line153
 unfolding computed
-line150 = refl
+line153 = refl
 
-line151 : cases.Line151
+line157 : cases.Line157
 unfolding computed
-line151 = refl
+line157 = refl
 
-line158 : cases.Line158
+line160 : cases.Line160
 unfolding computed
-line158 = refl
+line160 = refl
 
-line169 : cases.Line169
+line161 : cases.Line161
 unfolding computed
-line169 = refl
+line161 = refl
+
+line162 : cases.Line162
+unfolding computed
+line162 = refl
+
+line163 : cases.Line163
+unfolding computed
+line163 = refl
 
 line170 : cases.Line170
 unfolding computed
@@ -287,109 +239,85 @@ line172 : cases.Line172
 unfolding computed
 line172 = refl
 
-line174 : cases.Line174
+line173 : cases.Line173
 unfolding computed
-line174 = refl
-
-line175 : cases.Line175
-unfolding computed
-line175 = refl
-
-line178 : cases.Line178
-unfolding computed
-line178 = refl
-
-line180 : cases.Line180
-unfolding computed
-line180 = refl
+line173 = refl
 
 line181 : cases.Line181
 unfolding computed
 line181 = refl
 
-line182 : cases.Line182
+line185 : cases.Line185
 unfolding computed
-line182 = refl
+line185 = refl
 
 line190 : cases.Line190
 unfolding computed
 line190 = refl
 
+line192 : cases.Line192
+unfolding computed
+line192 = refl
+
 line193 : cases.Line193
 unfolding computed
 line193 = refl
 
-line204 : cases.Line204
+line194 : cases.Line194
 unfolding computed
-line204 = refl
+line194 = refl
 
-line205 : cases.Line205
+line201 : cases.Line201
 unfolding computed
-line205 = refl
+line201 = refl
 
-line210 : cases.Line210
+line207 : cases.Line207
 unfolding computed
-line210 = refl
+line207 = refl
 
-line212 : cases.Line212
+line208 : cases.Line208
 unfolding computed
-line212 = refl
+line208 = refl
 
-line213 : cases.Line213
+line209 : cases.Line209
 unfolding computed
-line213 = refl
+line209 = refl
 
-line217 : cases.Line217
+line211 : cases.Line211
 unfolding computed
-line217 = refl
+line211 = refl
 
-line218 : cases.Line218
+line214 : cases.Line214
 unfolding computed
-line218 = refl
+line214 = refl
 
-line219 : cases.Line219
+line215 : cases.Line215
 unfolding computed
-line219 = refl
+line215 = refl
 
-line223 : cases.Line223
+line216 : cases.Line216
 unfolding computed
-line223 = refl
+line216 = refl
 
-line225 : cases.Line225
+line230 : cases.Line230
 unfolding computed
-line225 = refl
+line230 = refl
 
-line227 : cases.Line227
+line234 : cases.Line234
 unfolding computed
-line227 = refl
-
-line232 : cases.Line232
-unfolding computed
-line232 = refl
-
-line233 : cases.Line233
-unfolding computed
-line233 = refl
-
-line236 : cases.Line236
-unfolding computed
-line236 = refl
-
-line239 : cases.Line239
-unfolding computed
-line239 = refl
-
-line240 : cases.Line240
-unfolding computed
-line240 = refl
+line234 = refl
 
 line241 : cases.Line241
 unfolding computed
 line241 = refl
 
-line246 : cases.Line246
+line242 : cases.Line242
 unfolding computed
-line246 = refl
+line242 = refl
+
+line245 : cases.Line245
+unfolding computed
+line245 = refl
 
 line248 : cases.Line248
 unfolding computed
@@ -403,153 +331,101 @@ line250 : cases.Line250
 unfolding computed
 line250 = refl
 
+line252 : cases.Line252
+unfolding computed
+line252 = refl
+
 line255 : cases.Line255
 unfolding computed
 line255 = refl
+
+line256 : cases.Line256
+unfolding computed
+line256 = refl
 
 line257 : cases.Line257
 unfolding computed
 line257 = refl
 
-line258 : cases.Line258
+line272 : cases.Line272
 unfolding computed
-line258 = refl
-
-line259 : cases.Line259
-unfolding computed
-line259 = refl
-
-line263 : cases.Line263
-unfolding computed
-line263 = refl
-
-line264 : cases.Line264
-unfolding computed
-line264 = refl
-
-line267 : cases.Line267
-unfolding computed
-line267 = refl
-
-line268 : cases.Line268
-unfolding computed
-line268 = refl
-
-line269 : cases.Line269
-unfolding computed
-line269 = refl
-
-line270 : cases.Line270
-unfolding computed
-line270 = refl
-
-line271 : cases.Line271
-unfolding computed
-line271 = refl
+line272 = refl
 
 line275 : cases.Line275
 unfolding computed
 line275 = refl
 
-line279 : cases.Line279
+line276 : cases.Line276
 unfolding computed
-line279 = refl
+line276 = refl
 
-line280 : cases.Line280
+line277 : cases.Line277
 unfolding computed
-line280 = refl
+line277 = refl
 
-line288 : cases.Line288
+line281 : cases.Line281
 unfolding computed
-line288 = refl
+line281 = refl
 
-line289 : cases.Line289
+line304 : cases.Line304
 unfolding computed
-line289 = refl
+line304 = refl
 
-line290 : cases.Line290
+line308 : cases.Line308
 unfolding computed
-line290 = refl
+line308 = refl
 
-line291 : cases.Line291
+line319 : cases.Line319
 unfolding computed
-line291 = refl
+line319 = refl
 
-line294 : cases.Line294
+line323 : cases.Line323
 unfolding computed
-line294 = refl
+line323 = refl
 
-line295 : cases.Line295
+line324 : cases.Line324
 unfolding computed
-line295 = refl
+line324 = refl
 
-line296 : cases.Line296
+line330 : cases.Line330
 unfolding computed
-line296 = refl
+line330 = refl
 
-line297 : cases.Line297
+line333 : cases.Line333
 unfolding computed
-line297 = refl
+line333 = refl
 
-line302 : cases.Line302
+line338 : cases.Line338
 unfolding computed
-line302 = refl
+line338 = refl
 
-line306 : cases.Line306
+line339 : cases.Line339
 unfolding computed
-line306 = refl
+line339 = refl
 
-line307 : cases.Line307
+line340 : cases.Line340
 unfolding computed
-line307 = refl
+line340 = refl
 
-line310 : cases.Line310
+line341 : cases.Line341
 unfolding computed
-line310 = refl
+line341 = refl
 
-line313 : cases.Line313
+line350 : cases.Line350
 unfolding computed
-line313 = refl
+line350 = refl
 
-line314 : cases.Line314
+line351 : cases.Line351
 unfolding computed
-line314 = refl
+line351 = refl
 
-line315 : cases.Line315
+line352 : cases.Line352
 unfolding computed
-line315 = refl
+line352 = refl
 
-line326 : cases.Line326
+line356 : cases.Line356
 unfolding computed
-line326 = refl
-
-line328 : cases.Line328
-unfolding computed
-line328 = refl
-
-line329 : cases.Line329
-unfolding computed
-line329 = refl
-
-line344 : cases.Line344
-unfolding computed
-line344 = refl
-
-line346 : cases.Line346
-unfolding computed
-line346 = refl
-
-line347 : cases.Line347
-unfolding computed
-line347 = refl
-
-line348 : cases.Line348
-unfolding computed
-line348 = refl
-
-line349 : cases.Line349
-unfolding computed
-line349 = refl
+line356 = refl
 
 line357 : cases.Line357
 unfolding computed
@@ -559,45 +435,53 @@ line358 : cases.Line358
 unfolding computed
 line358 = refl
 
-line369 : cases.Line369
+line359 : cases.Line359
 unfolding computed
-line369 = refl
+line359 = refl
 
-line370 : cases.Line370
+line360 : cases.Line360
 unfolding computed
-line370 = refl
+line360 = refl
+
+line361 : cases.Line361
+unfolding computed
+line361 = refl
+
+line362 : cases.Line362
+unfolding computed
+line362 = refl
+
+line363 : cases.Line363
+unfolding computed
+line363 = refl
+
+line366 : cases.Line366
+unfolding computed
+line366 = refl
+
+line373 : cases.Line373
+unfolding computed
+line373 = refl
 
 line374 : cases.Line374
 unfolding computed
 line374 = refl
 
-line390 : cases.Line390
+line375 : cases.Line375
 unfolding computed
-line390 = refl
+line375 = refl
 
-line393 : cases.Line393
+line376 : cases.Line376
 unfolding computed
-line393 = refl
+line376 = refl
 
-line396 : cases.Line396
+line387 : cases.Line387
 unfolding computed
-line396 = refl
+line387 = refl
 
-line397 : cases.Line397
+line395 : cases.Line395
 unfolding computed
-line397 = refl
-
-line398 : cases.Line398
-unfolding computed
-line398 = refl
-
-line399 : cases.Line399
-unfolding computed
-line399 = refl
-
-line400 : cases.Line400
-unfolding computed
-line400 = refl
+line395 = refl
 
 line401 : cases.Line401
 unfolding computed
@@ -611,93 +495,89 @@ line403 : cases.Line403
 unfolding computed
 line403 = refl
 
-line404 : cases.Line404
+line405 : cases.Line405
 unfolding computed
-line404 = refl
+line405 = refl
 
-line408 : cases.Line408
+line414 : cases.Line414
 unfolding computed
-line408 = refl
+line414 = refl
 
 line419 : cases.Line419
 unfolding computed
 line419 = refl
 
-line428 : cases.Line428
+line434 : cases.Line434
 unfolding computed
-line428 = refl
-
-line429 : cases.Line429
-unfolding computed
-line429 = refl
+line434 = refl
 
 line438 : cases.Line438
 unfolding computed
 line438 = refl
 
-line439 : cases.Line439
-unfolding computed
-line439 = refl
-
 line440 : cases.Line440
 unfolding computed
 line440 = refl
 
-line444 : cases.Line444
+line450 : cases.Line450
 unfolding computed
-line444 = refl
+line450 = refl
 
 line451 : cases.Line451
 unfolding computed
 line451 = refl
 
+line453 : cases.Line453
+unfolding computed
+line453 = refl
+
 line454 : cases.Line454
 unfolding computed
 line454 = refl
+
+line455 : cases.Line455
+unfolding computed
+line455 = refl
+
+line456 : cases.Line456
+unfolding computed
+line456 = refl
 
 line457 : cases.Line457
 unfolding computed
 line457 = refl
 
-line458 : cases.Line458
+line473 : cases.Line473
 unfolding computed
-line458 = refl
+line473 = refl
 
-line461 : cases.Line461
+line474 : cases.Line474
 unfolding computed
-line461 = refl
-
-line464 : cases.Line464
-unfolding computed
-line464 = refl
+line474 = refl
 
 line475 : cases.Line475
 unfolding computed
 line475 = refl
 
+line476 : cases.Line476
+unfolding computed
+line476 = refl
+
 line477 : cases.Line477
 unfolding computed
 line477 = refl
 
-line478 : cases.Line478
+line486 : cases.Line486
 unfolding computed
-line478 = refl
-
-line479 : cases.Line479
-unfolding computed
-line479 = refl
-
-line480 : cases.Line480
-unfolding computed
-line480 = refl
-
-line482 : cases.Line482
-unfolding computed
-line482 = refl
+line486 = refl
 
 line487 : cases.Line487
 unfolding computed
 line487 = refl
+
+line491 : cases.Line491
+unfolding computed
+line491 = refl
 
 line494 : cases.Line494
 unfolding computed
@@ -711,9 +591,13 @@ line496 : cases.Line496
 unfolding computed
 line496 = refl
 
-line497 : cases.Line497
+line504 : cases.Line504
 unfolding computed
-line497 = refl
+line504 = refl
+
+line505 : cases.Line505
+unfolding computed
+line505 = refl
 
 line506 : cases.Line506
 unfolding computed
@@ -723,37 +607,97 @@ line507 : cases.Line507
 unfolding computed
 line507 = refl
 
-line508 : cases.Line508
+line511 : cases.Line511
 unfolding computed
-line508 = refl
+line511 = refl
 
-line523 : cases.Line523
+line520 : cases.Line520
 unfolding computed
-line523 = refl
+line520 = refl
 
-line539 : cases.Line539
+line521 : cases.Line521
 unfolding computed
-line539 = refl
+line521 = refl
 
-line548 : cases.Line548
+line522 : cases.Line522
 unfolding computed
-line548 = refl
+line522 = refl
+
+line528 : cases.Line528
+unfolding computed
+line528 = refl
+
+line530 : cases.Line530
+unfolding computed
+line530 = refl
+
+line531 : cases.Line531
+unfolding computed
+line531 = refl
+
+line532 : cases.Line532
+unfolding computed
+line532 = refl
+
+line534 : cases.Line534
+unfolding computed
+line534 = refl
+
+line537 : cases.Line537
+unfolding computed
+line537 = refl
+
+line543 : cases.Line543
+unfolding computed
+line543 = refl
+
+line544 : cases.Line544
+unfolding computed
+line544 = refl
+
+line545 : cases.Line545
+unfolding computed
+line545 = refl
+
+line547 : cases.Line547
+unfolding computed
+line547 = refl
+
+line549 : cases.Line549
+unfolding computed
+line549 = refl
+
+line550 : cases.Line550
+unfolding computed
+line550 = refl
 
 line551 : cases.Line551
 unfolding computed
 line551 = refl
 
-line560 : cases.Line560
+line552 : cases.Line552
 unfolding computed
-line560 = refl
+line552 = refl
+
+line553 : cases.Line553
+unfolding computed
+line553 = refl
+
+line554 : cases.Line554
+unfolding computed
+line554 = refl
+
+line556 : cases.Line556
+unfolding computed
+line556 = refl
+
+line563 : cases.Line563
+unfolding computed
+line563 = refl
 
 line564 : cases.Line564
 unfolding computed
 line564 = refl
-
-line566 : cases.Line566
-unfolding computed
-line566 = refl
 
 line576 : cases.Line576
 unfolding computed
@@ -763,29 +707,41 @@ line579 : cases.Line579
 unfolding computed
 line579 = refl
 
+line580 : cases.Line580
+unfolding computed
+line580 = refl
+
+line581 : cases.Line581
+unfolding computed
+line581 = refl
+
+line582 : cases.Line582
+unfolding computed
+line582 = refl
+
+line584 : cases.Line584
+unfolding computed
+line584 = refl
+
+line588 : cases.Line588
+unfolding computed
+line588 = refl
+
+line594 : cases.Line594
+unfolding computed
+line594 = refl
+
 line595 : cases.Line595
 unfolding computed
 line595 = refl
 
-line596 : cases.Line596
-unfolding computed
-line596 = refl
-
-line598 : cases.Line598
-unfolding computed
-line598 = refl
-
-line602 : cases.Line602
-unfolding computed
-line602 = refl
-
-line603 : cases.Line603
-unfolding computed
-line603 = refl
-
 line604 : cases.Line604
 unfolding computed
 line604 = refl
+
+line605 : cases.Line605
+unfolding computed
+line605 = refl
 
 line606 : cases.Line606
 unfolding computed
@@ -795,129 +751,141 @@ line607 : cases.Line607
 unfolding computed
 line607 = refl
 
+line608 : cases.Line608
+unfolding computed
+line608 = refl
+
+line609 : cases.Line609
+unfolding computed
+line609 = refl
+
 line610 : cases.Line610
 unfolding computed
 line610 = refl
 
-line613 : cases.Line613
+line611 : cases.Line611
 unfolding computed
-line613 = refl
+line611 = refl
 
 line616 : cases.Line616
 unfolding computed
 line616 = refl
 
-line619 : cases.Line619
-unfolding computed
-line619 = refl
-
 line621 : cases.Line621
 unfolding computed
 line621 = refl
+
+line625 : cases.Line625
+unfolding computed
+line625 = refl
 
 line626 : cases.Line626
 unfolding computed
 line626 = refl
 
-line638 : cases.Line638
+line630 : cases.Line630
 unfolding computed
-line638 = refl
+line630 = refl
+
+line632 : cases.Line632
+unfolding computed
+line632 = refl
+
+line636 : cases.Line636
+unfolding computed
+line636 = refl
 
 line639 : cases.Line639
 unfolding computed
 line639 = refl
 
-line640 : cases.Line640
+line641 : cases.Line641
 unfolding computed
-line640 = refl
+line641 = refl
 
-line644 : cases.Line644
+line650 : cases.Line650
 unfolding computed
-line644 = refl
+line650 = refl
 
-line648 : cases.Line648
+line656 : cases.Line656
 unfolding computed
-line648 = refl
-
-line654 : cases.Line654
-unfolding computed
-line654 = refl
-
-line655 : cases.Line655
-unfolding computed
-line655 = refl
-
-line657 : cases.Line657
-unfolding computed
-line657 = refl
-
-line658 : cases.Line658
-unfolding computed
-line658 = refl
-
-line659 : cases.Line659
-unfolding computed
-line659 = refl
+line656 = refl
 
 line660 : cases.Line660
 unfolding computed
 line660 = refl
 
+line661 : cases.Line661
+unfolding computed
+line661 = refl
+
 line662 : cases.Line662
 unfolding computed
 line662 = refl
 
-line668 : cases.Line668
+line671 : cases.Line671
 unfolding computed
-line668 = refl
+line671 = refl
 
-line669 : cases.Line669
+line676 : cases.Line676
 unfolding computed
-line669 = refl
+line676 = refl
 
-line672 : cases.Line672
+line678 : cases.Line678
 unfolding computed
-line672 = refl
-
-line673 : cases.Line673
-unfolding computed
-line673 = refl
-
-line674 : cases.Line674
-unfolding computed
-line674 = refl
-
-line675 : cases.Line675
-unfolding computed
-line675 = refl
-
-line682 : cases.Line682
-unfolding computed
-line682 = refl
-
-line683 : cases.Line683
-unfolding computed
-line683 = refl
+line678 = refl
 
 line689 : cases.Line689
 unfolding computed
 line689 = refl
 
+line690 : cases.Line690
+unfolding computed
+line690 = refl
+
 line693 : cases.Line693
 unfolding computed
 line693 = refl
+
+line694 : cases.Line694
+unfolding computed
+line694 = refl
+
+line695 : cases.Line695
+unfolding computed
+line695 = refl
+
+line696 : cases.Line696
+unfolding computed
+line696 = refl
 
 line697 : cases.Line697
 unfolding computed
 line697 = refl
 
-line706 : cases.Line706
+line698 : cases.Line698
 unfolding computed
-line706 = refl
+line698 = refl
 
-line707 : cases.Line707
+line699 : cases.Line699
 unfolding computed
-line707 = refl
+line699 = refl
+
+line700 : cases.Line700
+unfolding computed
+line700 = refl
+
+line702 : cases.Line702
+unfolding computed
+line702 = refl
+
+line704 : cases.Line704
+unfolding computed
+line704 = refl
+
+line705 : cases.Line705
+unfolding computed
+line705 = refl
 
 line708 : cases.Line708
 unfolding computed
@@ -927,17 +895,21 @@ line709 : cases.Line709
 unfolding computed
 line709 = refl
 
-line713 : cases.Line713
+line710 : cases.Line710
 unfolding computed
-line713 = refl
+line710 = refl
 
-line714 : cases.Line714
+line711 : cases.Line711
 unfolding computed
-line714 = refl
+line711 = refl
 
 line715 : cases.Line715
 unfolding computed
 line715 = refl
+
+line718 : cases.Line718
+unfolding computed
+line718 = refl
 
 line719 : cases.Line719
 unfolding computed
@@ -955,53 +927,73 @@ line722 : cases.Line722
 unfolding computed
 line722 = refl
 
-line723 : cases.Line723
+line728 : cases.Line728
 unfolding computed
-line723 = refl
+line728 = refl
 
-line724 : cases.Line724
+line729 : cases.Line729
 unfolding computed
-line724 = refl
+line729 = refl
 
 line730 : cases.Line730
 unfolding computed
 line730 = refl
 
-line734 : cases.Line734
+line732 : cases.Line732
 unfolding computed
-line734 = refl
+line732 = refl
 
-line738 : cases.Line738
+line742 : cases.Line742
 unfolding computed
-line738 = refl
+line742 = refl
 
-line741 : cases.Line741
+line743 : cases.Line743
 unfolding computed
-line741 = refl
+line743 = refl
 
-line751 : cases.Line751
+line744 : cases.Line744
 unfolding computed
-line751 = refl
+line744 = refl
 
-line752 : cases.Line752
+line745 : cases.Line745
 unfolding computed
-line752 = refl
+line745 = refl
 
-line758 : cases.Line758
+line746 : cases.Line746
 unfolding computed
-line758 = refl
+line746 = refl
 
-line759 : cases.Line759
+line747 : cases.Line747
 unfolding computed
-line759 = refl
+line747 = refl
 
-line760 : cases.Line760
+line748 : cases.Line748
 unfolding computed
-line760 = refl
+line748 = refl
 
-line761 : cases.Line761
+line750 : cases.Line750
 unfolding computed
-line761 = refl
+line750 = refl
+
+line762 : cases.Line762
+unfolding computed
+line762 = refl
+
+line763 : cases.Line763
+unfolding computed
+line763 = refl
+
+line764 : cases.Line764
+unfolding computed
+line764 = refl
+
+line765 : cases.Line765
+unfolding computed
+line765 = refl
+
+line767 : cases.Line767
+unfolding computed
+line767 = refl
 
 line768 : cases.Line768
 unfolding computed
@@ -1011,101 +1003,93 @@ line770 : cases.Line770
 unfolding computed
 line770 = refl
 
+line771 : cases.Line771
+unfolding computed
+line771 = refl
+
 line772 : cases.Line772
 unfolding computed
 line772 = refl
 
-line776 : cases.Line776
+line773 : cases.Line773
 unfolding computed
-line776 = refl
+line773 = refl
 
-line779 : cases.Line779
+line775 : cases.Line775
 unfolding computed
-line779 = refl
+line775 = refl
 
-line780 : cases.Line780
+line778 : cases.Line778
 unfolding computed
-line780 = refl
+line778 = refl
 
 line781 : cases.Line781
 unfolding computed
 line781 = refl
 
-line783 : cases.Line783
-unfolding computed
-line783 = refl
-
-line789 : cases.Line789
-unfolding computed
-line789 = refl
-
-line790 : cases.Line790
-unfolding computed
-line790 = refl
-
 line791 : cases.Line791
 unfolding computed
 line791 = refl
+
+line792 : cases.Line792
+unfolding computed
+line792 = refl
+
+line793 : cases.Line793
+unfolding computed
+line793 = refl
 
 line795 : cases.Line795
 unfolding computed
 line795 = refl
 
-line796 : cases.Line796
-unfolding computed
-line796 = refl
-
-line797 : cases.Line797
-unfolding computed
-line797 = refl
-
 line798 : cases.Line798
 unfolding computed
 line798 = refl
 
-line799 : cases.Line799
+line810 : cases.Line810
 unfolding computed
-line799 = refl
+line810 = refl
 
-line800 : cases.Line800
+line814 : cases.Line814
 unfolding computed
-line800 = refl
+line814 = refl
 
-line801 : cases.Line801
+line815 : cases.Line815
 unfolding computed
-line801 = refl
+line815 = refl
 
-line802 : cases.Line802
+line817 : cases.Line817
 unfolding computed
-line802 = refl
+line817 = refl
 
-line803 : cases.Line803
+line818 : cases.Line818
 unfolding computed
-line803 = refl
+line818 = refl
 
-line805 : cases.Line805
+line819 : cases.Line819
 unfolding computed
-line805 = refl
+line819 = refl
 
-line808 : cases.Line808
+line820 : cases.Line820
 unfolding computed
-line808 = refl
+line820 = refl
 
-line812 : cases.Line812
+line821 : cases.Line821
 unfolding computed
-line812 = refl
+line821 = refl
 
-line816 : cases.Line816
+line825 : cases.Line825
 unfolding computed
-line816 = refl
-
-line823 : cases.Line823
-unfolding computed
-line823 = refl
+line825 = refl
 
 line826 : cases.Line826
 unfolding computed
 line826 = refl
+
+line827 : cases.Line827
+unfolding computed
+line827 = refl
 
 line828 : cases.Line828
 unfolding computed
@@ -1115,97 +1099,145 @@ line829 : cases.Line829
 unfolding computed
 line829 = refl
 
-line830 : cases.Line830
+line836 : cases.Line836
 unfolding computed
-line830 = refl
+line836 = refl
 
-line831 : cases.Line831
+line846 : cases.Line846
 unfolding computed
-line831 = refl
+line846 = refl
 
-line832 : cases.Line832
+line847 : cases.Line847
 unfolding computed
-line832 = refl
-
-line838 : cases.Line838
-unfolding computed
-line838 = refl
-
-line841 : cases.Line841
-unfolding computed
-line841 = refl
+line847 = refl
 
 line848 : cases.Line848
 unfolding computed
 line848 = refl
 
-line849 : cases.Line849
+line851 : cases.Line851
 unfolding computed
-line849 = refl
+line851 = refl
 
-line850 : cases.Line850
+line852 : cases.Line852
 unfolding computed
-line850 = refl
+line852 = refl
 
-line858 : cases.Line858
+line853 : cases.Line853
 unfolding computed
-line858 = refl
+line853 = refl
 
-line860 : cases.Line860
+line854 : cases.Line854
 unfolding computed
-line860 = refl
+line854 = refl
 
-line861 : cases.Line861
+line856 : cases.Line856
 unfolding computed
-line861 = refl
+line856 = refl
+
+line862 : cases.Line862
+unfolding computed
+line862 = refl
+
+line865 : cases.Line865
+unfolding computed
+line865 = refl
+
+line866 : cases.Line866
+unfolding computed
+line866 = refl
+
+line867 : cases.Line867
+unfolding computed
+line867 = refl
 
 line868 : cases.Line868
 unfolding computed
 line868 = refl
 
-line874 : cases.Line874
+line869 : cases.Line869
 unfolding computed
-line874 = refl
+line869 = refl
+
+line872 : cases.Line872
+unfolding computed
+line872 = refl
 
 line875 : cases.Line875
 unfolding computed
 line875 = refl
 
-line876 : cases.Line876
+line881 : cases.Line881
 unfolding computed
-line876 = refl
+line881 = refl
 
-line878 : cases.Line878
+line882 : cases.Line882
 unfolding computed
-line878 = refl
+line882 = refl
+
+line883 : cases.Line883
+unfolding computed
+line883 = refl
+
+line884 : cases.Line884
+unfolding computed
+line884 = refl
 
 line885 : cases.Line885
 unfolding computed
 line885 = refl
 
-line898 : cases.Line898
+line886 : cases.Line886
 unfolding computed
-line898 = refl
+line886 = refl
 
-line909 : cases.Line909
+line887 : cases.Line887
 unfolding computed
-line909 = refl
+line887 = refl
+
+line900 : cases.Line900
+unfolding computed
+line900 = refl
+
+line901 : cases.Line901
+unfolding computed
+line901 = refl
+
+line905 : cases.Line905
+unfolding computed
+line905 = refl
+
+line911 : cases.Line911
+unfolding computed
+line911 = refl
+
+line912 : cases.Line912
+unfolding computed
+line912 = refl
 
 line913 : cases.Line913
 unfolding computed
 line913 = refl
 
-line916 : cases.Line916
+line915 : cases.Line915
 unfolding computed
-line916 = refl
+line915 = refl
 
-line917 : cases.Line917
+line918 : cases.Line918
 unfolding computed
-line917 = refl
+line918 = refl
 
 line919 : cases.Line919
 unfolding computed
 line919 = refl
+
+line920 : cases.Line920
+unfolding computed
+line920 = refl
+
+line921 : cases.Line921
+unfolding computed
+line921 = refl
 
 line923 : cases.Line923
 unfolding computed
@@ -1215,133 +1247,93 @@ line924 : cases.Line924
 unfolding computed
 line924 = refl
 
-line927 : cases.Line927
+line925 : cases.Line925
 unfolding computed
-line927 = refl
-
-line928 : cases.Line928
-unfolding computed
-line928 = refl
+line925 = refl
 
 line929 : cases.Line929
 unfolding computed
 line929 = refl
 
-line930 : cases.Line930
-unfolding computed
-line930 = refl
-
-line931 : cases.Line931
-unfolding computed
-line931 = refl
-
 line932 : cases.Line932
 unfolding computed
 line932 = refl
 
-line933 : cases.Line933
+line934 : cases.Line934
 unfolding computed
-line933 = refl
+line934 = refl
+
+line935 : cases.Line935
+unfolding computed
+line935 = refl
 
 line937 : cases.Line937
 unfolding computed
 line937 = refl
 
-line941 : cases.Line941
+line947 : cases.Line947
 unfolding computed
-line941 = refl
-
-line943 : cases.Line943
-unfolding computed
-line943 = refl
-
-line944 : cases.Line944
-unfolding computed
-line944 = refl
-
-line945 : cases.Line945
-unfolding computed
-line945 = refl
-
-line946 : cases.Line946
-unfolding computed
-line946 = refl
-
-line950 : cases.Line950
-unfolding computed
-line950 = refl
+line947 = refl
 
 line956 : cases.Line956
 unfolding computed
 line956 = refl
 
-line957 : cases.Line957
-unfolding computed
-line957 = refl
-
 line958 : cases.Line958
 unfolding computed
 line958 = refl
 
-line961 : cases.Line961
+line959 : cases.Line959
 unfolding computed
-line961 = refl
-
-line964 : cases.Line964
-unfolding computed
-line964 = refl
+line959 = refl
 
 line967 : cases.Line967
 unfolding computed
 line967 = refl
 
+line970 : cases.Line970
+unfolding computed
+line970 = refl
+
+line971 : cases.Line971
+unfolding computed
+line971 = refl
+
+line972 : cases.Line972
+unfolding computed
+line972 = refl
+
 line981 : cases.Line981
 unfolding computed
 line981 = refl
 
-line982 : cases.Line982
+line987 : cases.Line987
 unfolding computed
-line982 = refl
+line987 = refl
 
-line983 : cases.Line983
+line990 : cases.Line990
 unfolding computed
-line983 = refl
-
-line991 : cases.Line991
-unfolding computed
-line991 = refl
-
-line992 : cases.Line992
-unfolding computed
-line992 = refl
-
-line993 : cases.Line993
-unfolding computed
-line993 = refl
-
-line994 : cases.Line994
-unfolding computed
-line994 = refl
+line990 = refl
 
 line995 : cases.Line995
 unfolding computed
 line995 = refl
 
-line996 : cases.Line996
+line1007 : cases.Line1007
 unfolding computed
-line996 = refl
+line1007 = refl
 
-line997 : cases.Line997
+line1008 : cases.Line1008
 unfolding computed
-line997 = refl
-
-line998 : cases.Line998
-unfolding computed
-line998 = refl
+line1008 = refl
 
 line1009 : cases.Line1009
 unfolding computed
 line1009 = refl
+
+line1010 : cases.Line1010
+unfolding computed
+line1010 = refl
 
 line1011 : cases.Line1011
 unfolding computed
@@ -1363,114 +1355,130 @@ line1015 : cases.Line1015
 unfolding computed
 line1015 = refl
 
-line1020 : cases.Line1020
+line1016 : cases.Line1016
 unfolding computed
-line1020 = refl
+line1016 = refl
 
-line1029 : cases.Line1029
+line1018 : cases.Line1018
 unfolding computed
-line1029 = refl
+line1018 = refl
 
-line1030 : cases.Line1030
+line1027 : cases.Line1027
 unfolding computed
-line1030 = refl
+line1027 = refl
 
-line1031 : cases.Line1031
+line1035 : cases.Line1035
 unfolding computed
-line1031 = refl
+line1035 = refl
 
-line1032 : cases.Line1032
+line1055 : cases.Line1055
 unfolding computed
-line1032 = refl
+line1055 = refl
 
-line1038 : cases.Line1038
+line1062 : cases.Line1062
 unfolding computed
-line1038 = refl
+line1062 = refl
 
-line1046 : cases.Line1046
+line1063 : cases.Line1063
 unfolding computed
-line1046 = refl
+line1063 = refl
 
-line1047 : cases.Line1047
+line1064 : cases.Line1064
 unfolding computed
-line1047 = refl
+line1064 = refl
 
-line1048 : cases.Line1048
+line1066 : cases.Line1066
 unfolding computed
-line1048 = refl
+line1066 = refl
 
-line1049 : cases.Line1049
+line1069 : cases.Line1069
 unfolding computed
-line1049 = refl
+line1069 = refl
+
+line1070 : cases.Line1070
+unfolding computed
+line1070 = refl
+
+line1071 : cases.Line1071
+unfolding computed
+line1071 = refl
+
+line1072 : cases.Line1072
+unfolding computed
+line1072 = refl
+
+line1074 : cases.Line1074
+unfolding computed
+line1074 = refl
+
+line1075 : cases.Line1075
+unfolding computed
+line1075 = refl
+
+line1079 : cases.Line1079
+unfolding computed
+line1079 = refl
+
+line1080 : cases.Line1080
+unfolding computed
+line1080 = refl
 
 line1081 : cases.Line1081
 unfolding computed
 line1081 = refl
 
-line1084 : cases.Line1084
+line1082 : cases.Line1082
 unfolding computed
-line1084 = refl
-
-line1085 : cases.Line1085
-unfolding computed
-line1085 = refl
-
-line1086 : cases.Line1086
-unfolding computed
-line1086 = refl
+line1082 = refl
 
 line1087 : cases.Line1087
 unfolding computed
 line1087 = refl
 
-line1090 : cases.Line1090
+line1097 : cases.Line1097
 unfolding computed
-line1090 = refl
+line1097 = refl
 
-line1093 : cases.Line1093
+line1098 : cases.Line1098
 unfolding computed
-line1093 = refl
+line1098 = refl
 
-line1101 : cases.Line1101
+line1099 : cases.Line1099
 unfolding computed
-line1101 = refl
+line1099 = refl
 
 line1105 : cases.Line1105
 unfolding computed
 line1105 = refl
 
-line1108 : cases.Line1108
+line1115 : cases.Line1115
 unfolding computed
-line1108 = refl
+line1115 = refl
 
-line1110 : cases.Line1110
+line1123 : cases.Line1123
 unfolding computed
-line1110 = refl
-
-line1111 : cases.Line1111
-unfolding computed
-line1111 = refl
-
-line1116 : cases.Line1116
-unfolding computed
-line1116 = refl
-
-line1117 : cases.Line1117
-unfolding computed
-line1117 = refl
+line1123 = refl
 
 line1127 : cases.Line1127
 unfolding computed
 line1127 = refl
 
-line1136 : cases.Line1136
+line1133 : cases.Line1133
 unfolding computed
-line1136 = refl
+line1133 = refl
+
+line1139 : cases.Line1139
+unfolding computed
+line1139 = refl
 
 line1140 : cases.Line1140
 unfolding computed
 line1140 = refl
 
-line1147 : cases.Line1147
+line1141 : cases.Line1141
 unfolding computed
-line1147 = refl
+line1141 = refl
+
+line1159 : cases.Line1159
+unfolding computed
+line1159 = refl
