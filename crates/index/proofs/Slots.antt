@@ -1,18 +1,18 @@
 -- Laws of the slots: where they lie, and no two keys share one.
 use mathlib.Core.Path.{_≡_, refl, ap, sym, subst, _∙_}
-use mathlib.Core.Bool.{Bool, true, false, cond, _&&_, not, _||_}
+use mathlib.Core.Bool.{Bool, true, false, cond, _&&_, _||_, false≢true}
 use mathlib.Core.List.{List, [], _∷_}
 use Prim.Native.Nat.{ℕ, zero, suc, _+_, _*_, _/_, _%_, _≤_, _<_}
 use native.Mathlib.Omega.{arith}
 use lib.Dec.{leb, ltb, eqb, lit≤, lit<}
 use lib.ListN.{length, getD}
-use borrow.Author.Tests.{lt-ltb, leb-true, ltb-true, ltb-false}
+use borrow.Author.Tests.{lt-ltb, leb-true, ltb-true, eqb-true, ne-eqb}
 use Rattle.lists.specs.Tests.{allBelow, between, everyOf}
 use Rattle.lists.proofs.Tests.{and-left, and-right, and-both, between-low, between-high, in-between, below-at, everyOf-at}
 use Rattle.fields.specs.Numbers.{number}
 use Rattle.records.specs.declared.MarkShape.{MarkShape}
 use Rattle.records.specs.Table.{Row, table, rowOf, fieldOf, FP, kinds}
-use Rattle.records.specs.Record.{markIn, mark, widths, size, offsetIn, offset, read, value, keyIn, keyWidth, keyOf, inRange, rangesHold, fault}
+use Rattle.records.specs.Record.{markIn, mark, widths, size, shortest, offsetIn, offset, read, value, keyIn, keyWidth, keyOf, inRange, rangesHold, fault}
 use Rattle.records.specs.Shapes.{shape, shapeOf, keyField, keyFits, keyTest}
 use Rattle.records.proofs.Record.{faultless, field-in}
 use Rattle.index.specs.Slots.{slot, narrow, wide}
@@ -33,23 +33,24 @@ pub mark-lt : (s : List ℕ) → mark s < kinds
 unfolding mark table
 mark-lt s = in-lt 1 table (getD s 0 0) (getD s 1 0) (lit< tt)
 
-pub by-mark : (P : ℕ → Type 0) → P 1 → P 2 → P 3 → P 4 → P 5 → P 6 → P 7 → P 8 → P 9 → P 10 → (k : ℕ) → (k ≡ 0 → ⊥) → k < kinds → P k
-by-mark P a b c d e f g h i j zero z l = absurd (z refl)
-by-mark P a b c d e f g h i j (suc zero) z l = a
-by-mark P a b c d e f g h i j (suc (suc zero)) z l = b
-by-mark P a b c d e f g h i j (suc (suc (suc zero))) z l = c
-by-mark P a b c d e f g h i j (suc (suc (suc (suc zero)))) z l = d
-by-mark P a b c d e f g h i j (suc (suc (suc (suc (suc zero))))) z l = e
-by-mark P a b c d e f g h i j (suc (suc (suc (suc (suc (suc zero)))))) z l = f
-by-mark P a b c d e f g h i j (suc (suc (suc (suc (suc (suc (suc zero))))))) z l = g
-by-mark P a b c d e f g h i j (suc (suc (suc (suc (suc (suc (suc (suc zero)))))))) z l = h
-by-mark P a b c d e f g h i j (suc (suc (suc (suc (suc (suc (suc (suc (suc zero))))))))) z l = i
-by-mark P a b c d e f g h i j (suc (suc (suc (suc (suc (suc (suc (suc (suc (suc zero)))))))))) z l = j
-by-mark P a b c d e f g h i j (suc (suc (suc (suc (suc (suc (suc (suc (suc (suc (suc k))))))))))) z l = absurd (omega arith)
+pub by-mark : (P : ℕ → Type 0) → P 1 → P 2 → P 3 → P 4 → P 5 → P 6 → P 7 → P 8 → P 9 → P 10 → P 11 → (k : ℕ) → (k ≡ 0 → ⊥) → k < kinds → P k
+by-mark P a b c d e f g h i j m zero z l = absurd (z refl)
+by-mark P a b c d e f g h i j m (suc zero) z l = a
+by-mark P a b c d e f g h i j m (suc (suc zero)) z l = b
+by-mark P a b c d e f g h i j m (suc (suc (suc zero))) z l = c
+by-mark P a b c d e f g h i j m (suc (suc (suc (suc zero)))) z l = d
+by-mark P a b c d e f g h i j m (suc (suc (suc (suc (suc zero))))) z l = e
+by-mark P a b c d e f g h i j m (suc (suc (suc (suc (suc (suc zero)))))) z l = f
+by-mark P a b c d e f g h i j m (suc (suc (suc (suc (suc (suc (suc zero))))))) z l = g
+by-mark P a b c d e f g h i j m (suc (suc (suc (suc (suc (suc (suc (suc zero)))))))) z l = h
+by-mark P a b c d e f g h i j m (suc (suc (suc (suc (suc (suc (suc (suc (suc zero))))))))) z l = i
+by-mark P a b c d e f g h i j m (suc (suc (suc (suc (suc (suc (suc (suc (suc (suc zero)))))))))) z l = j
+by-mark P a b c d e f g h i j m (suc (suc (suc (suc (suc (suc (suc (suc (suc (suc (suc zero))))))))))) z l = m
+by-mark P a b c d e f g h i j m (suc (suc (suc (suc (suc (suc (suc (suc (suc (suc (suc (suc k)))))))))))) z l = absurd (omega arith)
 
-pub size-11 : (k : ℕ) → (k ≡ 0 → ⊥) → k < kinds → 11 ≤ size k
+pub size-least : (k : ℕ) → (k ≡ 0 → ⊥) → k < kinds → shortest ≤ size k
 unfolding size widths rowOf table
-size-11 = by-mark (λ k. 11 ≤ size k) (lit≤ tt) (lit≤ tt) (lit≤ tt) (lit≤ tt) (lit≤ tt) (lit≤ tt) (lit≤ tt) (lit≤ tt) (lit≤ tt) (lit≤ tt)
+size-least = by-mark (λ k. shortest ≤ size k) (lit≤ tt) (lit≤ tt) (lit≤ tt) (lit≤ tt) (lit≤ tt) (lit≤ tt) (lit≤ tt) (lit≤ tt) (lit≤ tt) (lit≤ tt) (lit≤ tt)
 
 -- ---- keys: the numbers within the bounds of the code's table
 
@@ -117,6 +118,10 @@ module _ (r : List ℕ) where
   unfolding Keyed Spans shapeOf shape keyWidth keyIn rowOf table number
   keyed-rs h = (omega arith, omega arith)
 
+  keyed-lc : Keyed r 11
+  unfolding Keyed Spans shapeOf shape keyWidth keyIn rowOf table number
+  keyed-lc h = (omega arith, omega arith)
+
   keyed-hp : Keyed r 2
   unfolding Keyed Spans shapeOf shape keyWidth keyIn inRange value read offset offsetIn fieldOf rowOf table
   keyed-hp h = span-of (field-in 2 0 r h (lit< tt))
@@ -170,24 +175,24 @@ in-key r e =
     record {
       known = omega (arith, f .known);
       low = mark-lt r;
-      spans = by-mark (Keyed r) (keyed-rs r) (keyed-hp r) (keyed-fu r) (keyed-ad r) (keyed-mm r) (keyed-rq r) (keyed-hr r) (keyed-ch r) (keyed-th r) (keyed-fp r) (mark r) (f .known) (mark-lt r) (f .ranges);
+      spans = by-mark (Keyed r) (keyed-rs r) (keyed-hp r) (keyed-fu r) (keyed-ad r) (keyed-mm r) (keyed-rq r) (keyed-hr r) (keyed-ch r) (keyed-th r) (keyed-fp r) (keyed-lc r) (mark r) (f .known) (mark-lt r) (f .ranges);
     }
 
 -- ---- no two keys share a slot
 
 -- where the slots of a mark begin and end
 unfoldable pub low : ℕ → ℕ
-low k = getD (0 ∷ 0 ∷ 1 ∷ 22 ∷ 26 ∷ 106 ∷ 138 ∷ 154 ∷ 322 ∷ 2338 ∷ 2350 ∷ []) k 0
+low k = getD (0 ∷ 0 ∷ 1 ∷ 22 ∷ 26 ∷ 106 ∷ 138 ∷ 154 ∷ 322 ∷ 2338 ∷ 2351 ∷ 2350 ∷ []) k 0
 
 unfoldable pub high : ℕ → ℕ
-high k = getD (0 ∷ 0 ∷ 21 ∷ 25 ∷ 105 ∷ 137 ∷ 153 ∷ 321 ∷ 2337 ∷ 2349 ∷ 6349 ∷ []) k 0
+high k = getD (0 ∷ 0 ∷ 21 ∷ 25 ∷ 105 ∷ 137 ∷ 153 ∷ 321 ∷ 2337 ∷ 2349 ∷ 6350 ∷ 2350 ∷ []) k 0
 
-pub at-mark : (P : ℕ → Type 0) (k n : ℕ) → InKey k n → P 1 → P 2 → P 3 → P 4 → P 5 → P 6 → P 7 → P 8 → P 9 → P 10 → P k
-at-mark P k n p a b c d e f g h i j = by-mark P a b c d e f g h i j k (λ z. omega (arith, z, p .known)) (p .low)
+pub at-mark : (P : ℕ → Type 0) (k n : ℕ) → InKey k n → P 1 → P 2 → P 3 → P 4 → P 5 → P 6 → P 7 → P 8 → P 9 → P 10 → P 11 → P k
+at-mark P k n p a b c d e f g h i j m = by-mark P a b c d e f g h i j m k (λ z. omega (arith, z, p .known)) (p .low)
 
 pub limits : (k n : ℕ) → InKey k n → (low k ≤ slot k n) × (slot k n ≤ high k)
 unfolding Spans shapeOf shape rowOf table slot low high
-limits k n p = at-mark (λ j. InKey j n → (low j ≤ slot j n) × (slot j n ≤ high j)) k n p (λ q. (omega (arith, q .spans), omega (arith, q .spans))) (λ q. (omega (arith, q .spans), omega (arith, q .spans))) (λ q. (omega (arith, q .spans), omega (arith, q .spans))) (λ q. (omega (arith, q .spans), omega (arith, q .spans))) (λ q. (omega (arith, q .spans), omega (arith, q .spans))) (λ q. (omega (arith, q .spans), omega (arith, q .spans))) (λ q. (omega (arith, q .spans), omega (arith, q .spans))) (λ q. (omega (arith, q .spans), omega (arith, q .spans))) (λ q. (omega (arith, q .spans), omega (arith, q .spans))) (λ q. (omega (arith, q .spans), omega (arith, q .spans))) p
+limits k n p = at-mark (λ j. InKey j n → (low j ≤ slot j n) × (slot j n ≤ high j)) k n p (λ q. (omega (arith, q .spans), omega (arith, q .spans))) (λ q. (omega (arith, q .spans), omega (arith, q .spans))) (λ q. (omega (arith, q .spans), omega (arith, q .spans))) (λ q. (omega (arith, q .spans), omega (arith, q .spans))) (λ q. (omega (arith, q .spans), omega (arith, q .spans))) (λ q. (omega (arith, q .spans), omega (arith, q .spans))) (λ q. (omega (arith, q .spans), omega (arith, q .spans))) (λ q. (omega (arith, q .spans), omega (arith, q .spans))) (λ q. (omega (arith, q .spans), omega (arith, q .spans))) (λ q. (omega (arith, q .spans), omega (arith, q .spans))) (λ q. (omega (arith, q .spans), omega (arith, q .spans))) p
 
 all-le : (l : List ℕ) (m : ℕ) → everyOf (λ x. leb x m) l ≡ true → leb 0 m ≡ true → (k : ℕ) → getD l k 0 ≤ m
 all-le l m e z k = leb-true (getD l k 0) m (everyOf-at (λ x. leb x m) l 0 z e k)
@@ -196,8 +201,8 @@ pub slot-lt : (k n : ℕ) → InKey k n → slot k n < wide
 unfolding high
 slot-lt k n p = omega (arith, limits k n p .1, high-le k)
   where
-    high-le : (k : ℕ) → high k ≤ 6349
-    high-le k = unfold high everyOf in all-le (0 ∷ 0 ∷ 21 ∷ 25 ∷ 105 ∷ 137 ∷ 153 ∷ 321 ∷ 2337 ∷ 2349 ∷ 6349 ∷ []) 6349 refl refl k
+    high-le : (k : ℕ) → high k ≤ 6350
+    high-le k = unfold high everyOf in all-le (0 ∷ 0 ∷ 21 ∷ 25 ∷ 105 ∷ 137 ∷ 153 ∷ 321 ∷ 2337 ∷ 2349 ∷ 6350 ∷ 2350 ∷ []) 6350 refl refl k
 
 three : (a b c x y z : ℕ) → Span (shapeOf 4) 0 a × Span (shapeOf 4) 1 b × Span (shapeOf 4) 2 c → Span (shapeOf 4) 0 x × Span (shapeOf 4) 1 y × Span (shapeOf 4) 2 z → 1 + a * 20 + b * 4 + c ≡ 1 + x * 20 + y * 4 + z → (a ≡ x) × (b ≡ y) × (c ≡ z)
 unfolding shapeOf shape rowOf table
@@ -217,29 +222,39 @@ unfolding Spans shapeOf shape rowOf table slot
 same-key k n m p =
     at-mark (λ j. InKey j n → InKey j m → slot j n ≡ slot j m → n ≡ m) k n p (λ p q e. omega (arith, p .spans, q .spans, e)) (λ p q e. omega (arith, p .spans, q .spans, e)) (λ p q e. omega (arith, p .spans, q .spans, e))
     (λ p q e. three-same n m (three (n / 65536) (n / 256 % 256) (n % 256) (m / 65536) (m / 256 % 256) (m % 256) (p .spans) (q .spans) e))
-    (λ p q e. omega (arith, p .spans, q .spans, e)) (λ p q e. omega (arith, p .spans, q .spans, e)) (λ p q e. omega (arith, p .spans, q .spans, e)) (λ p q e. omega (arith, p .spans, q .spans, e)) (λ p q e. omega (arith, p .spans, q .spans, e)) (λ p q e. omega (arith, p .spans, q .spans, e)) p
+    (λ p q e. omega (arith, p .spans, q .spans, e)) (λ p q e. omega (arith, p .spans, q .spans, e)) (λ p q e. omega (arith, p .spans, q .spans, e)) (λ p q e. omega (arith, p .spans, q .spans, e)) (λ p q e. omega (arith, p .spans, q .spans, e)) (λ p q e. omega (arith, p .spans, q .spans, e)) (λ p q e. omega (arith, p .spans, q .spans, e)) p
 
+-- the slots of two marks lie apart, before or behind each other
 apartTest : ℕ → ℕ → Bool
-apartTest k j = not (ltb 0 k && ltb k j) || ltb (high k) (low j)
+apartTest k j = eqb k 0 || eqb j 0 || eqb k j || ltb (high k) (low j) || ltb (high j) (low k)
 
-ordered : (k j : ℕ) → 1 ≤ k → k < j → j < kinds → high k < low j
+apart : (k j : ℕ) → 1 ≤ k → 1 ≤ j → k < kinds → j < kinds → eqb k j ≡ false → ltb (high k) (low j) || ltb (high j) (low k) ≡ true
 unfolding apartTest high low allBelow
-ordered k j a b c =
-    let t : not (ltb 0 k && ltb k j) || ltb (high k) (low j) ≡ true =
-    below-at kinds (λ x. apartTest x j) (below-at kinds (λ y. allBelow kinds (λ x. apartTest x y)) refl j c) k (omega arith) in
-    ltb-true (high k) (low j) (rw (lt-ltb 0 k (omega arith), lt-ltb k j b) at t)
+apart k j a b c d e =
+    let t : eqb k 0 || eqb j 0 || eqb k j || ltb (high k) (low j) || ltb (high j) (low k) ≡ true =
+    below-at kinds (λ x. apartTest x j) (below-at kinds (λ y. allBelow kinds (λ x. apartTest x y)) refl j d) k c in
+    rw (ne-eqb k 0 (λ z. omega (arith, z)), ne-eqb j 0 (λ z. omega (arith, z)), e) at t
+
+narrowTest : ℕ → Bool
+narrowTest k = eqb k FP || ltb (high k) narrow
 
 -- of every mark but FP
-pub slot-narrow : (k n : ℕ) → InKey k n → k < FP → slot k n < narrow
-unfolding high low
-slot-narrow k n p h = omega (arith, limits k n p .1, ordered k FP (p .known) h (lit< tt))
+pub slot-narrow : (k n : ℕ) → InKey k n → eqb k FP ≡ false → slot k n < narrow
+unfolding narrowTest
+slot-narrow k n p h =
+    let t : eqb k FP || ltb (high k) narrow ≡ true = below-at kinds narrowTest (unfold narrowTest high allBelow in refl) k (p .low) in
+    omega (arith, limits k n p .1, ltb-true (high k) narrow (rw h at t))
 
 pub slot-apart : (k n j m : ℕ) → InKey k n → InKey j m → slot k n ≡ slot j m → (k ≡ j) × (n ≡ m)
-slot-apart k n j m p q e = go (ltb k j) refl (ltb j k) refl
+slot-apart k n j m p q e = go (eqb k j) refl
   where
-    go : (a : Bool) → ltb k j ≡ a → (b : Bool) → ltb j k ≡ b → (k ≡ j) × (n ≡ m)
-    go true x b y = absurd (omega (arith, e, limits k n p, limits j m q, ordered k j (p .known) (ltb-true k j x) (q .low)))
-    go false x true y = absurd (omega (arith, e, limits k n p, limits j m q, ordered j k (q .known) (ltb-true j k y) (p .low)))
-    go false x false y =
-        let w : k ≡ j = omega (arith, ltb-false k j x, ltb-false j k y) in
+    sides : (a b : Bool) → ltb (high k) (low j) ≡ a → ltb (high j) (low k) ≡ b → a || b ≡ true → ⊥
+    sides true b x y w = omega (arith, e, limits k n p, limits j m q, ltb-true (high k) (low j) x)
+    sides false true x y w = omega (arith, e, limits k n p, limits j m q, ltb-true (high j) (low k) y)
+    sides false false x y w = false≢true w
+
+    go : (a : Bool) → eqb k j ≡ a → (k ≡ j) × (n ≡ m)
+    go true x =
+        let w : k ≡ j = eqb-true k j x in
         (w, same-key k n m p (subst (λ (i : ℕ). InKey i m) (sym w) q) (e ∙ ap (λ (i : ℕ). slot i m) (sym w)))
+    go false x = absurd (sides _ _ refl refl (apart k j (p .known) (q .known) (p .low) (q .low) x))

@@ -12,14 +12,14 @@ use Rattle.lists.proofs.Tests.{and-true, and-false}
 use Rattle.records.specs.Table.{kinds}
 use Rattle.fields.specs.Numbers.{number}
 use Rattle.records.specs.declared.Found.the-variants.{Record}
-use Rattle.records.specs.Record.{mark, size, issue, keyWidth, keyOf, fault}
+use Rattle.records.specs.Record.{mark, size, shortest, issue, keyWidth, keyOf, fault}
 use Rattle.records.specs.Dossier.{firstOf}
 use Rattle.records.specs.Walk.{found}
 use Rattle.records.proofs.Record.{mark-take, size-ge, key-ends, faultless}
 use Rattle.records.proofs.Walk.{found-record, found-within, Rest, next}
 use Rattle.records.proofs.Read.{number-take}
 use Rattle.index.specs.Slots.{slotAt, slot, wide, heldIssue, newer, kept, keepStep}
-use Rattle.index.proofs.Slots.{mark-lt, size-11, in-key, slot-lt}
+use Rattle.index.proofs.Slots.{mark-lt, size-least, in-key, slot-lt}
 
 pub tail : (d : List ℕ) (at : ℕ) → take (length d - at) (drop at d) ≡ drop at d
 tail d at = take-all (length d - at) (drop at d) (simp length-drop (omega arith))
@@ -40,11 +40,11 @@ module _ (s : List ℕ) (k n : ℕ) (e : found s ≡ Record k n) where
   unfolding firstOf
   its-fault = let z = found-record s k n e in rw (z .1) (z .2)
 
-  pub long : 11 ≤ n
+  pub long : shortest ≤ n
   long =
       let z = found-record s k n e in
       let f = faultless (take n s) its-fault in
-      rw (z .1, ← z .0) (size-11 k (λ h. f .known (its-mark ∙ h)) (rw (z .0) (mark-lt s)))
+      rw (z .1, ← z .0) (size-least k (λ h. f .known (its-mark ∙ h)) (rw (z .0) (mark-lt s)))
 
   pub its-issue : issue (take n s) ≡ number 2 4 s
   unfolding issue

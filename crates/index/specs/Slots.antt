@@ -24,15 +24,16 @@ slot (suc (suc (suc (suc (suc (suc zero)))))) n = 137 + n
 slot (suc (suc (suc (suc (suc (suc (suc zero))))))) n = 153 + n
 slot (suc (suc (suc (suc (suc (suc (suc (suc zero)))))))) n = 321 + n
 slot (suc (suc (suc (suc (suc (suc (suc (suc (suc zero))))))))) n = 2333 + n / 256 * 4 + n % 256
-slot (suc (suc (suc (suc (suc (suc (suc (suc (suc (suc k)))))))))) n = 2349 + n
+slot (suc (suc (suc (suc (suc (suc (suc (suc (suc (suc zero)))))))))) n = 2350 + n
+slot (suc (suc (suc (suc (suc (suc (suc (suc (suc (suc (suc k))))))))))) n = 2350
 
 -- the slots of all marks but FP, whose slots come last: an index may do without them
 abbrev pub narrow : ℕ
-narrow = 2350
+narrow = 2351
 
 -- and with them
 abbrev pub wide : ℕ
-wide = 6350
+wide = 6351
 
 -- of a record of mark k at the front of the rest of a dossier, read in place
 unfoldable pub slotAt : ℕ → List ℕ → ℕ

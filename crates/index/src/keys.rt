@@ -64,5 +64,11 @@ pub fn slot_fp(n: usize) -> usize
     requires { ⌜ n < 16777216 ⌝ }
     ensures { λ r. ⌜ r ≡ slot 10 n ⌝ }
 {
-    2349 + n
+    2350 + n
+}
+
+pub fn slot_lc() -> usize
+    ensures { λ r. ⌜ r ≡ slot 11 0 ⌝ }
+{
+    2350
 }

@@ -10,6 +10,11 @@ ghost use Rattle.records.specs.Walk.{walk};
 ghost use Rattle.index.specs.Slots.{heldIssue, newer, kept, keepStep, passOf, slotsOf};
 use crate::reader::read;
 
+// The slots of all marks but FP, and with them.
+pub const NARROW: usize = 2351;
+
+pub const WIDE: usize = 6351;
+
 // A record's length, and the slot of its mark and key.
 pub struct Entry {
     pub len: usize,

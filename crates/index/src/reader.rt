@@ -1,6 +1,8 @@
 // The record reader: one record at the front of the rest of a dossier, with its length and slot.
 ghost use mathlib.Core.Path.{_≡_};
-ghost use Rattle.records.specs.Record.{mark};
+ghost use Prim.Native.Nat.{_≤_};
+ghost use lib.ListN.{length};
+ghost use Rattle.records.specs.Record.{mark, keyWidth};
 ghost use Rattle.index.specs.Entries.{entryAs, readingAs, readingOf};
 use crate::Entry;
 use crate::Reading;
@@ -10,6 +12,7 @@ use crate::keys::slot_fp;
 use crate::keys::slot_fu;
 use crate::keys::slot_hp;
 use crate::keys::slot_hr;
+use crate::keys::slot_lc;
 use crate::keys::slot_mm;
 use crate::keys::slot_rq;
 use crate::keys::slot_th;
@@ -248,6 +251,59 @@ fn read_rs(s: &[u8]) -> Reading
     }
 }
 
+// LC
+fn entry_lc(s: &[u8]) -> Entry
+    ensures { λ r. ⌜ r ≡ entryAs 11 (now (s .entry)) ⌝ }
+{
+    Entry {
+        len: records::LC.length,
+        slot: slot_lc(),
+    }
+}
+
+fn read_lc(s: &[u8]) -> Reading
+    ensures { λ r. ⌜ r ≡ readingAs 11 (now (s .entry)) ⌝ }
+{
+    if s.len() < records::LC.length {
+        return Reading::Fault(2);
+    }
+    if records::lc_ok(s) {
+        Reading::Whole(entry_lc(s))
+    } else {
+        Reading::Fault(3)
+    }
+}
+
+// Of a rest whose mark has no key: RS, LC, or unknown.
+fn read_keyless(rest: &[u8]) -> Reading
+    requires { ⌜ (2 ≤ length (now rest)) × (keyWidth (mark (now rest)) ≡ 0) ⌝ }
+    ensures { λ r. ⌜ r ≡ readingOf (now (rest .entry)) ⌝ }
+{
+    if records::is_mark(rest, b"RS") {
+        return read_rs(rest);
+    }
+    if records::is_mark(rest, b"LC") {
+        return read_lc(rest);
+    }
+    Reading::Fault(1)
+}
+
+fn entry_keyless(rest: &[u8]) -> Entry
+    requires { ⌜ keyWidth (mark (now rest)) ≡ 0 ⌝ }
+    ensures { λ r. ⌜ r ≡ entryAs (mark (now (rest .entry))) (now (rest .entry)) ⌝ }
+{
+    if records::is_mark(rest, b"RS") {
+        return entry_rs(rest);
+    }
+    if records::is_mark(rest, b"LC") {
+        return entry_lc(rest);
+    }
+    Entry {
+        len: records::UNKNOWN.length,
+        slot: 0,
+    }
+}
+
 // The record reader: the rest of a dossier, starting at the cursor, is tried for its mark, its length and its ranges.
 pub fn read(rest: &[u8]) -> Reading
     ensures { λ r. ⌜ r ≡ readingOf (now (rest .entry)) ⌝ }
@@ -282,10 +338,7 @@ pub fn read(rest: &[u8]) -> Reading
     if records::is_mark(rest, b"RQ") {
         return read_rq(rest);
     }
-    if records::is_mark(rest, b"RS") {
-        return read_rs(rest);
-    }
-    Reading::Fault(1)
+    read_keyless(rest)
 }
 
 // The entry of a record that is known to be without fault.
@@ -319,11 +372,5 @@ pub fn entry_at(rest: &[u8]) -> Entry
     if records::is_mark(rest, b"RQ") {
         return entry_rq(rest);
     }
-    if records::is_mark(rest, b"RS") {
-        return entry_rs(rest);
-    }
-    Entry {
-        len: records::UNKNOWN.length,
-        slot: 0,
-    }
+    entry_keyless(rest)
 }

@@ -7,7 +7,7 @@ use native.Mathlib.Nat.{add-sub-cancel-left}
 use native.Mathlib.Omega.{arith}
 use lib.Dec.{ltb, eqb, lit<, lit≤}
 use lib.ListN.{length, getD, take, drop}
-use borrow.Author.Tests.{ne-eqb, le-ltb, ltb-true, ltb-false}
+use borrow.Author.Tests.{ne-eqb, le-ltb, eqb-true, ltb-false}
 use Rattle.lists.specs.Lists.{Each, done, also}
 use Rattle.lists.proofs.Lists.{each-map}
 use Rattle.lists.proofs.Tests.{split, or-false-right}
@@ -84,10 +84,10 @@ module _ (d ix : List ℕ) (h : Indexed d ix) where
     current-none e = sym (part-current refl refl) ∙ part-none d ix (slot k n) (size k) e
 
   -- every mark but FP has its slots in it
-  pub fits : (k n : ℕ) → InKey k n → k < FP → slot k n < length ix
+  pub fits : (k n : ℕ) → InKey k n → eqb k FP ≡ false → slot k n < length ix
   fits k n i b = omega (arith, h .roomy, slot-narrow k n i b)
 
-  module _ (k n : ℕ) (b : k < FP) (i : InKey k n) where
+  module _ (k n : ℕ) (b : eqb k FP ≡ false) (i : InKey k n) where
     pub slot-fits : {j : ℕ} → j ≡ slot k n → j < length ix
     slot-fits a = rw a (fits k n i b)
 
@@ -97,9 +97,9 @@ module _ (d ix : List ℕ) (h : Indexed d ix) where
   -- and FP, if it is covered
   pub covered : (k n : ℕ) → InKey k n → Covers k ix → slot k n < length ix
   covered k n i c =
-      split (ltb k FP)
-      (λ t. fits k n i (ltb-true k FP t))
-      (λ f. omega (arith, slot-lt k n i, c (omega (arith, ltb-false k FP f, i .low))))
+      split (eqb k FP)
+      (λ t. omega (arith, slot-lt k n i, c (eqb-true k FP t)))
+      (λ f. fits k n i f)
 
   -- ---- no key: a clean dossier has no such record
 
@@ -164,11 +164,11 @@ wide-complete d ix h w = each-map (λ r g. omega (arith, w, slot-lt (mark r) (ke
 
 pub key-small : (k n : ℕ) → InKey k n → n < 16777216
 unfolding Spans shapeOf shape rowOf table
-key-small k n p = at-mark (λ j. InKey j n → n < 16777216) k n p (λ q. omega (arith, q .spans)) (λ q. omega (arith, q .spans)) (λ q. omega (arith, q .spans)) (λ q. omega (arith, q .spans)) (λ q. omega (arith, q .spans)) (λ q. omega (arith, q .spans)) (λ q. omega (arith, q .spans)) (λ q. omega (arith, q .spans)) (λ q. omega (arith, q .spans)) (λ q. omega (arith, q .spans)) p
+key-small k n p = at-mark (λ j. InKey j n → n < 16777216) k n p (λ q. omega (arith, q .spans)) (λ q. omega (arith, q .spans)) (λ q. omega (arith, q .spans)) (λ q. omega (arith, q .spans)) (λ q. omega (arith, q .spans)) (λ q. omega (arith, q .spans)) (λ q. omega (arith, q .spans)) (λ q. omega (arith, q .spans)) (λ q. omega (arith, q .spans)) (λ q. omega (arith, q .spans)) (λ q. omega (arith, q .spans)) p
 
 pub size-small : (k n : ℕ) → InKey k n → size k < 65536
 unfolding size widths rowOf table
-size-small k n p = at-mark (λ j. size j < 65536) k n p (lit< tt) (lit< tt) (lit< tt) (lit< tt) (lit< tt) (lit< tt) (lit< tt) (lit< tt) (lit< tt) (lit< tt)
+size-small k n p = at-mark (λ j. size j < 65536) k n p (lit< tt) (lit< tt) (lit< tt) (lit< tt) (lit< tt) (lit< tt) (lit< tt) (lit< tt) (lit< tt) (lit< tt) (lit< tt)
 
 -- ---- keys by their fields
 
@@ -212,17 +212,18 @@ place-key n a b = one-field FP n (lit≤ tt) (lit< tt) refl a b
 pub slot-kind : {k j n m r : ℕ} → r ≡ slot k m → m ≡ n → j ≡ k → r ≡ slot j n
 slot-kind e f g = e ∙ ap₂ slot (sym g) f
 
-pub slot-none : (k n : ℕ) → k < kinds → (k ≡ 2 → ⊥) → (k ≡ 3 → ⊥) → (k ≡ 4 → ⊥) → (k ≡ 5 → ⊥) → (k ≡ 6 → ⊥) → (k ≡ 7 → ⊥) → (k ≡ 8 → ⊥) → (k ≡ 9 → ⊥) → (k ≡ 10 → ⊥) → 0 ≡ slot k n
+pub slot-none : (k n : ℕ) → k < kinds → (k ≡ 2 → ⊥) → (k ≡ 3 → ⊥) → (k ≡ 4 → ⊥) → (k ≡ 5 → ⊥) → (k ≡ 6 → ⊥) → (k ≡ 7 → ⊥) → (k ≡ 8 → ⊥) → (k ≡ 9 → ⊥) → (k ≡ 10 → ⊥) → (k ≡ 11 → ⊥) → 0 ≡ slot k n
 unfolding slot
-slot-none zero n l a b c d e f g h i = refl
-slot-none (suc zero) n l a b c d e f g h i = refl
-slot-none (suc (suc zero)) n l a b c d e f g h i = absurd (a refl)
-slot-none (suc (suc (suc zero))) n l a b c d e f g h i = absurd (b refl)
-slot-none (suc (suc (suc (suc zero)))) n l a b c d e f g h i = absurd (c refl)
-slot-none (suc (suc (suc (suc (suc zero))))) n l a b c d e f g h i = absurd (d refl)
-slot-none (suc (suc (suc (suc (suc (suc zero)))))) n l a b c d e f g h i = absurd (e refl)
-slot-none (suc (suc (suc (suc (suc (suc (suc zero))))))) n l a b c d e f g h i = absurd (f refl)
-slot-none (suc (suc (suc (suc (suc (suc (suc (suc zero)))))))) n l a b c d e f g h i = absurd (g refl)
-slot-none (suc (suc (suc (suc (suc (suc (suc (suc (suc zero))))))))) n l a b c d e f g h i = absurd (h refl)
-slot-none (suc (suc (suc (suc (suc (suc (suc (suc (suc (suc zero)))))))))) n l a b c d e f g h i = absurd (i refl)
-slot-none (suc (suc (suc (suc (suc (suc (suc (suc (suc (suc (suc k))))))))))) n l a b c d e f g h i = absurd (omega arith)
+slot-none zero n l a b c d e f g h i j = refl
+slot-none (suc zero) n l a b c d e f g h i j = refl
+slot-none (suc (suc zero)) n l a b c d e f g h i j = absurd (a refl)
+slot-none (suc (suc (suc zero))) n l a b c d e f g h i j = absurd (b refl)
+slot-none (suc (suc (suc (suc zero)))) n l a b c d e f g h i j = absurd (c refl)
+slot-none (suc (suc (suc (suc (suc zero))))) n l a b c d e f g h i j = absurd (d refl)
+slot-none (suc (suc (suc (suc (suc (suc zero)))))) n l a b c d e f g h i j = absurd (e refl)
+slot-none (suc (suc (suc (suc (suc (suc (suc zero))))))) n l a b c d e f g h i j = absurd (f refl)
+slot-none (suc (suc (suc (suc (suc (suc (suc (suc zero)))))))) n l a b c d e f g h i j = absurd (g refl)
+slot-none (suc (suc (suc (suc (suc (suc (suc (suc (suc zero))))))))) n l a b c d e f g h i j = absurd (h refl)
+slot-none (suc (suc (suc (suc (suc (suc (suc (suc (suc (suc zero)))))))))) n l a b c d e f g h i j = absurd (i refl)
+slot-none (suc (suc (suc (suc (suc (suc (suc (suc (suc (suc (suc zero))))))))))) n l a b c d e f g h i j = absurd (j refl)
+slot-none (suc (suc (suc (suc (suc (suc (suc (suc (suc (suc (suc (suc k)))))))))))) n l a b c d e f g h i j = absurd (omega arith)

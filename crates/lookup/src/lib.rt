@@ -179,6 +179,14 @@ pub fn th<'a>(d: &'a [u8], index: &[u16], c: usize, v: usize) -> &'a [u8]
     part_at(d, index, index::keys::slot_th(c, v), records::TH.length)
 }
 
+// The current LC.
+pub fn lc<'a>(d: &'a [u8], index: &[u16]) -> &'a [u8]
+    requires { ⌜ Indexed (now d) (now index) ⌝ }
+    ensures { λ r. ⌜ now r ≡ current 11 0 (records (now (d .entry))) ⌝ }
+{
+    part_at(d, index, index::keys::slot_lc(), records::LC.length)
+}
+
 // The current FP of a place, through an index of every record; a place without a slot there has none.
 pub fn fp<'a>(d: &'a [u8], index: &[u16], n: usize) -> &'a [u8]
     requires { ⌜ Indexed (now d) (now index) × Complete (now d) (now index) × (1 ≤ n) × (n ≤ 4000) ⌝ }
@@ -223,6 +231,9 @@ fn slot_of(kind: usize, n: usize) -> usize
     if kind == 10 {
         return index::keys::slot_fp(n);
     }
+    if kind == 11 {
+        return index::keys::slot_lc();
+    }
     0
 }
 
@@ -264,10 +275,10 @@ fn lookup_part(d: &[u8], kind: usize, n: usize) -> Part
     ensures { λ r. ⌜ r ≡ lookupPart (now (d .entry)) kind n ⌝ }
 {
     if kind == 10 {
-        let mut slots = [0u16; 6350];
+        let mut slots = [0u16; index::WIDE];
         return part_in(d, &mut slots, kind, n);
     }
-    let mut slots = [0u16; 2350];
+    let mut slots = [0u16; index::NARROW];
     part_in(d, &mut slots, kind, n)
 }
 

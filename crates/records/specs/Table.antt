@@ -205,9 +205,16 @@ fp =
     ∷ price  -- 1 price
     ∷ [])
 
+-- LC, 10; document 02, request 2; no key
+abbrev pub lc : Row
+lc =
+    row 76 67 (storage ∷ [])
+    (amount 4 2000000000  -- 0 cost, micro-dollars per MWh
+    ∷ [])
+
 -- all of them
 unfoldable pub table : List Row
-table = rs ∷ hp ∷ fu ∷ ad ∷ mm ∷ rq ∷ hr ∷ ch ∷ th ∷ fp ∷ []
+table = rs ∷ hp ∷ fu ∷ ad ∷ mm ∷ rq ∷ hr ∷ ch ∷ th ∷ fp ∷ lc ∷ []
 
 -- ---- a mark is named by its place in the table, from 1; 0 is an unknown mark
 
@@ -251,9 +258,13 @@ TH = 9
 abbrev pub FP : ℕ
 FP = 10
 
+-- the last charging cost
+abbrev pub LC : ℕ
+LC = 11
+
 -- a mark's number is below this
 abbrev pub kinds : ℕ
-kinds = 11
+kinds = 12
 
 -- the row of mark k
 unfoldable pub rowOf : ℕ → Row

@@ -108,8 +108,18 @@ pub const FP: MarkShape = MarkShape {
     highest: [4000, 0, 0],
 };
 
+pub const LC: MarkShape = MarkShape {
+    length: 10,
+    width: 0,
+    lowest: [0, 0, 0],
+    highest: [0, 0, 0],
+};
+
 // A constant table holds them by kind: the mark's place in the table of specs/. A read at a variable place writes the whole table first.
-pub const MARKS: [MarkShape; 11] = [UNKNOWN, RS, HP, FU, AD, MM, RQ, HR, CH, TH, FP];
+pub const MARKS: [MarkShape; 12] = [UNKNOWN, RS, HP, FU, AD, MM, RQ, HR, CH, TH, FP, LC];
+
+// No record is shorter.
+pub const SHORTEST: usize = 10;
 
 // The row of a kind.
 pub fn mark_shape(kind: usize) -> MarkShape
@@ -189,6 +199,9 @@ pub fn kind_at(s: &[u8]) -> usize
     if is_mark(s, b"RS") {
         return 1;
     }
+    if is_mark(s, b"LC") {
+        return 11;
+    }
     0
 }
 
@@ -267,6 +280,12 @@ pub fn fp_ok(s: &[u8]) -> bool
 {
     let m = FP;
     in2(s, 6, m.lowest[0], m.highest[0]) & price(s, 8)
+}
+
+pub fn lc_ok(s: &[u8]) -> bool
+    ensures { λ r. ⌜ r ≡ rangesHold 11 (now (s .entry)) ⌝ }
+{
+    in4(s, 6, 0, 2000000000)
 }
 
 pub fn hp_ok(s: &[u8]) -> bool

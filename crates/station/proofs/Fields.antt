@@ -3,10 +3,10 @@ use mathlib.Core.Path.{_≡_, refl}
 use mathlib.Core.List.{List}
 use Prim.Native.Nat.{ℕ}
 use Rattle.fields.specs.Numbers.{number, biased}
-use Rattle.records.specs.Table.{table, rowOf, fieldOf, RS, HP, FU, AD, MM, RQ, HR, CH, TH, FP}
+use Rattle.records.specs.Table.{table, rowOf, fieldOf, RS, HP, FU, AD, MM, RQ, HR, CH, TH, FP, LC}
 use Rattle.records.specs.Record.{offsetIn, offset, read, value}
 use Rattle.station.specs.Current.{current}
-use Rattle.station.specs.Parameters.{parameters, amounts, adderKey, itemKey, thresholdKey, technology, capacity, factor, startHeat, noLoadHeat, incrementalFuel, charge, efficiency, window, output, heat, fuel, emission, adder, costC, outputW, intervalT, hoursPerStartS, firstHour, lastHour, requested, hourPrice, chargePrice, chargeEnergy, percent, margin, floor, placePrice}
+use Rattle.station.specs.Parameters.{parameters, amounts, adderKey, itemKey, thresholdKey, technology, capacity, factor, startHeat, noLoadHeat, incrementalFuel, charge, efficiency, window, output, heat, fuel, emission, adder, costC, outputW, intervalT, hoursPerStartS, firstHour, lastHour, requested, hourPrice, chargePrice, chargeEnergy, percent, margin, floor, placePrice, lastCost}
 
 module _ (l : List (List ℕ)) where
   pub technology-at : technology (parameters l) ≡ number 6 1 (current RS 0 l)
@@ -120,3 +120,7 @@ module _ (l : List (List ℕ)) where
   pub placePrice-at : (n : ℕ) → placePrice (amounts l) n ≡ biased (number 8 4 (current FP n l))
   unfolding amounts value read offset offsetIn fieldOf rowOf table
   placePrice-at n = refl
+
+  pub lastCost-at : lastCost (amounts l) ≡ number 6 4 (current LC 0 l)
+  unfolding amounts value read offset offsetIn fieldOf rowOf table
+  lastCost-at = refl

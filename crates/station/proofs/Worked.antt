@@ -1,9 +1,9 @@
--- Worked values of the current record: two issues of one fuel price, in either order of arrival.
+-- Worked values of the current record: two issues of one fuel price, and of one last charging cost, in either order of arrival.
 use mathlib.Core.Path.{_≡_, refl}
 use mathlib.Core.List.{List, [], _∷_}
 use Prim.Native.Nat.{ℕ}
 use Rattle.fields.specs.Numbers.{number}
-use Rattle.records.specs.Table.{FU, table, rowOf}
+use Rattle.records.specs.Table.{FU, LC, table, rowOf}
 use Rattle.records.specs.Record.{markIn, mark, issue, keyIn, keyWidth, keyOf}
 use Rattle.station.specs.Current.{matches, better, currentFrom, current}
 
@@ -28,3 +28,21 @@ older-behind = refl
 other-key : current FU 2 (newer ∷ older ∷ []) ≡ []
 unfolding current currentFrom better matches mark markIn table rowOf issue keyOf keyWidth keyIn number older newer
 other-key = refl
+
+-- LC of 30.00 dollars, issue 6
+olderCost : List ℕ
+olderCost = 76 ∷ 67 ∷ 0 ∷ 0 ∷ 0 ∷ 6 ∷ 1 ∷ 201 ∷ 195 ∷ 128 ∷ []
+
+-- LC of 10.00 dollars, issue 7
+newerCost : List ℕ
+newerCost = 76 ∷ 67 ∷ 0 ∷ 0 ∷ 0 ∷ 7 ∷ 0 ∷ 152 ∷ 150 ∷ 128 ∷ []
+
+-- LC has no key, and an older one that arrives behind a newer one does not count, though it says more
+older-cost-behind : current LC 0 (newerCost ∷ olderCost ∷ []) ≡ newerCost
+unfolding current currentFrom better matches mark markIn table rowOf issue keyOf keyWidth keyIn number olderCost newerCost
+older-cost-behind = refl
+
+-- nor one that arrives before it
+older-cost-before : current LC 0 (olderCost ∷ newerCost ∷ []) ≡ newerCost
+unfolding current currentFrom better matches mark markIn table rowOf issue keyOf keyWidth keyIn number olderCost newerCost
+older-cost-before = refl

@@ -2,7 +2,7 @@
 use mathlib.Core.Bool.{Bool, cond}
 use mathlib.Core.List.{List}
 use Prim.Native.Nat.{ℕ, _+_, _*_, _≤_}
-use Rattle.records.specs.Table.{fieldOf, RS, HP, FU, AD, MM, RQ, HR, CH, TH, FP}
+use Rattle.records.specs.Table.{fieldOf, RS, HP, FU, AD, MM, RQ, HR, CH, TH, FP, LC}
 use Rattle.records.specs.Record.{isMoney, value}
 use Rattle.station.specs.Current.{current, present}
 
@@ -176,3 +176,9 @@ floor s c v = s .says TH (thresholdKey c v) 4
 -- cents per MWh, plus 2^31
 abbrev pub placePrice : Amounts → ℕ → ℕ
 placePrice m n = m .of FP n 1
+
+-- ---- LC
+
+-- the last charging cost that wasn't 0, micro-dollars per MWh
+abbrev pub lastCost : Amounts → ℕ
+lastCost m = m .of LC 0 0

@@ -11,7 +11,7 @@ use Rattle.lists.specs.Lists.{Each, also}
 use Rattle.fields.specs.Numbers.{number}
 use Rattle.records.specs.declared.Found.the-variants.{Record}
 use Rattle.records.specs.declared.Answer.the-variants.{Accepted, Refused}
-use Rattle.records.specs.Record.{mark, size, issue, fault}
+use Rattle.records.specs.Record.{mark, size, shortest, issue, fault}
 use Rattle.records.specs.Answers.{orElse, refuseIf}
 use Rattle.records.specs.Dossier.{firstOf, restOf, recordsIn, records, scan}
 use Rattle.records.specs.Walk.{found}
@@ -114,8 +114,7 @@ clean-found d p h kn ek en =
     let m = ek ∙ ap mark (tail d p) in
     rw (en, m, eq-eqb (fault (firstOf (drop p d))) 0 f) refl
 
--- a record has 11 bytes or more
-pub not-short : (d : List ℕ) (p : ℕ) {roots count : ℕ} {l ids : List ℕ} → p < length d → Known roots d l ids p count → length (take (length d - p) (drop p d)) < 11 → ⊥
+pub not-short : (d : List ℕ) (p : ℕ) {roots count : ℕ} {l ids : List ℕ} → p < length d → Known roots d l ids p count → length (take (length d - p) (drop p d)) < shortest → ⊥
 not-short d p h kn s =
     let e = clean-found d p h kn refl refl in
     omega (arith, long (drop p d) _ _ e, bounds d p _ _ e .1, simp (tail, length-drop) at s)

@@ -9,6 +9,7 @@ use lib.Dec.{ltb}
 use lib.ListN.{length, getD, set, length-set, replicate, length-replicate, getD-replicate, List·getD-eq-default}
 use lib.Seq.{getD-set-same, getD-set-other}
 use borrow.Author.Tests.{ltb-true, ltb-false}
+use Rattle.records.specs.Record.{shortest}
 use Rattle.twins.specs.Tree.{halves, place, node, Open, Shape, Fresh}
 use Rattle.twins.proofs.Root.{root-lt}
 
@@ -138,5 +139,5 @@ bare {n} {bytes} {l} ids f =
     zero-at a = ap (λ (m : List ℕ). getD m a 0) (f .none) ∙ go a (ltb a size) refl
 
 -- two cleared arrays hold such a tree
-pub fresh : (n nodes : ℕ) {bytes : ℕ} → 0 < n → n ≤ 65536 → nodes ≤ 65535 → bytes + 11 < 11 * nodes → Fresh n (replicate (n + 2 * nodes) 0) (length (replicate {A = ℕ} nodes 0)) bytes
+pub fresh : (n nodes : ℕ) {bytes : ℕ} → 0 < n → n ≤ 65536 → nodes ≤ 65535 → bytes + shortest < shortest * nodes → Fresh n (replicate (n + 2 * nodes) 0) (length (replicate {A = ℕ} nodes 0)) bytes
 fresh n nodes p q r s = rw length-replicate (record { some = p; few = q; none = refl; narrow = r; room = s })

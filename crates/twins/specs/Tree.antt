@@ -5,6 +5,7 @@ use mathlib.Core.Bool.{Bool, true, false}
 use mathlib.Core.List.{List}
 use Prim.Native.Nat.{ℕ, zero, suc, _+_, _*_, _/_, _%_, _≤_, _<_}
 use lib.ListN.{length, getD, set, replicate}
+use Rattle.records.specs.Record.{shortest}
 
 -- the upper and the lower half of an id, mixed
 abbrev pub mixed : ℕ → ℕ
@@ -48,7 +49,7 @@ pub record Fresh (n : ℕ) (l : List ℕ) (nodes bytes : ℕ) : Type 0 where
   pub few : n ≤ 65536
   pub none : l ≡ replicate (n + 2 * nodes) 0
   pub narrow : nodes ≤ 65535
-  pub room : bytes + 11 < 11 * nodes
+  pub room : bytes + shortest < shortest * nodes
 
 -- the way of an id ends at a node that has it, or at a gap, where a node is set for it
 pub data Entered (n : ℕ) (l ids : List ℕ) (count x : ℕ) (r : Bool) (l′ ids′ : List ℕ) : Type 0 where

@@ -49,7 +49,7 @@ fn search(d: &[u8], links: &mut [u16], ids: &mut [u64], roots: usize) -> Answer
     while at < d.len() {
         let rest = &d[at..];
         // never so: it tells the compiler that the bytes read below are there
-        if rest.len() < 11 {
+        if rest.len() < records::SHORTEST {
             return Answer::Accepted;
         }
         let s = index::reader::entry_at(rest);
@@ -72,8 +72,8 @@ fn in_1000(d: &[u8]) -> Answer
     requires { ⌜ (length (now d) ≤ 1000) × (scan 0 (records (now d)) ≡ Accepted) ⌝ }
     ensures { λ r. ⌜ r ≡ twins 0 [] (records (now (d .entry))) ⌝ }
 {
-    let mut links = [0u16; 440];
-    let mut ids = [0u64; 92];
+    let mut links = [0u16; 460];
+    let mut ids = [0u64; 102];
     search(d, &mut links, &mut ids, 256)
 }
 
@@ -82,8 +82,8 @@ fn in_4000(d: &[u8]) -> Answer
     requires { ⌜ (length (now d) ≤ 4000) × (scan 0 (records (now d)) ≡ Accepted) ⌝ }
     ensures { λ r. ⌜ r ≡ twins 0 [] (records (now (d .entry))) ⌝ }
 {
-    let mut links = [0u16; 1754];
-    let mut ids = [0u64; 365];
+    let mut links = [0u16; 1828];
+    let mut ids = [0u64; 402];
     search(d, &mut links, &mut ids, 1024)
 }
 
@@ -92,8 +92,8 @@ fn in_16000(d: &[u8]) -> Answer
     requires { ⌜ (length (now d) ≤ 16000) × (scan 0 (records (now d)) ≡ Accepted) ⌝ }
     ensures { λ r. ⌜ r ≡ twins 0 [] (records (now (d .entry))) ⌝ }
 {
-    let mut links = [0u16; 7008];
-    let mut ids = [0u64; 1456];
+    let mut links = [0u16; 7300];
+    let mut ids = [0u64; 1602];
     search(d, &mut links, &mut ids, 4096)
 }
 
@@ -102,8 +102,8 @@ fn in_60000(d: &[u8]) -> Answer
     requires { ⌜ (length (now d) ≤ 60000) × (scan 0 (records (now d)) ≡ Accepted) ⌝ }
     ensures { λ r. ⌜ r ≡ twins 0 [] (records (now (d .entry))) ⌝ }
 {
-    let mut links = [0u16; 27296];
-    let mut ids = [0u64; 5456];
+    let mut links = [0u16; 28388];
+    let mut ids = [0u64; 6002];
     search(d, &mut links, &mut ids, 16384)
 }
 

@@ -18,11 +18,11 @@ slot-ad-requires : tie.Need-slot-ad-requires
 slot-ad-requires c κs = search needs
 
 part-at-requires : tie.Need-part-at-requires
-part-at-requires c κs = (slot-fits _ _ (c .before .before .before .pre .0) 4 _ (lit< tt) (key _ _ _ (c .before .before .before .pre .1) (c .before .before .before .pre .2) (c .before .before .before .pre .3) (c .before .before .before .pre .4) (c .before .before .before .pre .5) (c .before .before .before .pre .6)) (c .slot-ad .ensures), search needs)
+part-at-requires c κs = (slot-fits _ _ (c .before .before .before .pre .0) 4 _ refl (key _ _ _ (c .before .before .before .pre .1) (c .before .before .before .pre .2) (c .before .before .before .pre .3) (c .before .before .before .pre .4) (c .before .before .before .pre .5) (c .before .before .before .pre .6)) (c .slot-ad .ensures), search needs)
 
 returns : tie.Need-returns
 unfolding size widths rowOf table
-returns c = c .part-at .ensures ∙ part-found _ _ (c .before .before .before .before .pre .0) 4 _ (lit< tt) (key _ _ _ (c .before .before .before .before .pre .1) (c .before .before .before .before .pre .2) (c .before .before .before .before .pre .3) (c .before .before .before .before .pre .4) (c .before .before .before .before .pre .5) (c .before .before .before .before .pre .6)) (c .before .slot-ad .ensures) refl
+returns c = c .part-at .ensures ∙ part-found _ _ (c .before .before .before .before .pre .0) 4 _ refl (key _ _ _ (c .before .before .before .before .pre .1) (c .before .before .before .before .pre .2) (c .before .before .before .before .pre .3) (c .before .before .before .before .pre .4) (c .before .before .before .before .pre .5) (c .before .before .before .before .pre .6)) (c .before .slot-ad .ensures) refl
 
 pub ad-spec : {M : Type 1} → statement M
 ad-spec = tie.close (tie.spec slot-ad-requires part-at-requires returns)

@@ -18,11 +18,11 @@ slot-fu-requires : tie.Need-slot-fu-requires
 slot-fu-requires c κs = search needs
 
 part-at-requires : tie.Need-part-at-requires
-part-at-requires c κs = (slot-fits _ _ (c .before .before .before .pre .0) 3 _ (lit< tt) (key _ (c .before .before .before .pre .1) (c .before .before .before .pre .2)) (c .slot-fu .ensures), search needs)
+part-at-requires c κs = (slot-fits _ _ (c .before .before .before .pre .0) 3 _ refl (key _ (c .before .before .before .pre .1) (c .before .before .before .pre .2)) (c .slot-fu .ensures), search needs)
 
 returns : tie.Need-returns
 unfolding size widths rowOf table
-returns c = c .part-at .ensures ∙ part-found _ _ (c .before .before .before .before .pre .0) 3 _ (lit< tt) (key _ (c .before .before .before .before .pre .1) (c .before .before .before .before .pre .2)) (c .before .slot-fu .ensures) refl
+returns c = c .part-at .ensures ∙ part-found _ _ (c .before .before .before .before .pre .0) 3 _ refl (key _ (c .before .before .before .before .pre .1) (c .before .before .before .before .pre .2)) (c .before .slot-fu .ensures) refl
 
 pub fu-spec : {M : Type 1} → statement M
 fu-spec = tie.close (tie.spec slot-fu-requires part-at-requires returns)

@@ -18,11 +18,11 @@ slot-hp-requires : tie.Need-slot-hp-requires
 slot-hp-requires c κs = search needs
 
 part-at-requires : tie.Need-part-at-requires
-part-at-requires c κs = (slot-fits _ _ (c .before .before .before .pre .0) 2 _ (lit< tt) (key _ (c .before .before .before .pre .1) (c .before .before .before .pre .2)) (c .slot-hp .ensures), search needs)
+part-at-requires c κs = (slot-fits _ _ (c .before .before .before .pre .0) 2 _ refl (key _ (c .before .before .before .pre .1) (c .before .before .before .pre .2)) (c .slot-hp .ensures), search needs)
 
 returns : tie.Need-returns
 unfolding size widths rowOf table
-returns c = c .part-at .ensures ∙ part-found _ _ (c .before .before .before .before .pre .0) 2 _ (lit< tt) (key _ (c .before .before .before .before .pre .1) (c .before .before .before .before .pre .2)) (c .before .slot-hp .ensures) refl
+returns c = c .part-at .ensures ∙ part-found _ _ (c .before .before .before .before .pre .0) 2 _ refl (key _ (c .before .before .before .before .pre .1) (c .before .before .before .before .pre .2)) (c .before .slot-hp .ensures) refl
 
 pub hp-spec : {M : Type 1} → statement M
 hp-spec = tie.close (tie.spec slot-hp-requires part-at-requires returns)

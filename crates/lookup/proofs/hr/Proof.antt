@@ -18,11 +18,11 @@ slot-hr-requires : tie.Need-slot-hr-requires
 slot-hr-requires c κs = search needs
 
 part-at-requires : tie.Need-part-at-requires
-part-at-requires c κs = (slot-fits _ _ (c .before .before .before .pre .0) 7 _ (lit< tt) (key _ (c .before .before .before .pre .1) (c .before .before .before .pre .2)) (c .slot-hr .ensures), search needs)
+part-at-requires c κs = (slot-fits _ _ (c .before .before .before .pre .0) 7 _ refl (key _ (c .before .before .before .pre .1) (c .before .before .before .pre .2)) (c .slot-hr .ensures), search needs)
 
 returns : tie.Need-returns
 unfolding size widths rowOf table
-returns c = c .part-at .ensures ∙ part-found _ _ (c .before .before .before .before .pre .0) 7 _ (lit< tt) (key _ (c .before .before .before .before .pre .1) (c .before .before .before .before .pre .2)) (c .before .slot-hr .ensures) refl
+returns c = c .part-at .ensures ∙ part-found _ _ (c .before .before .before .before .pre .0) 7 _ refl (key _ (c .before .before .before .before .pre .1) (c .before .before .before .before .pre .2)) (c .before .slot-hr .ensures) refl
 
 pub hr-spec : {M : Type 1} → statement M
 hr-spec = tie.close (tie.spec slot-hr-requires part-at-requires returns)

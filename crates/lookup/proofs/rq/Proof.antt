@@ -11,11 +11,11 @@ slot-rq-requires : tie.Need-slot-rq-requires
 slot-rq-requires c κs = search needs
 
 part-at-requires : tie.Need-part-at-requires
-part-at-requires c κs = (slot-fits _ _ (c .before .before .before .pre .0) 6 _ (lit< tt) (request-key _ (c .before .before .before .pre .1) (c .before .before .before .pre .2)) (c .slot-rq .ensures), search needs)
+part-at-requires c κs = (slot-fits _ _ (c .before .before .before .pre .0) 6 _ refl (request-key _ (c .before .before .before .pre .1) (c .before .before .before .pre .2)) (c .slot-rq .ensures), search needs)
 
 returns : tie.Need-returns
 unfolding size widths rowOf table
-returns c = c .part-at .ensures ∙ part-found _ _ (c .before .before .before .before .pre .0) 6 _ (lit< tt) (request-key _ (c .before .before .before .before .pre .1) (c .before .before .before .before .pre .2)) (c .before .slot-rq .ensures) refl
+returns c = c .part-at .ensures ∙ part-found _ _ (c .before .before .before .before .pre .0) 6 _ refl (request-key _ (c .before .before .before .before .pre .1) (c .before .before .before .before .pre .2)) (c .before .slot-rq .ensures) refl
 
 pub rq-spec : {M : Type 1} → statement M
 rq-spec = tie.close (tie.spec slot-rq-requires part-at-requires returns)

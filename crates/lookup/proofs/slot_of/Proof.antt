@@ -1,5 +1,6 @@
 use mathlib.Core.Path.{refl}
 use native.Mathlib.Omega.{arith}
+use Rattle.index.specs.Slots.{slot}
 use Rattle.lookup.proofs.Parts.{slot-kind, slot-none}
 use borrow.Author.Needs.{needs}
 use Rattle.lookup.proofs.slot_of.Statement.{statement}
@@ -59,8 +60,15 @@ slot-fp-requires c κs = search needs
 returns-9 : tie.Need-returns-9
 returns-9 c = slot-kind (c .slot-fp .ensures) refl (c .before .if9 .taken)
 
+slot-lc-requires : tie.Need-slot-lc-requires
+slot-lc-requires c κs = search needs
+
 returns-10 : tie.Need-returns-10
-returns-10 c = slot-none _ _ (c .before .before .before .before .before .before .before .before .before .pre .1) (c .before .before .before .before .before .before .before .before .if1 .left) (c .before .before .before .before .before .before .before .if2 .left) (c .before .before .before .before .before .before .if3 .left) (c .before .before .before .before .before .if4 .left) (c .before .before .before .before .if5 .left) (c .before .before .before .if6 .left) (c .before .before .if7 .left) (c .before .if8 .left) (c .if9 .left)
+unfolding slot
+returns-10 c = slot-kind (c .slot-lc .ensures) refl (c .before .if10 .taken)
+
+returns-11 : tie.Need-returns-11
+returns-11 c = slot-none _ _ (c .before .before .before .before .before .before .before .before .before .before .pre .1) (c .before .before .before .before .before .before .before .before .before .if1 .left) (c .before .before .before .before .before .before .before .before .if2 .left) (c .before .before .before .before .before .before .before .if3 .left) (c .before .before .before .before .before .before .if4 .left) (c .before .before .before .before .before .if5 .left) (c .before .before .before .before .if6 .left) (c .before .before .before .if7 .left) (c .before .before .if8 .left) (c .before .if9 .left) (c .if10 .left)
 
 pub slot-of-spec : {M : Type 1} → statement M
 slot-of-spec =
@@ -84,4 +92,6 @@ slot-of-spec =
     returns-8
     slot-fp-requires
     returns-9
-    returns-10)
+    slot-lc-requires
+    returns-10
+    returns-11)

@@ -76,9 +76,17 @@ returns-10 : tie.Need-returns-10
 unfolding markIn table
 returns-10 c = sym (begun 82 83 _ (sym (c .before .is-mark10 .ensures) ∙ c .if10 .taken))
 
+is-mark-requires-11 : tie.Need-is-mark-requires-11
+is-mark-requires-11 c κs = search needs
+
 returns-11 : tie.Need-returns-11
-returns-11 c =
-    let c9 = c .before .before .before in
+unfolding markIn table
+returns-11 c = sym (begun 76 67 _ (sym (c .before .is-mark11 .ensures) ∙ c .if11 .taken))
+
+returns-12 : tie.Need-returns-12
+returns-12 c =
+    let c10 = c .before .before .before in
+    let c9 = c10 .before .before .before in
     let c8 = c9 .before .before .before in
     let c7 = c8 .before .before .before in
     let c6 = c7 .before .before .before in
@@ -87,7 +95,7 @@ returns-11 c =
     let c3 = c4 .before .before .before in
     let c2 = c3 .before .before .before in
     let c1 = c2 .before .before .before in
-    sym (no-mark _ (sym (c .before .is-mark10 .ensures) ∙ c .if10 .left) (sym (c2 .before .is-mark2 .ensures) ∙ c2 .if2 .left) (sym (c6 .before .is-mark6 .ensures) ∙ c6 .if6 .left) (sym (c7 .before .is-mark7 .ensures) ∙ c7 .if7 .left) (sym (c8 .before .is-mark8 .ensures) ∙ c8 .if8 .left) (sym (c9 .before .is-mark9 .ensures) ∙ c9 .if9 .left) (sym (c4 .before .is-mark4 .ensures) ∙ c4 .if4 .left) (sym (c1 .before .is-mark .ensures) ∙ c1 .if1 .left) (sym (c3 .before .is-mark3 .ensures) ∙ c3 .if3 .left) (sym (c5 .before .is-mark5 .ensures) ∙ c5 .if5 .left))
+    sym (no-mark _ (sym (c10 .before .is-mark10 .ensures) ∙ c10 .if10 .left) (sym (c2 .before .is-mark2 .ensures) ∙ c2 .if2 .left) (sym (c6 .before .is-mark6 .ensures) ∙ c6 .if6 .left) (sym (c7 .before .is-mark7 .ensures) ∙ c7 .if7 .left) (sym (c8 .before .is-mark8 .ensures) ∙ c8 .if8 .left) (sym (c9 .before .is-mark9 .ensures) ∙ c9 .if9 .left) (sym (c4 .before .is-mark4 .ensures) ∙ c4 .if4 .left) (sym (c1 .before .is-mark .ensures) ∙ c1 .if1 .left) (sym (c3 .before .is-mark3 .ensures) ∙ c3 .if3 .left) (sym (c5 .before .is-mark5 .ensures) ∙ c5 .if5 .left) (sym (c .before .is-mark11 .ensures) ∙ c .if11 .left))
 
 pub kind-at-spec : {M : Type 1} → statement M
 kind-at-spec =
@@ -113,4 +121,6 @@ kind-at-spec =
     returns-9
     is-mark-requires-10
     returns-10
-    returns-11)
+    is-mark-requires-11
+    returns-11
+    returns-12)

@@ -1,4 +1,4 @@
--- The invariant: at most a record for each 11 bytes, and what is known at `at`. The measure: what is left of the dossier.
+-- The invariant: at most a record for each `shortest` bytes, and what is known at `at`. The measure: what is left of the dossier.
 use borrow.Author.Needs.{needs}
 use native.Mathlib.Omega.{arith}
 use mathlib.Core.Path.{_≡_, refl, ap}
@@ -6,7 +6,7 @@ use mathlib.Core.List.{List}
 use Prim.Native.Nat.{ℕ, _≤_, _<_, _-_, _+_, _*_}
 use lib.ListN.{length, drop, take}
 use Rattle.records.specs.declared.Found.the-variants.{Record}
-use Rattle.records.specs.Record.{mark}
+use Rattle.records.specs.Record.{mark, shortest}
 use Rattle.records.specs.Walk.{found}
 use Rattle.index.specs.Slots.{slotAt, wide}
 use Rattle.index.proofs.Turn.{bounds, below, long}
@@ -16,7 +16,7 @@ use Rattle.twins.proofs.search.Statement.{statement}
 use Rattle.twins.proofs.search.Tie as tie
 
 abbrev Inv-loop : tie.InvT-loop
-Inv-loop d links₀ ids₀ roots at₀ count₀ links ids at count = (at ≤ length d) × (11 * count ≤ at) × (length links ≡ length links₀) × (length ids ≡ length ids₀) × Known roots d links ids at count
+Inv-loop d links₀ ids₀ roots at₀ count₀ links ids at count = (at ≤ length d) × (shortest * count ≤ at) × (length links ≡ length links₀) × (length ids ≡ length ids₀) × Known roots d links ids at count
 
 abbrev μ-loop : tie.MeasureT-loop
 μ-loop d links₀ ids₀ roots at₀ count₀ links ids at count = length d - at
@@ -56,7 +56,7 @@ slot-fits : (c : Turn) → c .entry-at .result .slot < wide
 slot-fits c = below (d-of c) (at-of c) _ _ (its-found c) (its-slot c)
 
 -- it is within the dossier, and there is room for it
-its : (c : Turn) → (11 ≤ len-of c) × (len-of c ≤ length (d-of c) - at-of c) × (11 * At c .loop .count ≤ at-of c) × (length (d-of c) + 11 < 11 * length (At c .loop .ids)) × (length (At c .loop .ids) ≤ 65535)
+its : (c : Turn) → (shortest ≤ len-of c) × (len-of c ≤ length (d-of c) - at-of c) × (shortest * At c .loop .count ≤ at-of c) × (length (d-of c) + shortest < shortest * length (At c .loop .ids)) × (length (At c .loop .ids) ≤ 65535)
 its c = (
   long (drop (at-of c) (d-of c)) _ _ (its-found c),
   bounds (d-of c) (at-of c) _ _ (its-found c) .1,

@@ -1,8 +1,7 @@
 use mathlib.Core.Path.{sym, _∙_}
-use Rattle.records.specs.Table.{table, rowOf}
-use Rattle.records.specs.Record.{markIn, widths, size, keyIn, keyWidth}
-use Rattle.records.proofs.Read.{begun, no-mark}
-use Rattle.index.specs.Slots.{slot, slotAt}
+use Rattle.records.specs.Table.{table}
+use Rattle.records.specs.Record.{markIn}
+use Rattle.records.proofs.Read.{begun, no-key}
 use Rattle.index.proofs.Entries.{entry-as}
 use borrow.Author.Needs.{needs}
 use Rattle.index.proofs.reader.entry_at.Statement.{statement}
@@ -98,21 +97,9 @@ returns-9 : tie.Need-returns-9
 unfolding markIn table
 returns-9 c = c .entry-rq .ensures ∙ entry-as _ (begun 82 81 _ (sym (c .before .before .is-mark9 .ensures) ∙ c .before .if9 .taken))
 
-is-mark-requires-10 : tie.Need-is-mark-requires-10
-is-mark-requires-10 c κs = search needs
-
-entry-rs-requires : tie.Need-entry-rs-requires
-entry-rs-requires c κs = search needs
-
-returns-10 : tie.Need-returns-10
-unfolding markIn table
-returns-10 c = c .entry-rs .ensures ∙ entry-as _ (begun 82 83 _ (sym (c .before .before .is-mark10 .ensures) ∙ c .before .if10 .taken))
-
-returns-11 : tie.Need-returns-11
-unfolding slot slotAt size widths keyWidth keyIn rowOf table
-returns-11 c =
-    let c9 = c .before .before .before in
-    let c8 = c9 .before .before .before in
+entry-keyless-requires : tie.Need-entry-keyless-requires
+entry-keyless-requires c κs =
+    let c8 = c .before .before .before in
     let c7 = c8 .before .before .before in
     let c6 = c7 .before .before .before in
     let c5 = c6 .before .before .before in
@@ -120,7 +107,10 @@ returns-11 c =
     let c3 = c4 .before .before .before in
     let c2 = c3 .before .before .before in
     let c1 = c2 .before .before .before in
-    entry-as {k = 0} _ (no-mark _ (sym (c .before .is-mark10 .ensures) ∙ c .if10 .left) (sym (c2 .before .is-mark2 .ensures) ∙ c2 .if2 .left) (sym (c6 .before .is-mark6 .ensures) ∙ c6 .if6 .left) (sym (c7 .before .is-mark7 .ensures) ∙ c7 .if7 .left) (sym (c8 .before .is-mark8 .ensures) ∙ c8 .if8 .left) (sym (c9 .before .is-mark9 .ensures) ∙ c9 .if9 .left) (sym (c4 .before .is-mark4 .ensures) ∙ c4 .if4 .left) (sym (c1 .before .is-mark .ensures) ∙ c1 .if1 .left) (sym (c3 .before .is-mark3 .ensures) ∙ c3 .if3 .left) (sym (c5 .before .is-mark5 .ensures) ∙ c5 .if5 .left))
+    no-key _ (sym (c2 .before .is-mark2 .ensures) ∙ c2 .if2 .left) (sym (c6 .before .is-mark6 .ensures) ∙ c6 .if6 .left) (sym (c7 .before .is-mark7 .ensures) ∙ c7 .if7 .left) (sym (c8 .before .is-mark8 .ensures) ∙ c8 .if8 .left) (sym (c .before .is-mark9 .ensures) ∙ c .if9 .left) (sym (c4 .before .is-mark4 .ensures) ∙ c4 .if4 .left) (sym (c1 .before .is-mark .ensures) ∙ c1 .if1 .left) (sym (c3 .before .is-mark3 .ensures) ∙ c3 .if3 .left) (sym (c5 .before .is-mark5 .ensures) ∙ c5 .if5 .left)
+
+returns-10 : tie.Need-returns-10
+returns-10 c = c .entry-keyless .ensures
 
 pub entry-at-spec : {M : Type 1} → statement M
 entry-at-spec =
@@ -153,7 +143,5 @@ entry-at-spec =
     is-mark-requires-9
     entry-rq-requires
     returns-9
-    is-mark-requires-10
-    entry-rs-requires
-    returns-10
-    returns-11)
+    entry-keyless-requires
+    returns-10)

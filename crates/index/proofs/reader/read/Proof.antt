@@ -1,8 +1,8 @@
 use mathlib.Core.Path.{refl, sym, _∙_}
 use Rattle.records.specs.Table.{table}
 use Rattle.records.specs.Record.{markIn}
-use Rattle.records.proofs.Read.{no-mark}
-use Rattle.index.proofs.Entries.{reading-short, reading-as, reading-unknown}
+use Rattle.records.proofs.Read.{no-key}
+use Rattle.index.proofs.Entries.{reading-short, reading-as}
 use borrow.Author.Needs.{needs}
 use Rattle.index.proofs.reader.read.Statement.{statement}
 use Rattle.index.proofs.reader.read.Tie as tie
@@ -100,20 +100,9 @@ returns-10 : tie.Need-returns-10
 unfolding markIn table
 returns-10 c = c .read-rq .ensures ∙ reading-as 82 81 6 _ refl refl (c .before .before .before .before .before .before .before .before .before .before .before .before .before .before .before .before .before .before .before .before .before .before .before .before .before .before .before .before .if1 .left) (sym (c .before .before .is-mark9 .ensures) ∙ c .before .if10 .taken)
 
-is-mark-requires-10 : tie.Need-is-mark-requires-10
-is-mark-requires-10 c κs = search needs
-
-read-rs-requires : tie.Need-read-rs-requires
-read-rs-requires c κs = search needs
-
-returns-11 : tie.Need-returns-11
-unfolding markIn table
-returns-11 c = c .read-rs .ensures ∙ reading-as 82 83 1 _ refl refl (c .before .before .before .before .before .before .before .before .before .before .before .before .before .before .before .before .before .before .before .before .before .before .before .before .before .before .before .before .before .before .before .if1 .left) (sym (c .before .before .is-mark10 .ensures) ∙ c .before .if11 .taken)
-
-returns-12 : tie.Need-returns-12
-returns-12 c =
-    let c9 = c .before .before .before in
-    let c8 = c9 .before .before .before in
+read-keyless-requires : tie.Need-read-keyless-requires
+read-keyless-requires c κs =
+    let c8 = c .before .before .before in
     let c7 = c8 .before .before .before in
     let c6 = c7 .before .before .before in
     let c5 = c6 .before .before .before in
@@ -121,7 +110,10 @@ returns-12 c =
     let c3 = c4 .before .before .before in
     let c2 = c3 .before .before .before in
     let c1 = c2 .before .before .before in
-    reading-unknown _ (c1 .before .before .before .if1 .left) (no-mark _ (sym (c .before .is-mark10 .ensures) ∙ c .if11 .left) (sym (c2 .before .is-mark2 .ensures) ∙ c2 .if3 .left) (sym (c6 .before .is-mark6 .ensures) ∙ c6 .if7 .left) (sym (c7 .before .is-mark7 .ensures) ∙ c7 .if8 .left) (sym (c8 .before .is-mark8 .ensures) ∙ c8 .if9 .left) (sym (c9 .before .is-mark9 .ensures) ∙ c9 .if10 .left) (sym (c4 .before .is-mark4 .ensures) ∙ c4 .if5 .left) (sym (c1 .before .is-mark .ensures) ∙ c1 .if2 .left) (sym (c3 .before .is-mark3 .ensures) ∙ c3 .if4 .left) (sym (c5 .before .is-mark5 .ensures) ∙ c5 .if6 .left))
+    (c1 .before .before .before .if1 .left, no-key _ (sym (c2 .before .is-mark2 .ensures) ∙ c2 .if3 .left) (sym (c6 .before .is-mark6 .ensures) ∙ c6 .if7 .left) (sym (c7 .before .is-mark7 .ensures) ∙ c7 .if8 .left) (sym (c8 .before .is-mark8 .ensures) ∙ c8 .if9 .left) (sym (c .before .is-mark9 .ensures) ∙ c .if10 .left) (sym (c4 .before .is-mark4 .ensures) ∙ c4 .if5 .left) (sym (c1 .before .is-mark .ensures) ∙ c1 .if2 .left) (sym (c3 .before .is-mark3 .ensures) ∙ c3 .if4 .left) (sym (c5 .before .is-mark5 .ensures) ∙ c5 .if6 .left))
+
+returns-11 : tie.Need-returns-11
+returns-11 c = c .read-keyless .ensures
 
 pub read-spec : {M : Type 1} → statement M
 read-spec =
@@ -155,7 +147,5 @@ read-spec =
     is-mark-requires-9
     read-rq-requires
     returns-10
-    is-mark-requires-10
-    read-rs-requires
-    returns-11
-    returns-12)
+    read-keyless-requires
+    returns-11)

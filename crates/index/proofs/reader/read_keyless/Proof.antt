@@ -1,0 +1,46 @@
+use mathlib.Core.Path.{refl, sym, _∙_}
+use Rattle.records.specs.Table.{table}
+use Rattle.records.specs.Record.{markIn}
+use Rattle.records.proofs.Read.{keyless-unknown}
+use Rattle.index.proofs.Entries.{reading-as, reading-unknown}
+use borrow.Author.Needs.{needs}
+use Rattle.index.proofs.reader.read_keyless.Statement.{statement}
+use Rattle.index.proofs.reader.read_keyless.Tie as tie
+
+is-mark-requires : tie.Need-is-mark-requires
+is-mark-requires c κs = search needs
+
+read-rs-requires : tie.Need-read-rs-requires
+read-rs-requires c κs = search needs
+
+returns : tie.Need-returns
+unfolding markIn table
+returns c = c .read-rs .ensures ∙ reading-as 82 83 1 _ refl refl (c .before .before .before .before .before .pre .0) (sym (c .before .before .is-mark .ensures) ∙ c .before .if1 .taken)
+
+is-mark-requires-2 : tie.Need-is-mark-requires-2
+is-mark-requires-2 c κs = search needs
+
+read-lc-requires : tie.Need-read-lc-requires
+read-lc-requires c κs = search needs
+
+returns-2 : tie.Need-returns-2
+unfolding markIn table
+returns-2 c = c .read-lc .ensures ∙ reading-as 76 67 11 _ refl refl (c .before .before .before .before .before .before .before .before .pre .0) (sym (c .before .before .is-mark2 .ensures) ∙ c .before .if2 .taken)
+
+returns-3 : tie.Need-returns-3
+returns-3 c =
+    let c1 = c .before .before .before in
+    let p = c1 .before .before .before .before .pre in
+    reading-unknown _ (p .0) (keyless-unknown _ (p .1) (sym (c1 .before .is-mark .ensures) ∙ c1 .if1 .left) (sym (c .before .is-mark2 .ensures) ∙ c .if2 .left))
+
+pub read-keyless-spec : {M : Type 1} → statement M
+read-keyless-spec =
+    tie.close
+    (tie.spec
+    is-mark-requires
+    read-rs-requires
+    returns
+    is-mark-requires-2
+    read-lc-requires
+    returns-2
+    returns-3)
