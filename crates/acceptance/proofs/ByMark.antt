@@ -5,13 +5,15 @@ use mathlib.Core.List.{List, [], _∷_}
 use Prim.Native.Nat.{ℕ, zero, suc, _/_, _%_, _≤_, _<_}
 use native.Mathlib.Omega.{arith}
 use lib.Dec.{ltb, eqb, lit<}
-use borrow.Author.Tests.{ne-eqb, eqb-true}
+use borrow.Author.Tests.{ne-eqb, eqb-true, eqb-false}
 use Rattle.lists.specs.Tests.{allBelow, among, between}
 use Rattle.lists.proofs.Tests.{and-true, split, between-low, between-high}
 use Rattle.fields.specs.Numbers.{number}
 use Rattle.records.specs.Table.{table, rowOf, fieldOf, kinds}
-use Rattle.records.specs.Record.{mark, size, offsetIn, offset, read, value, inRange, rangesHold}
+use Rattle.records.specs.Record.{mark, size, keyIn, keyWidth, offsetIn, offset, read, value, inRange, rangesHold}
 use Rattle.records.proofs.Record.{field-in}
+use Rattle.index.proofs.Slots.{by-mark}
+use Rattle.acceptance.specs.declared.Tried.{Tried}
 use Rattle.acceptance.specs.Fit.{levelsOf, holds, fieldFits, ruleFits, fits}
 use Rattle.acceptance.specs.Looked.{Known, tried, triedAs}
 
@@ -108,6 +110,10 @@ module _ (t : ℕ) (s : List ℕ) (known : Known t) where
   unfolding fits ruleFits fieldFits allBelow among value read offset offsetIn fieldOf rowOf table
   fits-fp = by-technology (λ t. eqb t 4 ≡ fits t 10 s) refl refl refl refl t known
 
+  pub fits-lc : eqb t 3 ≡ fits t 11 s
+  unfolding fits ruleFits fieldFits allBelow among value read offset offsetIn fieldOf rowOf table
+  fits-lc = by-technology (λ t. eqb t 3 ≡ fits t 11 s) refl refl refl refl t known
+
   pub fits-th : holds t (number 7 1 s) ≡ fits t 9 s
   unfolding fits ruleFits fieldFits allBelow among value read offset offsetIn fieldOf rowOf table
   fits-th = by-technology (λ t. holds t (number 7 1 s) ≡ fits t 9 s) refl refl refl refl t known
@@ -120,23 +126,32 @@ module _ (t : ℕ) (s : List ℕ) (known : Known t) where
   unfolding fits ruleFits fieldFits allBelow among value read offset offsetIn fieldOf rowOf table
   fits-rq = by-technology (λ t. true ≡ fits t 6 s) refl refl refl refl t known
 
--- a record whose mark was read
-pub at-mark : (t k m n : ℕ) (s : List ℕ) {b : Bool} → size m ≡ n → b ≡ fits t m s → k ≡ mark s → k ≡ m → tried n b ≡ triedAs t (mark s) s
-at-mark t k m n s z e p q = ap₂ tried (sym z) e ∙ ap (λ (x : ℕ). triedAs t x s) (sym q ∙ p)
+-- a record of kind m
+pub at-kind : (t k m n : ℕ) (s : List ℕ) {b : Bool} → size m ≡ n → b ≡ fits t m s → k ≡ m → tried n b ≡ triedAs t k s
+at-kind t k m n s z e q = ap₂ tried (sym z) e ∙ ap (λ (x : ℕ). triedAs t x s) (sym q)
 
-pub no-mark : (k : ℕ) → (k ≡ 1 → ⊥) → (k ≡ 2 → ⊥) → (k ≡ 3 → ⊥) → (k ≡ 4 → ⊥) → (k ≡ 5 → ⊥) → (k ≡ 6 → ⊥) → (k ≡ 7 → ⊥) → (k ≡ 8 → ⊥) → (k ≡ 9 → ⊥) → (k ≡ 10 → ⊥) → k < kinds → k ≡ 0
-no-mark zero a1 a2 a3 a4 a5 a6 a7 a8 a9 a10 h = refl
-no-mark (suc zero) a1 a2 a3 a4 a5 a6 a7 a8 a9 a10 h = absurd (a1 refl)
-no-mark (suc (suc zero)) a1 a2 a3 a4 a5 a6 a7 a8 a9 a10 h = absurd (a2 refl)
-no-mark (suc (suc (suc zero))) a1 a2 a3 a4 a5 a6 a7 a8 a9 a10 h = absurd (a3 refl)
-no-mark (suc (suc (suc (suc zero)))) a1 a2 a3 a4 a5 a6 a7 a8 a9 a10 h = absurd (a4 refl)
-no-mark (suc (suc (suc (suc (suc zero))))) a1 a2 a3 a4 a5 a6 a7 a8 a9 a10 h = absurd (a5 refl)
-no-mark (suc (suc (suc (suc (suc (suc zero)))))) a1 a2 a3 a4 a5 a6 a7 a8 a9 a10 h = absurd (a6 refl)
-no-mark (suc (suc (suc (suc (suc (suc (suc zero))))))) a1 a2 a3 a4 a5 a6 a7 a8 a9 a10 h = absurd (a7 refl)
-no-mark (suc (suc (suc (suc (suc (suc (suc (suc zero)))))))) a1 a2 a3 a4 a5 a6 a7 a8 a9 a10 h = absurd (a8 refl)
-no-mark (suc (suc (suc (suc (suc (suc (suc (suc (suc zero))))))))) a1 a2 a3 a4 a5 a6 a7 a8 a9 a10 h = absurd (a9 refl)
-no-mark (suc (suc (suc (suc (suc (suc (suc (suc (suc (suc zero)))))))))) a1 a2 a3 a4 a5 a6 a7 a8 a9 a10 h = absurd (a10 refl)
-no-mark (suc (suc (suc (suc (suc (suc (suc (suc (suc (suc (suc k))))))))))) a1 a2 a3 a4 a5 a6 a7 a8 a9 a10 h = absurd (omega arith)
+-- whose mark was read
+pub of-mark : (t : ℕ) (s : List ℕ) {k : ℕ} {r : Tried} → r ≡ triedAs t k s → k ≡ mark s → r ≡ triedAs t (mark s) s
+of-mark t s e p = e ∙ ap (λ (x : ℕ). triedAs t x s) p
+
+pub at-mark : (t k m n : ℕ) (s : List ℕ) {b : Bool} → size m ≡ n → b ≡ fits t m s → k ≡ mark s → k ≡ m → tried n b ≡ triedAs t (mark s) s
+at-mark t k m n s z e p q = of-mark t s (at-kind t k m n s z e q) p
+
+-- what none of the marks with a key is has no key
+pub no-key : (k : ℕ) → k < kinds → (k ≡ 2 → ⊥) → (k ≡ 3 → ⊥) → (k ≡ 4 → ⊥) → (k ≡ 5 → ⊥) → (k ≡ 6 → ⊥) → (k ≡ 7 → ⊥) → (k ≡ 8 → ⊥) → (k ≡ 9 → ⊥) → (k ≡ 10 → ⊥) → keyWidth k ≡ 0
+unfolding keyWidth keyIn rowOf table
+no-key k l a b c d e f g h i =
+    split (eqb k 0)
+    (λ z. rw (eqb-true k 0 z) refl)
+    (λ z. by-mark (λ j. k ≡ j → keyWidth j ≡ 0) (λ w. refl) (λ w. absurd (a w)) (λ w. absurd (b w)) (λ w. absurd (c w)) (λ w. absurd (d w)) (λ w. absurd (e w)) (λ w. absurd (f w)) (λ w. absurd (g w)) (λ w. absurd (h w)) (λ w. absurd (i w)) (λ w. refl) k (eqb-false k 0 z) l refl)
+
+-- a mark without a key that is not RS's and not LC's is none
+pub keyless-none : (k : ℕ) → k < kinds → keyWidth k ≡ 0 → (k ≡ 1 → ⊥) → (k ≡ 11 → ⊥) → k ≡ 0
+unfolding keyWidth keyIn rowOf table
+keyless-none k l w a b =
+    split (eqb k 0)
+    (λ z. eqb-true k 0 z)
+    (λ z. absurd (by-mark (λ j. k ≡ j → keyWidth j ≡ 0 → ⊥) (λ e x. a e) (λ e x. omega (arith, x)) (λ e x. omega (arith, x)) (λ e x. omega (arith, x)) (λ e x. omega (arith, x)) (λ e x. omega (arith, x)) (λ e x. omega (arith, x)) (λ e x. omega (arith, x)) (λ e x. omega (arith, x)) (λ e x. omega (arith, x)) (λ e x. b e) k (eqb-false k 0 z) l refl w))
 
 -- ---- a thermal station has every level, so AD fits unless its cost is 5, and TH fits
 

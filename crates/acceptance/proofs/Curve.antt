@@ -286,7 +286,7 @@ module _ (d ix : List ℕ) (h : Indexed d ix) {j : ℕ} (first : j ≡ slot RQ 1
   unrequested n p =
       let w : j + n ≡ slot RQ (n + 1) = omega (arith, first) in
       let i = request-key (n + 1) (omega arith) (omega arith) in
-      current-none d ix h RQ (n + 1) i (fits d ix h RQ (n + 1) i (lit≤ tt))
+      current-none d ix h RQ (n + 1) i (fits d ix h RQ (n + 1) i refl)
       (ap (λ (k : ℕ). getD ix k 0) (sym w) ∙ eqb-true (getD ix (j + n) 0) 0 (below-at 16 (λ k. eqb (getD ix (j + k) 0) 0) empty n p))
 
   fuelled-to : (n : ℕ) → n ≤ 16 → true ≡ allTo n (fuelled (parameters (records d)))

@@ -33,7 +33,7 @@ use Rattle.station.specs.Parameters.{parameters, technology}
 use Rattle.station.specs.Declared.{CurrentOf, absent, standing, Distinct}
 use Rattle.station.proofs.Current.{current-found, matches-self}
 use Rattle.station.proofs.Twins.{twins-distinct}
-use Rattle.index.specs.Slots.{slotAt, slot}
+use Rattle.index.specs.Slots.{narrow, slotAt, slot}
 use Rattle.index.proofs.Slots.{Spans, InKey, in-key, at-mark, low, high, limits}
 use Rattle.index.proofs.Turn.{tail, its-slot as found-slot}
 use Rattle.index.specs.declared.Entry.{Entry}
@@ -137,7 +137,7 @@ module _ (t : ℕ) (d ix : List ℕ) where
     no-place : (n : ℕ) → InKey 10 n → eqb t 4 ≡ false → slotFits t d ix (slot 10 n) ≡ true
     unfolding allFit slotFits low
     no-place n q z =
-        let w : length ix ≡ 2350 = eqb-true (length ix) 2350 (rw z at (and-left (eqb t 4 || eqb (length ix) 2350) _ e)) in
+        let w : length ix ≡ narrow = eqb-true (length ix) narrow (rw z at (and-left (eqb t 4 || eqb (length ix) narrow) _ e)) in
         rw (List·getD-eq-default ix 0 {n = slot 10 n} (omega (arith, w, limits 10 n q))) refl
 
     place-looked : (n : ℕ) → InKey 10 n → Looked 10 n
@@ -147,9 +147,9 @@ module _ (t : ℕ) (d ix : List ℕ) where
       is-thermal : t ≡ 1
       is-thermal = eqb-true t 1 z
 
-      thermal-parts : (slotsFit t d ix 0 1 ≡ true) × (allBelow 4 (λ p. slotsEmpty ix (42 + 20 * p) 4) ≡ true) × (slotsEmpty ix 154 2184 ≡ true)
+      thermal-parts : (slotsFit t d ix 0 1 ≡ true) × (allBelow 4 (λ p. slotsEmpty ix (42 + 20 * p) 4) ≡ true) × (slotsEmpty ix 154 2184 && slotsEmpty ix 2350 1 ≡ true)
       unfolding allFit thermalFit
-      thermal-parts = rw is-thermal (three _ _ _ (rw z at (and-right (eqb t 4 || eqb (length ix) 2350) _ e)))
+      thermal-parts = rw is-thermal (three _ _ _ (rw z at (and-right (eqb t 4 || eqb (length ix) narrow) _ e)))
 
       -- an AD of cost 5 would stand in one of the slots that are empty
       prorated : (n : ℕ) → InKey 4 n → n / 256 % 256 ≡ 5 → slotFits t d ix (slot 4 n) ≡ true
@@ -168,16 +168,20 @@ module _ (t : ℕ) (d ix : List ℕ) where
           (λ q. split (eqb (n / 256 % 256) 5) (λ w. inr (prorated n q (eqb-true (n / 256 % 256) 5 w))) (λ w. inl (λ s g i. rw is-thermal (thermal-ad s g (λ c. eqb-false (n / 256 % 256) 5 w (sym (ap (λ (x : ℕ). x / 256 % 256) i) ∙ c))))))
           (λ q. inl (λ s _ _. sym (fits-mm t s known) ∙ rw z refl))
           (λ q. inl (λ s _ _. sym (fits-rq t s known)))
-          (λ q. inr (empty-fits 154 2184 (slot 7 n) (thermal-parts .2) (omega (arith, limits 7 n q)) (omega (arith, limits 7 n q))))
-          (λ q. inr (empty-fits 154 2184 (slot 8 n) (thermal-parts .2) (omega (arith, limits 8 n q)) (omega (arith, limits 8 n q))))
+          (λ q. inr (empty-fits 154 2184 (slot 7 n) priced (omega (arith, limits 7 n q)) (omega (arith, limits 7 n q))))
+          (λ q. inr (empty-fits 154 2184 (slot 8 n) priced (omega (arith, limits 8 n q)) (omega (arith, limits 8 n q))))
           (λ q. inl (λ s g _. rw is-thermal (thermal-th s g)))
           (place-looked n)
+          (λ q. inr (empty-fits 2350 1 (slot 11 n) (and-right (slotsEmpty ix 154 2184) (slotsEmpty ix 2350 1) (thermal-parts .2)) (omega (arith, limits 11 n q)) (omega (arith, limits 11 n q))))
           p
+        where
+          priced : slotsEmpty ix 154 2184 ≡ true
+          priced = and-left (slotsEmpty ix 154 2184) (slotsEmpty ix 2350 1) (thermal-parts .2)
 
     module _ (z : eqb t 1 ≡ false) where
-      other-parts : (slotsFit t d ix 0 138 ≡ true) × (slotsFit t d ix 2338 12 ≡ true) × (slotsEmpty ix 154 (cond (eqb t 3) 0 2184) ≡ true)
+      other-parts : (slotsFit t d ix 0 138 ≡ true) × (slotsFit t d ix 2338 13 ≡ true) × (slotsEmpty ix 154 (cond (eqb t 3) 0 2184) ≡ true)
       unfolding allFit otherFit
-      other-parts = three _ _ _ (rw z at (and-right (eqb t 4 || eqb (length ix) 2350) _ e))
+      other-parts = three _ _ _ (rw z at (and-right (eqb t 4 || eqb (length ix) narrow) _ e))
 
       priced : eqb t 3 ≡ false → (j : ℕ) → 154 ≤ j → j < 2338 → slotFits t d ix j ≡ true
       priced w j p q = empty-fits 154 2184 j (rw w at (other-parts .2)) p (omega arith)
@@ -194,8 +198,9 @@ module _ (t : ℕ) (d ix : List ℕ) where
           (λ q. inl (λ s _ _. sym (fits-rq t s known)))
           (λ q. split (eqb t 3) (λ w. inl (λ s _ _. sym (fits-hr t s known) ∙ w)) (λ w. inr (priced w (slot 7 n) (omega (arith, limits 7 n q)) (omega (arith, limits 7 n q)))))
           (λ q. split (eqb t 3) (λ w. inl (λ s _ _. sym (fits-ch t s known) ∙ w)) (λ w. inr (priced w (slot 8 n) (omega (arith, limits 8 n q)) (omega (arith, limits 8 n q)))))
-          (λ q. inr (region 2338 12 (slot 9 n) (other-parts .1) (omega (arith, limits 9 n q)) (omega (arith, limits 9 n q))))
+          (λ q. inr (region 2338 13 (slot 9 n) (other-parts .1) (omega (arith, limits 9 n q)) (omega (arith, limits 9 n q))))
           (place-looked n)
+          (λ q. inr (region 2338 13 (slot 11 n) (other-parts .1) (omega (arith, limits 11 n q)) (omega (arith, limits 11 n q))))
           p
         where
           first : (k n : ℕ) → InKey k n → slot k n < 138 → Looked k n
@@ -230,9 +235,9 @@ module _ (t : ℕ) (d ix : List ℕ) where
 -- ---- the tests of slots
 
 -- an index with slots for FP, of another station than a hydroelectric one
-pub other-wide : (t : ℕ) (d ix : List ℕ) → not (eqb t 4) && not (eqb (length ix) 2350) ≡ true → false ≡ allFit t d ix
+pub other-wide : (t : ℕ) (d ix : List ℕ) → not (eqb t 4) && not (eqb (length ix) narrow) ≡ true → false ≡ allFit t d ix
 unfolding allFit
-other-wide t d ix = go (eqb t 4) (eqb (length ix) 2350)
+other-wide t d ix = go (eqb t 4) (eqb (length ix) narrow)
   where
     go : (a b : Bool) → not a && not b ≡ true → false ≡ (a || b) && cond (eqb t 1) (thermalFit d ix) (otherFit t d ix)
     go true b e = absurd (false≢true e)
@@ -240,9 +245,9 @@ other-wide t d ix = go (eqb t 4) (eqb (length ix) 2350)
     go false false e = refl
 
 -- and any other
-pub by-station : (t : ℕ) (d ix : List ℕ) → not (eqb t 4) && not (eqb (length ix) 2350) ≡ false → {x : Bool} → x ≡ cond (eqb t 1) (thermalFit d ix) (otherFit t d ix) → x ≡ allFit t d ix
+pub by-station : (t : ℕ) (d ix : List ℕ) → not (eqb t 4) && not (eqb (length ix) narrow) ≡ false → {x : Bool} → x ≡ cond (eqb t 1) (thermalFit d ix) (otherFit t d ix) → x ≡ allFit t d ix
 unfolding allFit
-by-station t d ix h {x = x} f = go (eqb t 4) (eqb (length ix) 2350) h
+by-station t d ix h {x = x} f = go (eqb t 4) (eqb (length ix) narrow) h
   where
     go : (a b : Bool) → not a && not b ≡ false → x ≡ (a || b) && cond (eqb t 1) (thermalFit d ix) (otherFit t d ix)
     go true b e = f

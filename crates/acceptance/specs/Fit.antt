@@ -54,7 +54,7 @@ ruleFits t k r =
     cond (eqb k AD) (holds t (value AD 2 r) && (not (eqb (value AD 1 r) 5) || (eqb t nuclear && eqb (value AD 2 r) energy)))
     (cond (eqb k TH) (holds t (value TH 1 r)) true)
 
--- a record of mark k fits technology t: "HP is thermal only; HR and CH storage only", FP hydroelectric only; its fields and its level
+-- a record of mark k fits technology t: "HP is thermal only; HR and CH storage only", FP hydroelectric and LC storage only; its fields and its level
 unfoldable pub fits : ℕ → ℕ → List ℕ → Bool
 fits t k r =
     among t (rowOf k .technologies) && (allBelow (length (rowOf k .fields)) (λ i. fieldFits t (fieldOf k i) (value k i r)) && ruleFits t k r)

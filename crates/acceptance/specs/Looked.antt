@@ -44,13 +44,13 @@ slotsFit t d ix j n = allBelow n (λ i. slotFits t d ix (j + i))
 unfoldable pub slotsEmpty : List ℕ → ℕ → ℕ → Bool
 slotsEmpty ix j n = allBelow n (λ i. eqb (getD ix (j + i) 0) 0)
 
--- of a thermal station: RS fits, and there is no AD of cost 5, no HR and no CH; all else fits it
+-- of a thermal station: RS fits, and there is no AD of cost 5, no HR, no CH and no LC; all else fits it
 unfoldable pub thermalFit : List ℕ → List ℕ → Bool
-thermalFit d ix = slotsFit thermal d ix 0 1 && allBelow 4 (λ p. slotsEmpty ix (42 + 20 * p) 4) && slotsEmpty ix 154 2184
+thermalFit d ix = slotsFit thermal d ix 0 1 && allBelow 4 (λ p. slotsEmpty ix (42 + 20 * p) 4) && (slotsEmpty ix 154 2184 && slotsEmpty ix 2350 1)
 
--- of any other: the slots of RS, HP, FU, AD, MM and of TH fit, and those of HR and CH are empty unless it is storage, which they fit; RQ fits
+-- of any other: the slots of RS, HP, FU, AD, MM and of TH and LC fit, and those of HR and CH are empty unless it is storage, which they fit; RQ fits
 unfoldable pub otherFit : ℕ → List ℕ → List ℕ → Bool
-otherFit t d ix = slotsFit t d ix 0 138 && slotsFit t d ix 2338 12 && slotsEmpty ix 154 (cond (eqb t storage) 0 2184)
+otherFit t d ix = slotsFit t d ix 0 138 && slotsFit t d ix 2338 13 && slotsEmpty ix 154 (cond (eqb t storage) 0 2184)
 
 -- every current record fits, as the slots tell; FP has slots where there is an FP, which fits a hydroelectric station alone
 unfoldable pub allFit : ℕ → List ℕ → List ℕ → Bool

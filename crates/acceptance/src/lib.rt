@@ -41,7 +41,7 @@ fn beyond_reading(d: &[u8], index: &[u16]) -> Answer
 fn judge_forecast(d: &[u8]) -> Answer
     ensures { λ r. ⌜ r ≡ answer (now (d .entry)) ⌝ }
 {
-    let mut index = [0u16; 6350];
+    let mut index = [0u16; index::WIDE];
     match lookup::open(d, &mut index) {
         Answer::Accepted => beyond_reading(d, &index),
         Answer::Refused { number, place } => Answer::Refused { number, place },
@@ -83,7 +83,7 @@ pub fn judge(d: &[u8], index: &mut [u16]) -> Answer
 pub fn accept(d: &[u8]) -> Answer
     ensures { λ r. ⌜ r ≡ answer (now (d .entry)) ⌝ }
 {
-    let mut index = [0u16; 2350];
+    let mut index = [0u16; index::NARROW];
     match lookup::scan(d, &mut index) {
         Passed::Ended { rising, complete } => {
             if complete {

@@ -5,7 +5,8 @@ ghost use Prim.Native.Nat.{_+_, _<_, _≤_};
 ghost use lib.Dec.{ltb, eqb};
 ghost use lib.ListN.{length};
 ghost use Rattle.records.specs.declared.Answer.the-variants.{Accepted};
-ghost use Rattle.records.specs.Record.{mark, size};
+ghost use Rattle.records.specs.Table.{kinds};
+ghost use Rattle.records.specs.Record.{mark, size, keyWidth};
 ghost use Rattle.index.specs.Slots.{narrow, slotAt};
 ghost use Rattle.records.specs.Dossier.{records};
 ghost use Rattle.station.specs.Current.{readable};
@@ -70,6 +71,20 @@ fn trial(len: usize, fits: bool) -> Tried
     Tried { len, fits }
 }
 
+// A record of kind k, whose mark has no key, tried against the technology.
+fn tried_keyless(t: u8, k: usize, s: &[u8]) -> Tried
+    requires { ⌜ Known t × (k < kinds) × (keyWidth k ≡ 0) ⌝ }
+    ensures { λ r. ⌜ r ≡ triedAs t k (now (s .entry)) ⌝ }
+{
+    if k == 1 {
+        return trial(records::RS.length, rs_fits(t, s));
+    }
+    if k == 11 {
+        return trial(records::LC.length, t == 3);
+    }
+    trial(records::UNKNOWN.length, true)
+}
+
 // The record at the front, tried against the technology.
 fn tried_at(t: u8, s: &[u8]) -> Tried
     requires { ⌜ Known t ⌝ }
@@ -103,10 +118,7 @@ fn tried_at(t: u8, s: &[u8]) -> Tried
     if k == 6 {
         return trial(records::RQ.length, true);
     }
-    if k == 1 {
-        return trial(records::RS.length, rs_fits(t, s));
-    }
-    trial(records::UNKNOWN.length, true)
+    tried_keyless(t, k, s)
 }
 
 // One of two numbers, without a branch.
@@ -171,7 +183,7 @@ fn thermal_fit(d: &[u8], index: &[u16]) -> bool
             & slots_empty(index, 62, 4)
             & slots_empty(index, 82, 4)
             & slots_empty(index, 102, 4))
-        & slots_empty(index, 154, 2184)
+        & (slots_empty(index, 154, 2184) & slots_empty(index, 2350, 1))
 }
 
 // The same of any other station.
@@ -181,7 +193,7 @@ fn other_fit(d: &[u8], index: &[u16], t: u8) -> bool
 {
     let priced = choose(t == 3, 0, 2184);
     slots_fit(d, index, t, 0, 138)
-        & slots_fit(d, index, t, 2338, 12)
+        & slots_fit(d, index, t, 2338, 13)
         & slots_empty(index, 154, priced)
 }
 
@@ -190,7 +202,7 @@ fn all_fit(d: &[u8], index: &[u16], t: u8) -> bool
     requires { ⌜ Known t × (narrow ≤ length (now index)) ⌝ }
     ensures { λ r. ⌜ r ≡ allFit t (now (d .entry)) (now (index .entry)) ⌝ }
 {
-    if (t != 4) & (index.len() != 2350) {
+    if (t != 4) & (index.len() != index::NARROW) {
         return false;
     }
     if t == 1 {

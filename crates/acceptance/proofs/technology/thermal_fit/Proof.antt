@@ -23,9 +23,12 @@ slots-empty-requires-4 c κs = search needs
 slots-empty-requires-5 : tie.Need-slots-empty-requires-5
 slots-empty-requires-5 c κs = search needs
 
+slots-empty-requires-6 : tie.Need-slots-empty-requires-6
+slots-empty-requires-6 c κs = search needs
+
 returns : tie.Need-returns
 unfolding thermalFit allBelow
-returns c = rw (c .before .before .before .before .before .slots-fit .ensures, c .before .before .before .before .slots-empty .ensures, c .before .before .before .slots-empty2 .ensures, c .before .before .slots-empty3 .ensures, c .before .slots-empty4 .ensures, c .slots-empty5 .ensures) refl
+returns c = rw (c .before .before .before .before .before .before .slots-fit .ensures, c .before .before .before .before .before .slots-empty .ensures, c .before .before .before .before .slots-empty2 .ensures, c .before .before .before .slots-empty3 .ensures, c .before .before .slots-empty4 .ensures, c .before .slots-empty5 .ensures, c .slots-empty6 .ensures) refl
 
 pub thermal-fit-spec : {M : Type 1} → statement M
 thermal-fit-spec =
@@ -37,4 +40,5 @@ thermal-fit-spec =
     slots-empty-requires-3
     slots-empty-requires-4
     slots-empty-requires-5
+    slots-empty-requires-6
     returns)

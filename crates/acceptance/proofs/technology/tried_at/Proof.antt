@@ -3,9 +3,9 @@ use Prim.Native.Nat.{ℕ, _<_}
 use lib.Dec.{eqb}
 use Rattle.index.proofs.Slots.{mark-lt}
 use Rattle.records.specs.Table.{kinds}
-use Rattle.records.proofs.Record.{no-size, rs-size, hp-size, fu-size, ad-size, mm-size, rq-size, hr-size, ch-size, th-size, fp-size}
+use Rattle.records.proofs.Record.{hp-size, fu-size, ad-size, mm-size, rq-size, hr-size, ch-size, th-size, fp-size}
 use Rattle.acceptance.specs.Fit.{holds}
-use Rattle.acceptance.proofs.ByMark.{at-mark, no-mark, fits-mm, fits-hp, fits-th, fits-hr, fits-ch, fits-fp, fits-rq, fits-none}
+use Rattle.acceptance.proofs.ByMark.{at-mark, of-mark, no-key, fits-mm, fits-hp, fits-th, fits-hr, fits-ch, fits-fp, fits-rq}
 use mathlib.Core.Path.{ap, sym, subst, _∙_}
 use borrow.Author.Needs.{needs}
 use Rattle.acceptance.proofs.technology.tried_at.Statement.{statement}
@@ -83,20 +83,13 @@ trial-requires-9 c κs = search needs
 returns-9 : tie.Need-returns-9
 returns-9 c = c .trial9 .ensures ∙ at-mark _ _ 6 _ _ rq-size (fits-rq _ _ (c .before .before .before .before .before .before .before .before .before .before .before .before .pre)) (c .before .before .before .before .before .before .before .before .before .before .kind-at .ensures) (c .before .if9 .taken)
 
-rs-fits-requires : tie.Need-rs-fits-requires
-rs-fits-requires c κs = search needs
-
-trial-requires-10 : tie.Need-trial-requires-10
-trial-requires-10 c κs = search needs
+tried-keyless-requires : tie.Need-tried-keyless-requires
+tried-keyless-requires c κs =
+    let l = subst (λ (x : ℕ). x < kinds) (sym (c .before .before .before .before .before .before .before .before .before .kind-at .ensures)) (mark-lt _) in
+    (c .before .before .before .before .before .before .before .before .before .before .before .pre, l, no-key _ l (c .before .before .before .before .before .before .if3 .left) (c .before .before .before .before .if5 .left) (c .before .before .before .before .before .before .before .before .if1 .left) (c .before .before .before .before .before .before .before .if2 .left) (c .if9 .left) (c .before .before .before .if6 .left) (c .before .before .if7 .left) (c .before .before .before .before .before .if4 .left) (c .before .if8 .left))
 
 returns-10 : tie.Need-returns-10
-returns-10 c = c .trial10 .ensures ∙ at-mark _ _ 1 _ _ rs-size (c .before .rs-fits .ensures) (c .before .before .before .before .before .before .before .before .before .before .before .before .kind-at .ensures) (c .before .before .if10 .taken)
-
-trial-requires-11 : tie.Need-trial-requires-11
-trial-requires-11 c κs = search needs
-
-returns-11 : tie.Need-returns-11
-returns-11 c = c .trial11 .ensures ∙ at-mark _ _ 0 _ _ no-size (fits-none _ _ (c .before .before .before .before .before .before .before .before .before .before .before .before .before .pre)) (c .before .before .before .before .before .before .before .before .before .before .before .kind-at .ensures) (no-mark _ (c .before .if10 .left) (c .before .before .before .before .before .before .before .before .if3 .left) (c .before .before .before .before .before .before .if5 .left) (c .before .before .before .before .before .before .before .before .before .before .if1 .left) (c .before .before .before .before .before .before .before .before .before .if2 .left) (c .before .before .if9 .left) (c .before .before .before .before .before .if6 .left) (c .before .before .before .before .if7 .left) (c .before .before .before .before .before .before .before .if4 .left) (c .before .before .before .if8 .left) (subst (λ (x : ℕ). x < kinds) (sym (c .before .before .before .before .before .before .before .before .before .before .before .kind-at .ensures)) (mark-lt _)))
+returns-10 c = of-mark _ _ (c .tried-keyless .ensures) (c .before .before .before .before .before .before .before .before .before .before .kind-at .ensures)
 
 pub tried-at-spec : {M : Type 1} → statement M
 tried-at-spec =
@@ -126,8 +119,5 @@ tried-at-spec =
     returns-8
     trial-requires-9
     returns-9
-    rs-fits-requires
-    trial-requires-10
-    returns-10
-    trial-requires-11
-    returns-11)
+    tried-keyless-requires
+    returns-10)
