@@ -3,19 +3,19 @@ use mathlib.Core.Path.{_≡_, refl}
 use mathlib.Core.Bool.{Bool, true, false, cond}
 use mathlib.Core.List.{List, []}
 use Prim.Native.Nat.{ℕ, zero, suc, _+_, _*_, _-_, _≤_}
-use native.Mathlib.Nat.{mul-le-mul-left, mul-le-mul-right}
+use native.Mathlib.Nat.{mul-le-mul-left, mul-le-mul-right, max-le}
 use native.Mathlib.Omega.{arith}
 use lib.Dec.{eqb, lit≤}
 use borrow.Author.Tests.{eqb-true}
 use Rattle.lists.specs.Lists.{Pairwise, none, more, Each, done, also}
-use Rattle.records.specs.Table.{FU, AD, MM, HR, CH, FP}
-use Rattle.station.specs.Parameters.{Parameters, Amounts, Higher, technology, efficiency, window, chargeEnergy, chargePrice, adderKey, itemKey}
+use Rattle.records.specs.Table.{FU, AD, MM, HR, CH, FP, LC}
+use Rattle.station.specs.Parameters.{Parameters, Amounts, Higher, technology, efficiency, window, chargeEnergy, chargePrice, lastCost, adderKey, itemKey}
 use Rattle.acceptance.specs.Curve.{fullHours}
 use Rattle.formulas.specs.Sums.{sumTo}
-use Rattle.formulas.specs.Exact.{Sum}
-use Rattle.formulas.specs.Levels.{profile, adders, maintenance, startMaintenance, thermalEnergy, heatCost, startCost, noLoadCost, nuclearEnergy, chargingSum, chargingCost, shortRunCost, highestSum, opportunityCost, storageEnergy, forecastPlace, forecastPrice, hydroEnergy, Line, line, amount, NoLower, CloseLine, laminations, oneLamination, single, linesOf, lines}
+use Rattle.formulas.specs.Exact.{Sum, whole, share}
+use Rattle.formulas.specs.Levels.{profile, adders, maintenance, startMaintenance, thermalEnergy, heatCost, startCost, noLoadCost, nuclearEnergy, totalEnergy, chargingSum, chargingCost, shortRunCost, highestSum, opportunityCost, storageEnergy, forecastPlace, forecastPrice, hydroEnergy, Line, line, amount, NoLower, CloseLine, laminations, oneLamination, single, linesOf, lines}
 use Rattle.formulas.proofs.Sums.{sumTo-mono, listTo-mono, sumHighest-mono, fromTop-mono}
-use Rattle.formulas.proofs.Exact.{Below, wholes, shares, both, totals, perThousands, greaters, dropped-mono, cents-mono, divisions, close}
+use Rattle.formulas.proofs.Exact.{Below, wholes, shares, both, totals, perThousands, greaters, dropped-mono, cents-mono, divisions, Efficient, close}
 
 -- ---- each formula, part by part
 
@@ -62,11 +62,19 @@ module _ (s : Parameters) {m n : Amounts} (h : Higher m n) (p : ℕ) where
   unfolding highestSum
   highestSum-le = omega (arith, sumHighest-mono (fullHours s) (listTo-mono (window s) (λ k. h HR k 1)))
 
+  charging-below : Below (chargingCost s m) (chargingCost s n)
+  unfolding chargingCost
+  charging-below = go (eqb (totalEnergy s) 0)
+    where
+      go : (b : Bool) → Below (cond b (whole (lastCost m)) (share (chargingSum s m * 10000) (totalEnergy s))) (cond b (whole (lastCost n)) (share (chargingSum s n * 10000) (totalEnergy s)))
+      go true = wholes (h LC 0 0)
+      go false = shares (mul-le-mul-right 10000 chargingSum-le)
+
   storage-below : Below (storageEnergy s m p) (storageEnergy s n p)
-  unfolding storageEnergy shortRunCost chargingCost opportunityCost
+  unfolding storageEnergy shortRunCost opportunityCost
   storage-below =
       greaters
-      (both (both (perThousands (both (shares (mul-le-mul-right 10000 chargingSum-le)) (wholes (h FU p 1)))) (adders-below 1)) maintenance-below)
+      (both (both (perThousands (both charging-below (wholes (h FU p 1)))) (adders-below 1)) maintenance-below)
       (shares (mul-le-mul-right 10000 highestSum-le))
 
   forecastPrice-le : forecastPrice s m ≤ forecastPrice s n
@@ -132,9 +140,18 @@ module _ (s : Parameters) (m : Amounts) (p : ℕ) where
   unfolding oneLamination nuclearEnergy adders maintenance divisions sumTo
   nuclear-close = close (nuclearEnergy s m p) ((tt, tt), λ j. tt) (lit≤ tt)
 
+  -- at most one division, whether energy was charged or not
+  charging-one : Efficient (chargingCost s m) × (divisions (chargingCost s m) ≤ 1)
+  unfolding chargingCost divisions
+  charging-one = go (eqb (totalEnergy s) 0)
+    where
+      go : (b : Bool) → Efficient (cond b (whole (lastCost m)) (share (chargingSum s m * 10000) (totalEnergy s))) × (divisions (cond b (whole (lastCost m)) (share (chargingSum s m * 10000) (totalEnergy s))) ≤ 1)
+      go true = (tt, lit≤ tt)
+      go false = (tt, lit≤ tt)
+
   storage-close : 500 ≤ efficiency s → CloseLine (oneLamination s (storageEnergy s m p))
-  unfolding oneLamination storageEnergy shortRunCost chargingCost opportunityCost adders maintenance divisions sumTo
-  storage-close e = close (storageEnergy s m p) ((((e, (tt, tt)), tt), λ j. tt), tt) (lit≤ tt)
+  unfolding oneLamination storageEnergy shortRunCost opportunityCost adders maintenance divisions sumTo
+  storage-close e = close (storageEnergy s m p) ((((e, (charging-one .0, tt)), tt), λ j. tt), tt) (max-le (omega (arith, charging-one .1)) (lit≤ tt))
 
   hydro-close : CloseLine (oneLamination s (hydroEnergy s m p))
   unfolding oneLamination hydroEnergy adders maintenance divisions sumTo

@@ -5,7 +5,7 @@ use mathlib.Core.Bool.{cond, _&&_, not}
 use mathlib.Core.List.{List, [], _∷_}
 use Prim.Native.Nat.{ℕ, _+_, _-_}
 use lib.Dec.{eqb}
-use Rattle.records.specs.Table.{RS, HP, FU, AD, MM, RQ, HR, CH, FP}
+use Rattle.records.specs.Table.{RS, HP, FU, AD, MM, RQ, HR, CH, FP, LC}
 use Rattle.station.specs.Parameters.{Parameters, Amounts, adderKey, itemKey}
 use Rattle.acceptance.specs.Curve.{rise, fullHours}
 use Rattle.formulas.specs.Sums.{sumTo, listTo, insert, falling, sumFirst, sumHighest, fromTop}
@@ -104,6 +104,33 @@ charging = refl
 short-run : dropped (shortRunCost (asParameters storage) (asAmounts storage) 1) ≡ 2500000
 unfolding storage shortRunCost chargingCost chargingSum totalEnergy adders maintenance dropped quotient sumTo find
 short-run = refl
+
+-- a battery that didn't charge: energies of 0, fuel 750,000, efficiency 800, and an LC of 2.00
+idle : List Entry
+idle = says CH 1 2 0 ∷ says CH 2 2 0 ∷ says LC 0 0 2000000 ∷ storage
+
+idle-charging : dropped (chargingCost (asParameters idle) (asAmounts idle)) ≡ 2000000
+unfolding idle storage chargingCost chargingSum totalEnergy dropped quotient sumTo find
+idle-charging = refl
+
+-- it joins before fuel is added and the efficiency step: (2,000,000 + 750,000) × 1,000 / 800
+idle-short-run : dropped (shortRunCost (asParameters idle) (asAmounts idle) 1) ≡ 3437500
+unfolding idle storage shortRunCost chargingCost chargingSum totalEnergy adders maintenance dropped quotient sumTo find
+idle-short-run = refl
+
+-- without LC the cost stays 0
+idle-without : dropped (chargingCost (asParameters idle) (asAmounts (says LC 0 0 0 ∷ idle))) ≡ 0
+unfolding idle storage chargingCost chargingSum totalEnergy dropped quotient sumTo find
+idle-without = refl
+
+-- where energy was charged, LC is not used, even where the cost of charging is 0
+charged-with-last : dropped (chargingCost (asParameters storage) (asAmounts (says LC 0 0 2000000 ∷ storage))) ≡ 1250000
+unfolding storage chargingCost chargingSum totalEnergy dropped quotient sumTo find
+charged-with-last = refl
+
+charged-for-nothing : dropped (chargingCost (asParameters storage) (asAmounts (says LC 0 0 2000000 ∷ says CH 1 1 (owed 2000) ∷ storage))) ≡ 0
+unfolding storage chargingCost chargingSum totalEnergy dropped quotient sumTo find
+charged-for-nothing = refl
 
 opportunity : dropped (opportunityCost (asParameters storage) (asAmounts storage)) ≡ 204800000
 unfolding storage opportunityCost highestSum fullHours sumHighest sumFirst falling insert listTo dropped quotient find

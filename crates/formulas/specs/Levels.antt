@@ -6,7 +6,7 @@ use Prim.Native.Nat.{ℕ, zero, suc, _+_, _*_, _-_, _/_, _≤_}
 use lib.Dec.{leb, eqb}
 use Rattle.records.specs.Table.{thermal, nuclear, storage, hydro, RQ}
 use Rattle.records.specs.Dossier.{records}
-use Rattle.station.specs.Parameters.{Parameters, Amounts, parameters, amounts, technology, capacity, factor, startHeat, noLoadHeat, incrementalFuel, efficiency, window, output, heat, fuel, emission, adder, costC, outputW, intervalT, hoursPerStartS, firstHour, lastHour, requested, hourPrice, chargePrice, chargeEnergy, placePrice}
+use Rattle.station.specs.Parameters.{Parameters, Amounts, parameters, amounts, technology, capacity, factor, startHeat, noLoadHeat, incrementalFuel, efficiency, window, output, heat, fuel, emission, adder, costC, outputW, intervalT, hoursPerStartS, firstHour, lastHour, requested, hourPrice, chargePrice, chargeEnergy, placePrice, lastCost}
 use Rattle.acceptance.specs.Fit.{energy, start, noLoad, reserve}
 use Rattle.acceptance.specs.Curve.{points, rise, fullHours}
 use Rattle.formulas.specs.Sums.{sumTo, listTo, sumHighest, fromTop}
@@ -83,9 +83,9 @@ totalEnergy s = sumTo 2016 (chargeEnergy s)
 unfoldable pub chargingSum : Parameters → Amounts → ℕ
 chargingSum s m = sumTo 2016 (λ n. chargePrice m n * chargeEnergy s n) - 2147483648 * totalEnergy s
 
--- "× 10,000 / total energy; 0 if total energy is 0"
+-- "× 10,000 / total energy"; LC "is used when total energy is 0; without LC the cost stays 0"
 unfoldable pub chargingCost : Parameters → Amounts → Sum
-chargingCost s m = share (chargingSum s m * 10000) (totalEnergy s)
+chargingCost s m = cond (eqb (totalEnergy s) 0) (whole (lastCost m)) (share (chargingSum s m * 10000) (totalEnergy s))
 
 -- "(charging cost + fuel) × 1,000 / efficiency, plus AD and MM"
 unfoldable pub shortRunCost : Parameters → Amounts → ℕ → Sum
