@@ -75,7 +75,7 @@ fn price_verdict(
 pub fn energy_test(d: &[u8], hour: u32, condition: u8, offer: &[u8]) -> Verdict
     ensures { λ r. ⌜ r ≡ onOffer (now (d .entry)) hour condition (now (offer .entry)) ⌝ }
 {
-    let mut index = [0u16; 2350];
+    let mut index = [0u16; index::NARROW];
     match acceptance::judge(d, &mut index) {
         Answer::Refused { number, place } => Verdict::Refused { number, place },
         Answer::Accepted => offer_verdict(d, &index, hour, condition, offer),
@@ -86,7 +86,7 @@ pub fn energy_test(d: &[u8], hour: u32, condition: u8, offer: &[u8]) -> Verdict
 pub fn price_test(d: &[u8], hour: u32, level: u8, condition: u8, price: i32) -> Verdict
     ensures { λ r. ⌜ r ≡ onPrice (now (d .entry)) hour level condition price ⌝ }
 {
-    let mut index = [0u16; 2350];
+    let mut index = [0u16; index::NARROW];
     match acceptance::judge(d, &mut index) {
         Answer::Refused { number, place } => Verdict::Refused { number, place },
         Answer::Accepted => price_verdict(d, &index, hour, level, condition, limits::biased(price)),

@@ -41,7 +41,7 @@ module _ {d ix : List ℕ} (h : Indexed d ix) where
   uncharged : (n : ℕ) → 1 ≤ n → n ≤ 2016 → getD ix (slot CH n) 0 ≡ 0 → chargeEnergy (parametersIn d) n ≡ 0
   uncharged n a b e =
       chargeEnergy-at (records d) n
-      ∙ ap (number 12 4) (current-none d ix h CH n (interval-key n a b) (fits d ix h CH n (interval-key n a b) (lit≤ tt)) e)
+      ∙ ap (number 12 4) (current-none d ix h CH n (interval-key n a b) (fits d ix h CH n (interval-key n a b) refl) e)
       ∙ number-nil 12 4
 
   module _ (n m : ℕ) {j : ℕ} (first : j ≡ slot CH (n + 1)) (last : n + m ≤ 2016) (empty : slotsEmpty ix j m ≡ true) where

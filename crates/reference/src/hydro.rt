@@ -41,7 +41,7 @@ fn forecast_price(d: &[u8], places: usize) -> u64
     requires { ⌜ (length (now d) ≤ 60000) × (scan 0 (records (now d)) ≡ Accepted) × (places ≡ window (parametersIn (now d))) × (50 ≤ places) × (places ≤ 4000) ⌝ }
     ensures { λ r. ⌜ (r ≡ forecastPrice (parametersIn (now (d .entry))) (amountsIn (now (d .entry)))) × (r ≤ 200000) ⌝ }
 {
-    let mut index = [0u16; 6350];
+    let mut index = [0u16; index::WIDE];
     lookup::fill(d, &mut index);
     let price = price_from_top(d, &index, places, places / 50);
     arithmetic::less(price as u64, 2147483648)

@@ -185,7 +185,7 @@ fn no_levels() -> HourLevels
 pub fn levels(d: &[u8], hour: u32) -> LevelsAnswer
     ensures { λ r. ⌜ r ≡ levelsAnswer (now (d .entry)) hour ⌝ }
 {
-    let mut index = [0u16; 2350];
+    let mut index = [0u16; index::NARROW];
     match acceptance::judge(d, &mut index) {
         Answer::Accepted => {
             let answer = Answer::Accepted;

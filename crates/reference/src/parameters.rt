@@ -2,7 +2,7 @@
 // sums in 64 bits rest.
 ghost use mathlib.Core.Path.{_≡_};
 ghost use Prim.Native.Nat.{_≤_};
-ghost use Rattle.station.specs.Parameters.{technology, capacity, factor, startHeat, noLoadHeat, incrementalFuel, charge, efficiency, window, output, heat, fuel, emission, adder, hourPrice, placePrice};
+ghost use Rattle.station.specs.Parameters.{technology, capacity, factor, startHeat, noLoadHeat, incrementalFuel, charge, efficiency, window, output, heat, fuel, emission, adder, hourPrice, placePrice, lastCost};
 ghost use Rattle.lookup.specs.Parts.{Indexed, Complete};
 ghost use Rattle.formulas.specs.Levels.{parametersIn, amountsIn};
 
@@ -102,6 +102,13 @@ pub fn adder(d: &[u8], index: &[u16], p: usize, c: usize, v: usize) -> u64
     ensures { λ r. ⌜ (r ≡ adder (amountsIn (now (d .entry))) p c v) × (r ≤ 1000000000000) ⌝ }
 {
     fields::u64_at(lookup::ad(d, index, p, c, v), 9)
+}
+
+pub fn last_cost(d: &[u8], index: &[u16]) -> u64
+    requires { ⌜ Indexed (now d) (now index) ⌝ }
+    ensures { λ r. ⌜ (r ≡ lastCost (amountsIn (now (d .entry)))) × (r ≤ 2000000000) ⌝ }
+{
+    fields::u32_at(lookup::lc(d, index), 6) as u64
 }
 
 // Plus 2^31, as prices are held.

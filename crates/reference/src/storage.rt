@@ -75,12 +75,15 @@ fn intervals(d: &[u8], index: &[u16]) -> Charging
     sums
 }
 
-// The charging cost.
+// The charging cost; where no energy was charged, the last one.
 fn charging_cost(d: &[u8], index: &[u16]) -> u64
     requires { ⌜ Indexed (now d) (now index) ⌝ }
     ensures { λ r. ⌜ (r ≡ dropped (chargingCost (parametersIn (now (d .entry))) (amountsIn (now (d .entry))))) × (r ≤ 2000000000) ⌝ }
 {
     let c = intervals(d, index);
+    if c.energy == 0 {
+        return parameters::last_cost(d, index);
+    }
     let sum = arithmetic::less(c.cost, 2147483648 * c.energy);
     arithmetic::share(sum * 10000, c.energy)
 }

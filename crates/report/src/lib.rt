@@ -202,7 +202,7 @@ pub fn report(d: &[u8], hour: u32, buf: &mut [u8]) -> Written
     ensures answer { λ r. ⌜ r ≡ written (reportAnswer (now (d .entry)) hour (length (now (buf .entry)))) (length (report (now (d .entry)) hour)) ⌝ }
     ensures buffer { λ r. ⌜ now (buf .exit) ≡ bufferAfter (now (d .entry)) hour (now (buf .entry)) ⌝ }
 {
-    let mut index = [0u16; 2350];
+    let mut index = [0u16; index::NARROW];
     match acceptance::judge(d, &mut index) {
         Answer::Accepted => report_levels(reference::hour_levels(d, &index, hour), buf),
         Answer::Refused { number, place } => Written::Refused { number, place },

@@ -54,7 +54,7 @@ fn put_words(lv: HourLevels, words: &mut [u64])
 pub fn levels_words(d: &[u8], hour: u32, words: &mut [u64]) -> Answer
     ensures { λ r. ⌜ (r ≡ wordsAnswer (now (d .entry)) hour (length (now (words .entry)))) × (now (words .exit) ≡ wordsAfter (now (d .entry)) hour (now (words .entry))) ⌝ }
 {
-    let mut index = [0u16; 2350];
+    let mut index = [0u16; index::NARROW];
     match acceptance::judge(d, &mut index) {
         Answer::Accepted => {
             if words.len() < 66 {

@@ -5,6 +5,7 @@ use native.Mathlib.Omega.{arith}
 use lib.ListN.{length-replicate}
 use Rattle.records.specs.Dossier.{records}
 use Rattle.station.specs.Parameters.{amounts, placePrice}
+use Rattle.index.specs.Slots.{wide}
 use Rattle.lookup.proofs.Parts.{wide-complete}
 use Rattle.formulas.specs.Sums.{listTo, fromTop}
 use Rattle.formulas.specs.Levels.{forecastPlace, forecastPrice}
@@ -24,7 +25,7 @@ price-from-top-requires : tie.Need-price-from-top-requires
 price-from-top-requires c κs =
     let f = c .before .before .fill in
     let p = c .before .before .before .before .before .pre in
-    (f .ensures, wide-complete _ _ (f .ensures) (omega (arith, f .kept .1 .0, length-replicate {A = ℕ} 6350 0)), p .4, omega (arith, p .3), omega arith)
+    (f .ensures, wide-complete _ _ (f .ensures) (omega (arith, f .kept .1 .0, length-replicate {A = ℕ} wide 0)), p .4, omega (arith, p .3), omega arith)
 
 cast-less : tie.Need-cast-less
 cast-less c = search needs
