@@ -4,3 +4,4 @@ pub mod Exact
 pub mod Lines
 pub mod Profile
 pub mod Signed
+pub mod Memo

@@ -1,17 +1,18 @@
--- The claims are not empty: R1 and a station on a river are accepted, there is a real raise of each, and their records in another order are a reordering.
+-- The claims are not empty: R1, a station on a river and an idle battery are accepted, there is a real raise of each, and their records in another order are a
+-- reordering.
 use mathlib.Core.Path.{_≡_, refl}
 use mathlib.Core.List.{List, [], _∷_, _++_}
 use Prim.Native.Nat.{ℕ}
 use Rattle.lists.specs.Lists.{Permutation, empty, keep, swap, then, joined}
-use Rattle.records.specs.Table.{thermal, hydro}
+use Rattle.records.specs.Table.{thermal, storage, hydro, LC}
 use Rattle.records.specs.Answers.{numberOf}
 use Rattle.records.proofs.RaiseTest.{riseTest, recordTest, recordsTest, raiseTest, raise-by}
 use Rattle.acceptance.specs.Answer.{answer, IsAccepted}
-use Rattle.formulas.specs.Levels.{hydroEnergy}
+use Rattle.formulas.specs.Levels.{storageEnergy, hydroEnergy}
 use Rattle.report.proofs.Computed.{computed}
 use Rattle.promise.specs.Demand.{Raise, RaiseKeeps}
 use Rattle.promise.specs.Order.{SameMeaning}
-use Rattle.promise.specs.Stations.{valuesIn, made, r1, r1Raised, forecast, riverWith, river}
+use Rattle.promise.specs.Stations.{valuesIn, made, r1, r1Raised, forecast, riverWith, river, idleWith, idle}
 use Rattle.promise.specs.Marked.{inCents}
 use Rattle.promise.proofs.Demand.{demand3}
 use Rattle.promise.proofs.Order.{arrival-order}
@@ -74,3 +75,31 @@ river-keeps = demand3 .raise (joined river) (joined (riverWith 1 50)) river-acce
 pub river-turned : SameMeaning (joined river) (joined (turned river))
 unfolding valuesIn made forecast computed
 river-turned = arrival-order (joined river) (joined (turned river)) river-accepted (record { order = turned river; same = turned-permuted river; made = refl })
+
+-- ---- an idle battery
+
+idle-accepted : IsAccepted (joined idle)
+unfolding valuesIn made computed
+idle-accepted = record { clean = refl }
+
+-- (1.25 + 0.75) / 0.8, as in M8's week
+idle-level : inCents (λ s m. storageEnergy s m 1) idle ≡ 250 ∷ []
+unfolding valuesIn made computed
+idle-level = refl
+
+-- its LC at R1 draws 6
+idle-thermal : numberOf (answer (joined (r1 ++ (made LC 7 (0 ∷ []) ∷ [])))) ≡ 6
+unfolding valuesIn made computed
+idle-thermal = refl
+
+-- a last cost of 1.26
+idle-raise : Raise (joined idle) (joined (idleWith 1260000))
+unfolding valuesIn made riseTest recordTest recordsTest raiseTest computed
+idle-raise = raise-by storage (joined idle) (joined (idleWith 1260000)) refl
+
+pub idle-keeps : RaiseKeeps (joined idle) (joined (idleWith 1260000))
+idle-keeps = demand3 .raise (joined idle) (joined (idleWith 1260000)) idle-accepted idle-raise
+
+pub idle-turned : SameMeaning (joined idle) (joined (turned idle))
+unfolding valuesIn made computed
+idle-turned = arrival-order (joined idle) (joined (turned idle)) idle-accepted (record { order = turned idle; same = turned-permuted idle; made = refl })

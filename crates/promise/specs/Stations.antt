@@ -1,8 +1,8 @@
--- The stations and offers of the marked cases and a station on a river, in the papers' numbers and, through the table, as bytes.
+-- The stations and offers of the marked cases, a station on a river and an idle battery, in the papers' numbers and, through the table, as bytes.
 use mathlib.Core.List.{List, [], _∷_, _++_}
 use Prim.Native.Nat.{ℕ, zero, suc, _+_, _*_, _-_}
 use Rattle.fields.specs.Numbers.{bytesOf}
-use Rattle.records.specs.Table.{Field, rowOf, RS, HP, FU, AD, MM, HR, CH, TH, FP}
+use Rattle.records.specs.Table.{Field, rowOf, RS, HP, FU, AD, MM, HR, CH, TH, FP, LC}
 
 -- ---- bytes from numbers
 
@@ -106,3 +106,20 @@ riverWith dearer n =
 -- all 50
 abbrev pub river : List (List ℕ)
 river = riverWith 0 50
+
+-- ---- document 02, request 2: the battery of M5 to M9, idle for a week, at hours of 1.00
+
+-- with its last charging cost as issue 7, and behind it as issue 6
+abbrev pub idleWith : ℕ → List (List ℕ)
+idleWith cost =
+    batteryWith
+    (made HR 1 (1 ∷ 100 ∷ [])
+    ∷ made HR 1 (2 ∷ 100 ∷ [])
+    ∷ made HR 1 (3 ∷ 100 ∷ [])
+    ∷ made LC 7 (cost ∷ [])
+    ∷ made LC 6 (90000000 ∷ [])
+    ∷ [])
+
+-- M8's charging cost, 1.25
+abbrev pub idle : List (List ℕ)
+idle = idleWith 1250000

@@ -1,0 +1,42 @@
+-- The charging cost is document 002's, if LC holds the last non-zero one; and what LC holds next follows from the charging cost.
+use mathlib.Core.Path.{_≡_, refl, sym, _∙_}
+use mathlib.Core.Bool.{Bool, true, false, cond}
+use mathlib.Core.List.{List, _∷_}
+use Prim.Native.Nat.{ℕ, _*_}
+use native.Mathlib.Nat.{div-zero}
+use lib.Dec.{eqb}
+use borrow.Author.Tests.{eqb-true}
+use Rattle.station.specs.Parameters.{lastCost}
+use Rattle.formulas.specs.Exact.{whole, share, quotient, dropped}
+use Rattle.formulas.specs.Levels.{totalEnergy, chargingSum, chargingCost}
+use Rattle.formulas.specs.Memo.{Week, calculated, lastNonZero, memoCost}
+
+-- a week's charging cost in whole micro-dollars
+abbrev pub costOf : Week → ℕ
+costOf w = dropped (chargingCost (w .parameters) (w .amounts))
+
+module _ (w : Week) (before : List Week) (carried : lastCost (w .amounts) ≡ lastNonZero before) where
+  pub memo-charging : costOf w ≡ memoCost w before
+  unfolding chargingCost memoCost calculated
+  memo-charging = go (eqb (totalEnergy (w .parameters)) 0)
+    where
+      go : (b : Bool) → dropped (cond b (whole (lastCost (w .amounts))) (share (chargingSum (w .parameters) (w .amounts) * 10000) (totalEnergy (w .parameters)))) ≡ cond b (lastNonZero before) (quotient (chargingSum (w .parameters) (w .amounts) * 10000) (totalEnergy (w .parameters)))
+      go true = unfold dropped in carried
+      go false = unfold dropped in refl
+
+  nothing-calculated : eqb (totalEnergy (w .parameters)) 0 ≡ true → calculated w ≡ 0
+  unfolding calculated quotient
+  nothing-calculated e = rw (eqb-true (totalEnergy (w .parameters)) 0 e) (div-zero _)
+
+  -- the next week's LC: this week's charging cost, or where that is 0 this week's LC
+  pub memo-next : lastNonZero (w ∷ before) ≡ cond (eqb (costOf w) 0) (lastCost (w .amounts)) (costOf w)
+  unfolding lastNonZero memoCost
+  memo-next = rw (carried, memo-charging) (go (eqb (totalEnergy (w .parameters)) 0) refl)
+    where
+      same : (b : Bool) (x : ℕ) → x ≡ cond b x x
+      same true x = refl
+      same false x = refl
+
+      go : (b : Bool) → eqb (totalEnergy (w .parameters)) 0 ≡ b → cond (eqb (calculated w) 0) (lastNonZero before) (calculated w) ≡ cond (eqb (cond b (lastNonZero before) (calculated w)) 0) (lastNonZero before) (cond b (lastNonZero before) (calculated w))
+      go true e = rw (nothing-calculated e) (same (eqb (lastNonZero before) 0) (lastNonZero before))
+      go false e = refl
