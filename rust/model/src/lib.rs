@@ -13,6 +13,7 @@ pub mod exact;
 pub mod field;
 pub mod levels;
 pub mod make;
+pub mod memo;
 pub mod raise;
 pub mod random;
 pub mod report;

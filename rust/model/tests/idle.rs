@@ -10,91 +10,25 @@ use model::levels::{reckon, Levels, Micro};
 use model::make::idle::{battery, charged_weeks, edges, idle_weeks, last_cost};
 use model::make::sound::sound_of;
 use model::make::written::{hydro, nuclear_at, plain_thermal, record, storage};
+use model::memo::{is_idle, level_at, made_weeks, told, written_weeks, Week};
 use model::raise::is_raise;
 use model::random::Random;
 use model::table::{ch, lc, Technology};
 use model::{accept, current, current_start, refuse};
 use std::collections::BTreeMap;
 
-/// The price in cents and the energy in kWh of intervals in which a battery may charge.
-type Week = Vec<(i128, i128)>;
-
-/// The memo's Charging Commodity Cost, week after week, in micro-dollars per MWh.
-#[derive(Default)]
-struct Memo {
-    last_non_zero: Option<i128>,
-}
-
-impl Memo {
-    /// Equation 3, and below it (line 384): "If no charging has been conducted during the previous
-    /// seven-day period, the IESO uses the last non-zero value for the Charging Commodity Cost
-    /// calculated". A cost below 0 is 0, by document 01.
-    fn cost_of(&mut self, week: &Week) -> i128 {
-        let scheduled: i128 = week.iter().map(|(_, energy)| energy).sum();
-        if scheduled == 0 {
-            return self.last_non_zero.unwrap_or(0);
-        }
-        let withdrawn = week.iter().map(|(price, energy)| price * energy);
-        let cost = (withdrawn.sum::<i128>() * 10_000 / scheduled).max(0);
-        if cost > 0 {
-            self.last_non_zero = Some(cost);
-        }
-        cost
-    }
-}
-
-/// The battery's energy level in cents at a charging cost in micro-dollars: 0.75 more, over 0.8.
-fn level_at(cost: i128) -> u64 {
-    let micro = (cost + 750_000) * 5 / 4;
-    (micro as u64 + 5_000) / 10_000
-}
-
-/// Takes weeks in turn. A week's dossier has an LC for each week since the first cost, the newest
-/// with the last non-zero cost so far. Its level must be the memo's; without LC, an idle week costs
-/// 0. Gives the costs.
+/// The levels that the memo gives weeks in turn are the model's. Gives the costs.
 fn by_the_memo(weeks: &[Week]) -> Vec<i128> {
-    let mut memo = Memo::default();
-    let (mut last_costs, mut costs) = (Vec::new(), Vec::new());
-    for (issue, week) in (1..).zip(weeks) {
-        let interval = |(i, (price, energy)): (i128, &_)| record(b"CH", 1, &[i, *price, *energy]);
-        let intervals: Vec<_> = (1..).zip(week).map(interval).collect();
-        let dossier = with(battery(), &intervals);
-        if let Some(cost) = memo.last_non_zero {
-            // the newest amid the older ones
-            last_costs.insert(last_costs.len() / 2, last_cost(issue, cost));
-        }
-        let cost = memo.cost_of(week);
-        let idle = week.iter().all(|(_, energy)| *energy == 0);
-        let alone = if idle { 0 } else { cost };
-        assert_eq!(energy_level(&dossier), level_at(alone));
-        assert_eq!(energy_level(&with(dossier, &last_costs)), level_at(cost));
-        costs.push(cost);
+    let told = told(weeks);
+    for (dossier, level) in told.iter().flat_map(|week| &week.dossiers) {
+        assert_eq!(energy_level(dossier), *level);
     }
-    costs
+    told.iter().map(|week| week.cost).collect()
 }
 
 #[test]
 fn a_battery_idle_for_a_week_compares_with_the_memo() {
-    let weeks = [
-        (vec![], 0),
-        (vec![(2_000, 1_000), (-500, 3_000)], 1_250_000),
-        (vec![], 1_250_000),
-        (vec![(9_000, 0), (-9_000, 0)], 1_250_000),
-        (vec![(3_000, 700), (5_000, 700), (9_000, 0)], 40_000_000),
-        // costs of 0, which no idle week carries on
-        (vec![(-500, 1)], 0),
-        (vec![], 40_000_000),
-        (vec![(0, 1_000_000)], 0),
-        (vec![(100, 50), (-100, 50)], 0),
-        (vec![(9_000, 0)], 40_000_000),
-        (vec![], 40_000_000),
-        // a fraction, dropped
-        (vec![(1_000, 2), (1_001, 1)], 10_003_333),
-        (vec![], 10_003_333),
-        (vec![(200_000, 1_000_000)], 2_000_000_000),
-        (vec![], 2_000_000_000),
-    ];
-    let (weeks, costs): (Vec<Week>, Vec<i128>) = weeks.into_iter().unzip();
+    let (weeks, costs) = written_weeks();
     assert_eq!(by_the_memo(&weeks), costs);
     // (1.25 + 0.75) / 0.8, as M8 has it
     assert_eq!(level_at(1_250_000), 250);
@@ -105,19 +39,10 @@ fn made_weeks_compare_with_the_memo() {
     let mut random = Random::new(2_016);
     let mut turns: BTreeMap<[bool; 3], usize> = BTreeMap::new();
     for _ in 0..400 {
-        let weeks: Vec<Week> = (0..12)
-            .map(|_| {
-                let (low, high) = random.pick(&[(-200_000, 200_000), (-40, 0), (1, 9_000)]);
-                let most = random.pick(&[0, 1, 1_000_000]);
-                let count = random.below(4);
-                let mut interval = |_| (random.between(low, high), random.between(0, most));
-                (0..count).map(&mut interval).collect()
-            })
-            .collect();
+        let weeks = made_weeks(&mut random);
         let costs = by_the_memo(&weeks);
-        let idle = |week: &Week| week.iter().all(|(_, energy)| *energy == 0);
         for (pair, cost) in weeks.windows(2).zip(costs.windows(2)) {
-            let turn = [idle(&pair[0]), idle(&pair[1]), cost[1] > 0];
+            let turn = [is_idle(&pair[0]), is_idle(&pair[1]), cost[1] > 0];
             *turns.entry(turn).or_default() += 1;
         }
     }

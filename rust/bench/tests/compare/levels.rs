@@ -1,11 +1,12 @@
 //! Levels, with the promised distance to the exact levels and under a raise.
 
-use crate::cases::{run, same, Check};
+use crate::cases::{run, same, seed, Check};
 use crate::refusal;
 use model::exact::{all_near, exact_levels};
 use model::levels::{Lamination, Levels};
 use model::make::written::evenly_rising;
 use model::make::{self, sound};
+use model::memo::{made_weeks, told, written_weeks};
 use model::raise::{none_lower, raised};
 use model::random::Random;
 use model::report::text;
@@ -113,6 +114,19 @@ fn dossiers_of_every_sort() {
 fn batteries() {
     let make = |random: &mut Random| sound::sound_of(random, Technology::Storage).bytes();
     run("levels of batteries", 10_000, make, check);
+}
+
+/// A battery idle for a week compares with the memo.
+#[test]
+fn weeks_by_the_memo() {
+    let mut random = Random::new(seed());
+    let made = (0..400).map(|_| made_weeks(&mut random));
+    for weeks in made.chain([written_weeks().0]) {
+        for (dossier, level) in told(&weeks).into_iter().flat_map(|week| week.dossiers) {
+            let levels = bench::levels(&dossier, 0).unwrap();
+            assert_eq!(levels.energy[0].level, level, "{weeks:?}");
+        }
+    }
 }
 
 #[test]

@@ -1,0 +1,110 @@
+//! Document 002's own rule for the charging cost of a battery, week after week, written apart from the
+//! formulas (`costs`): the tests hold the model and Bench against it.
+
+use crate::make::idle::{battery, last_cost};
+use crate::make::written::record;
+use crate::random::Random;
+
+/// The price in cents and the energy in kWh of intervals in which a battery may charge.
+pub type Week = Vec<(i128, i128)>;
+
+pub fn is_idle(week: &Week) -> bool {
+    week.iter().all(|(_, energy)| *energy == 0)
+}
+
+/// The memo's Charging Commodity Cost, week after week, in micro-dollars per MWh.
+#[derive(Default)]
+struct Memo {
+    last_non_zero: Option<i128>,
+}
+
+impl Memo {
+    /// Equation 3, and below it (line 384): "If no charging has been conducted during the previous
+    /// seven-day period, the IESO uses the last non-zero value for the Charging Commodity Cost
+    /// calculated". A cost below 0 is 0, by document 01.
+    fn cost_of(&mut self, week: &Week) -> i128 {
+        let scheduled: i128 = week.iter().map(|(_, energy)| energy).sum();
+        if scheduled == 0 {
+            return self.last_non_zero.unwrap_or(0);
+        }
+        let withdrawn = week.iter().map(|(price, energy)| price * energy);
+        let cost = (withdrawn.sum::<i128>() * 10_000 / scheduled).max(0);
+        if cost > 0 {
+            self.last_non_zero = Some(cost);
+        }
+        cost
+    }
+}
+
+/// The energy level of `battery` in cents at a charging cost in micro-dollars: 0.75 more, over 0.8.
+pub fn level_at(cost: i128) -> u64 {
+    let micro = (cost + 750_000) * 5 / 4;
+    (micro as u64 + 5_000) / 10_000
+}
+
+/// What the memo says of a week.
+pub struct Told {
+    pub cost: i128,
+    /// The battery's dossiers with the level of each: without a last charging cost, where an idle
+    /// week costs 0, and with those sent so far.
+    pub dossiers: [(Vec<u8>, u64); 2],
+}
+
+/// Weeks in turn. Since the first cost above 0 each sends the last of them as a new issue of LC, which
+/// lies amid the older ones.
+pub fn told(weeks: &[Week]) -> Vec<Told> {
+    let mut memo = Memo::default();
+    let mut sent: Vec<Vec<u8>> = Vec::new();
+    let turn = |(issue, week): (u32, &Week)| {
+        let interval = |(i, (price, energy)): (i128, &_)| record(b"CH", 1, &[i, *price, *energy]);
+        let intervals: Vec<_> = (1..).zip(week).map(interval).collect();
+        let without = [battery(), intervals.concat()].concat();
+        if let Some(cost) = memo.last_non_zero {
+            sent.insert(sent.len() / 2, last_cost(issue, cost));
+        }
+        let with = [&without[..], &sent.concat()].concat();
+        let cost = memo.cost_of(week);
+        let alone = if is_idle(week) { 0 } else { cost };
+        Told {
+            cost,
+            dossiers: [(without, level_at(alone)), (with, level_at(cost))],
+        }
+    };
+    (1..).zip(weeks).map(turn).collect()
+}
+
+/// Weeks in turn with the cost that the memo gives each, in micro-dollars.
+pub fn written_weeks() -> (Vec<Week>, Vec<i128>) {
+    let weeks = [
+        (vec![], 0),
+        (vec![(2_000, 1_000), (-500, 3_000)], 1_250_000),
+        (vec![], 1_250_000),
+        (vec![(9_000, 0), (-9_000, 0)], 1_250_000),
+        (vec![(3_000, 700), (5_000, 700), (9_000, 0)], 40_000_000),
+        // costs of 0, which no idle week carries on
+        (vec![(-500, 1)], 0),
+        (vec![], 40_000_000),
+        (vec![(0, 1_000_000)], 0),
+        (vec![(100, 50), (-100, 50)], 0),
+        (vec![(9_000, 0)], 40_000_000),
+        (vec![], 40_000_000),
+        // a fraction, dropped
+        (vec![(1_000, 2), (1_001, 1)], 10_003_333),
+        (vec![], 10_003_333),
+        (vec![(200_000, 1_000_000)], 2_000_000_000),
+        (vec![], 2_000_000_000),
+    ];
+    weeks.into_iter().unzip()
+}
+
+/// Twelve weeks, of every sort in every turn.
+pub fn made_weeks(random: &mut Random) -> Vec<Week> {
+    let week = |_| {
+        let (low, high) = random.pick(&[(-200_000, 200_000), (-40, 0), (1, 9_000)]);
+        let most = random.pick(&[0, 1, 1_000_000]);
+        let count = random.below(4);
+        let mut interval = |_| (random.between(low, high), random.between(0, most));
+        (0..count).map(&mut interval).collect()
+    };
+    (0..12).map(week).collect()
+}
