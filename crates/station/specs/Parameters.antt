@@ -179,6 +179,6 @@ placePrice m n = m .of FP n 1
 
 -- ---- LC
 
--- the last charging cost that wasn't 0, micro-dollars per MWh
+-- the last charging cost, micro-dollars per MWh
 abbrev pub lastCost : Amounts → ℕ
 lastCost m = m .of LC 0 0
