@@ -23,7 +23,7 @@ extern "C" {
 uint64_t bench_accept(const uint8_t *dossier, size_t length);
 
 /* Where the current record of a mark and key stands in the dossier: a is its start and b its length; 0 where there is none,
- * or the dossier draws 13 or 1 to 4. The mark is its two letters, the first high; the key its bytes as one number, 0 for RS. */
+ * or the dossier draws 13 or 1 to 4. The mark is its two letters, the first high; the key its bytes as one number, 0 for RS and LC. */
 uint64_t bench_current(const uint8_t *dossier, size_t length, uint16_t mark, uint32_t key);
 
 /* The levels at an hour, into at least 66 words: [0] the profile, [1] the number n of laminations, then 20 times from, to (0.1 MW)

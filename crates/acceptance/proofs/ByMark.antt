@@ -137,7 +137,7 @@ of-mark t s e p = e ∙ ap (λ (x : ℕ). triedAs t x s) p
 pub at-mark : (t k m n : ℕ) (s : List ℕ) {b : Bool} → size m ≡ n → b ≡ fits t m s → k ≡ mark s → k ≡ m → tried n b ≡ triedAs t (mark s) s
 at-mark t k m n s z e p q = of-mark t s (at-kind t k m n s z e q) p
 
--- what none of the marks with a key is has no key
+-- a kind that is none of the marks with a key has no key
 pub no-key : (k : ℕ) → k < kinds → (k ≡ 2 → ⊥) → (k ≡ 3 → ⊥) → (k ≡ 4 → ⊥) → (k ≡ 5 → ⊥) → (k ≡ 6 → ⊥) → (k ≡ 7 → ⊥) → (k ≡ 8 → ⊥) → (k ≡ 9 → ⊥) → (k ≡ 10 → ⊥) → keyWidth k ≡ 0
 unfolding keyWidth keyIn rowOf table
 no-key k l a b c d e f g h i =

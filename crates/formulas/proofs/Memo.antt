@@ -1,7 +1,7 @@
 -- The charging cost is document 002's, if LC holds the last non-zero one; and what LC holds next follows from the charging cost.
 use mathlib.Core.Path.{_≡_, refl, sym, _∙_}
 use mathlib.Core.Bool.{Bool, true, false, cond}
-use mathlib.Core.List.{List, _∷_}
+use mathlib.Core.List.{List, [], _∷_}
 use Prim.Native.Nat.{ℕ, _*_}
 use native.Mathlib.Nat.{div-zero}
 use lib.Dec.{eqb}
@@ -9,11 +9,7 @@ use borrow.Author.Tests.{eqb-true}
 use Rattle.station.specs.Parameters.{lastCost}
 use Rattle.formulas.specs.Exact.{whole, share, quotient, dropped}
 use Rattle.formulas.specs.Levels.{totalEnergy, chargingSum, chargingCost}
-use Rattle.formulas.specs.Memo.{Week, calculated, lastNonZero, memoCost}
-
--- a week's charging cost in whole micro-dollars
-abbrev pub costOf : Week → ℕ
-costOf w = dropped (chargingCost (w .parameters) (w .amounts))
+use Rattle.formulas.specs.Memo.{Week, calculated, lastNonZero, memoCost, costOf, toSend, Sent, first, next}
 
 module _ (w : Week) (before : List Week) (carried : lastCost (w .amounts) ≡ lastNonZero before) where
   pub memo-charging : costOf w ≡ memoCost w before
@@ -40,3 +36,12 @@ module _ (w : Week) (before : List Week) (carried : lastCost (w .amounts) ≡ la
       go : (b : Bool) → eqb (totalEnergy (w .parameters)) 0 ≡ b → cond (eqb (calculated w) 0) (lastNonZero before) (calculated w) ≡ cond (eqb (cond b (lastNonZero before) (calculated w)) 0) (lastNonZero before) (cond b (lastNonZero before) (calculated w))
       go true e = rw (nothing-calculated e) (same (eqb (lastNonZero before) 0) (lastNonZero before))
       go false e = refl
+
+-- week after week, from the first on
+sent : (l : List Week) → Sent l → toSend l ≡ lastNonZero l
+unfolding toSend
+sent [] s = unfold lastNonZero in refl
+sent (w ∷ l) (next e s) = sym (memo-next w l (e ∙ sent l s))
+
+pub memo-always : (w : Week) (before : List Week) → Sent (w ∷ before) → costOf w ≡ memoCost w before
+memo-always w before (next e s) = memo-charging w before (e ∙ sent before s)

@@ -1,5 +1,5 @@
 -- Worked values of the formulas, in micro-dollars before they round to cents: the paper's case R1 and its storage cases, a
--- nuclear case, and the profile of an hour that two requests cover.
+-- nuclear case, an idle battery, a forecast, and the profile of an hour that two requests cover.
 use mathlib.Core.Path.{_≡_, refl}
 use mathlib.Core.Bool.{cond, _&&_, not}
 use mathlib.Core.List.{List, [], _∷_}
@@ -119,7 +119,7 @@ unfolding idle storage shortRunCost chargingCost chargingSum totalEnergy adders 
 idle-short-run = refl
 
 -- without LC the cost stays 0
-idle-without : dropped (chargingCost (asParameters idle) (asAmounts (says LC 0 0 0 ∷ idle))) ≡ 0
+idle-without : dropped (chargingCost (asParameters idle) (asAmounts storage)) ≡ 0
 unfolding idle storage chargingCost chargingSum totalEnergy dropped quotient sumTo find
 idle-without = refl
 

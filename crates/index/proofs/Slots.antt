@@ -12,8 +12,8 @@ use Rattle.lists.proofs.Tests.{and-left, and-right, and-both, between-low, betw
 use Rattle.fields.specs.Numbers.{number}
 use Rattle.records.specs.declared.MarkShape.{MarkShape}
 use Rattle.records.specs.Table.{Row, table, rowOf, fieldOf, FP, kinds}
-use Rattle.records.specs.Record.{markIn, mark, widths, size, shortest, offsetIn, offset, read, value, keyIn, keyWidth, keyOf, inRange, rangesHold, fault}
-use Rattle.records.specs.Shapes.{shape, shapeOf, keyField, keyFits, keyTest}
+use Rattle.records.specs.Record.{markIn, mark, widths, size, offsetIn, offset, read, value, keyIn, keyWidth, keyOf, inRange, rangesHold, fault}
+use Rattle.records.specs.Shapes.{shape, shortest, shapeOf, keyField, keyFits, keyTest}
 use Rattle.records.proofs.Record.{faultless, field-in}
 use Rattle.index.specs.Slots.{slot, narrow, wide}
 

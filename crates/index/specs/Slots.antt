@@ -10,7 +10,7 @@ use Rattle.records.specs.Walk.{Step, Walked, ended, stopped}
 use Rattle.index.specs.declared.Passed.{Passed}
 use Rattle.index.specs.declared.Passed.the-variants.{Ended, Stopped}
 
--- ---- the slot of a mark and key: mixed radix, the marks one after the other
+-- ---- the slot of a mark and key: mixed radix, the marks one after the other, FP last
 
 -- by the key as a number; key fields count from 1, so no field is lessened
 unfoldable pub slot : ℕ → ℕ → ℕ

@@ -87,7 +87,7 @@ idle-level : inCents (λ s m. storageEnergy s m 1) idle ≡ 250 ∷ []
 unfolding valuesIn made computed
 idle-level = refl
 
--- its LC at R1 draws 6
+-- an LC at R1, even one of 0, draws 6
 idle-thermal : numberOf (answer (joined (r1 ++ (made LC 7 (0 ∷ []) ∷ [])))) ≡ 6
 unfolding valuesIn made computed
 idle-thermal = refl

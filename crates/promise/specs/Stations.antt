@@ -109,7 +109,7 @@ river = riverWith 0 50
 
 -- ---- document 02, request 2: the battery of M5 to M9, idle for a week, at hours of 1.00
 
--- with its last charging cost as issue 7, and behind it as issue 6
+-- with its last charging cost as issue 7, and behind it an older one, 90.00, as issue 6
 abbrev pub idleWith : ℕ → List (List ℕ)
 idleWith cost =
     batteryWith

@@ -76,10 +76,6 @@ begun a b s e =
     (eqb-true (getD s 0 0) a (and-left (eqb (getD s 0 0) a) (eqb (getD s 1 0) b) e))
     (eqb-true (getD s 1 0) b (and-right (eqb (getD s 0 0) a) (eqb (getD s 1 0) b) e))
 
-pub no-mark : (s : List ℕ) → begins s 82 83 ≡ false → begins s 72 80 ≡ false → begins s 70 85 ≡ false → begins s 65 68 ≡ false → begins s 77 77 ≡ false → begins s 82 81 ≡ false → begins s 72 82 ≡ false → begins s 67 72 ≡ false → begins s 84 72 ≡ false → begins s 70 80 ≡ false → begins s 76 67 ≡ false → mark s ≡ 0
-unfolding mark markIn table
-no-mark s a b c d e f g h i j k = rw (a, b, c, d, e, f, g, h, i, j, k) refl
-
 -- letters of no mark with a key
 pub no-key : (s : List ℕ) → begins s 72 80 ≡ false → begins s 70 85 ≡ false → begins s 65 68 ≡ false → begins s 77 77 ≡ false → begins s 82 81 ≡ false → begins s 72 82 ≡ false → begins s 67 72 ≡ false → begins s 84 72 ≡ false → begins s 70 80 ≡ false → keyWidth (mark s) ≡ 0
 unfolding mark markIn table

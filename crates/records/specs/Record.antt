@@ -39,10 +39,6 @@ widths (f ∷ l) = f .width + widths l
 unfoldable pub size : ℕ → ℕ
 size k = head + widths (rowOf k .fields)
 
--- no record is shorter: the law `size-least`
-abbrev pub shortest : ℕ
-shortest = 10
-
 -- where field i begins, the first of the list beginning at o
 unfoldable pub offsetIn : ℕ → List Field → ℕ → ℕ
 offsetIn o [] i = o

@@ -24,6 +24,10 @@ shape x =
       highest = keyBound (λ f. f .highest) x 0 ∷ keyBound (λ f. f .highest) x 1 ∷ keyBound (λ f. f .highest) x 2 ∷ [];
     }
 
+-- no record of a known mark is shorter: the law `size-least` (index/proofs/Slots)
+abbrev pub shortest : ℕ
+shortest = 10
+
 -- of every mark, an unknown one first
 unfoldable pub shapes : List MarkShape
 shapes = map shape (noRow ∷ table)

@@ -1,4 +1,4 @@
--- The table of marks: document 01's list, a row for each mark and a line for each field, in its order.
+-- The table of marks: document 01's list and document 02's marks behind it, a row for each mark and a line for each field, in their order.
 -- Lengths, keys, ranges, money and the limits of a raise all follow from it, so a later mark begins as one more row.
 use mathlib.Core.Bool.{Bool, true, false}
 use mathlib.Core.List.{List, [], _∷_}

@@ -118,7 +118,7 @@ pub const LC: MarkShape = MarkShape {
 // A constant table holds them by kind: the mark's place in the table of specs/. A read at a variable place writes the whole table first.
 pub const MARKS: [MarkShape; 12] = [UNKNOWN, RS, HP, FU, AD, MM, RQ, HR, CH, TH, FP, LC];
 
-// No record is shorter.
+// No record of a known mark is shorter.
 pub const SHORTEST: usize = 10;
 
 // The row of a kind.

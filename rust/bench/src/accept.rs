@@ -19,7 +19,8 @@ pub struct Part<'a> {
     pub bytes: &'a [u8],
 }
 
-/// The current record of a mark and key. The key bytes form one number, 0 for RS.
+/// The current record of a mark and key. The key bytes form one number, 0 for RS and
+/// LC.
 pub fn current<'a>(dossier: &'a [u8], mark: [u8; 2], key: u32) -> Part<'a> {
     let letters = u16::from_be_bytes(mark);
     // SAFETY: the library reads these bytes alone.

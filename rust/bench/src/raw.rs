@@ -5,7 +5,7 @@ extern "C" {
     #[cfg(feature = "accept")]
     pub fn bench_accept(dossier: *const u8, length: usize) -> u64;
 
-    /// The mark's first letter is the high byte; the key bytes form one number, 0 for RS.
+    /// The mark's first letter is the high byte; the key bytes form one number, 0 for RS and LC.
     #[cfg(feature = "accept")]
     pub fn bench_current(dossier: *const u8, length: usize, mark: u16, key: u32) -> u64;
 

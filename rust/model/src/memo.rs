@@ -97,7 +97,7 @@ pub fn written_weeks() -> (Vec<Week>, Vec<i128>) {
     weeks.into_iter().unzip()
 }
 
-/// Twelve weeks, of every sort in every turn.
+/// Twelve weeks, each of any sort.
 pub fn made_weeks(random: &mut Random) -> Vec<Week> {
     let week = |_| {
         let (low, high) = random.pick(&[(-200_000, 200_000), (-40, 0), (1, 9_000)]);

@@ -104,7 +104,7 @@ pub mod fp {
 
 pub mod lc {
     use super::Field;
-    /// The last charging cost that wasn't 0, in micro-dollars.
+    /// The last charging cost, in micro-dollars per MWh.
     pub const COST: Field = Field::first(4, 0, 2_000_000_000).money();
 }
 

@@ -2,6 +2,7 @@
 
 use super::set_issue;
 use super::written::{hydro, nuclear_at, plain_thermal, record, storage};
+use crate::dossier::LONGEST;
 use crate::table::lc;
 
 /// A last charging cost in micro-dollars.
@@ -62,8 +63,9 @@ fn last_costs() -> Vec<Vec<u8>> {
     costs
 }
 
-/// Each week with each of the last costs, before and behind the other records; a full week of
-/// energy 0; a last cost cut short at every length; and stations that may have none.
+/// Each week with each of the last costs, before and behind the other records; a last cost cut short
+/// at every length; as many last costs as go into a dossier; a full week of energy 0; and stations that
+/// may have none.
 pub fn edges() -> Vec<Vec<u8>> {
     let mut edges = elsewhere();
     for week in [idle_weeks(), charged_weeks()].concat() {
@@ -74,6 +76,10 @@ pub fn edges() -> Vec<Vec<u8>> {
     }
     let cost = last_cost(1, 20_000_000);
     edges.extend((1..cost.len()).map(|length| [&battery(), &cost[..length]].concat()));
+    // as many records as a dossier holds at most, the newest first, and a twin at its end
+    let count = ((LONGEST - battery().len()) / cost.len()) as u32;
+    let falling: Vec<u8> = (1..count).rev().flat_map(|n| last_cost(n, 1)).collect();
+    edges.extend([0, 1].map(|n| [battery(), falling.clone(), last_cost(n, 1)].concat()));
     let full: Vec<u8> = (1..=2_016).flat_map(uncharged).collect();
     edges.push([battery(), full, cost].concat());
     edges
