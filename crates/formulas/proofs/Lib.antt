@@ -1,4 +1,4 @@
-mod Worked
+pub mod Cases
 pub mod Sums
 pub mod Exact
 pub mod Lines

@@ -1,4 +1,4 @@
-pub mod Worked
+pub mod Cases
 pub mod Current
 pub mod Twins
 pub mod Parameters

@@ -1,4 +1,4 @@
-mod Worked
+pub mod Cases
 pub mod Limits
 pub mod Stays
 pub mod First

@@ -30,15 +30,15 @@ unfolding current currentFrom better matches mark markIn table rowOf issue keyOf
 other-key = refl
 
 -- LC of 30.00 dollars, issue 6
-olderCost : List ℕ
+pub olderCost : List ℕ
 olderCost = 76 ∷ 67 ∷ 0 ∷ 0 ∷ 0 ∷ 6 ∷ 1 ∷ 201 ∷ 195 ∷ 128 ∷ []
 
 -- LC of 10.00 dollars, issue 7
-newerCost : List ℕ
+pub newerCost : List ℕ
 newerCost = 76 ∷ 67 ∷ 0 ∷ 0 ∷ 0 ∷ 7 ∷ 0 ∷ 152 ∷ 150 ∷ 128 ∷ []
 
 -- LC has no key, and an older one that arrives behind a newer one does not count, though it says more
-older-cost-behind : current LC 0 (newerCost ∷ olderCost ∷ []) ≡ newerCost
+pub older-cost-behind : current LC 0 (newerCost ∷ olderCost ∷ []) ≡ newerCost
 unfolding current currentFrom better matches mark markIn table rowOf issue keyOf keyWidth keyIn number olderCost newerCost
 older-cost-behind = refl
 

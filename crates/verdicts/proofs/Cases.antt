@@ -20,7 +20,7 @@ use Rattle.verdicts.specs.Test.{noMargin, limit, fails, failsUnder, fail
 use Rattle.verdicts.specs.Refusals.{levelRefusal, conditionRefusal, priceBefore, pairHolds, malformed, aboveCapacity, lengthRefusal, offerRefusal, priceRefusal}
 
 -- M3: by percent 63.45, by margin 67.30
-by-percent : limit 4230 50 2500 ≡ 6345
+pub by-percent : limit 4230 50 2500 ≡ 6345
 unfolding limit
 by-percent = refl
 

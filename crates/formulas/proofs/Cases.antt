@@ -76,7 +76,7 @@ unfolding adders dropped sumTo find
 r1-reserve = refl
 
 -- half a cent goes up (M2)
-half-up : (cents 42304999 ≡ 4230) × (cents 42305000 ≡ 4231)
+pub half-up : (cents 42304999 ≡ 4230) × (cents 42305000 ≡ 4231)
 unfolding cents
 half-up = (refl, refl)
 
