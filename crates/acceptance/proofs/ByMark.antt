@@ -5,14 +5,13 @@ use mathlib.Core.List.{List, [], _∷_}
 use Prim.Native.Nat.{ℕ, zero, suc, _/_, _%_, _≤_, _<_}
 use native.Mathlib.Omega.{arith}
 use lib.Dec.{ltb, eqb, lit<}
-use borrow.Author.Tests.{ne-eqb, eqb-true, eqb-false}
+use borrow.Author.Tests.{ne-eqb, eqb-true}
 use Rattle.lists.specs.Tests.{allBelow, among, between}
 use Rattle.lists.proofs.Tests.{and-true, split, between-low, between-high}
 use Rattle.fields.specs.Numbers.{number}
-use Rattle.records.specs.Table.{table, rowOf, fieldOf, kinds}
-use Rattle.records.specs.Record.{mark, size, keyIn, keyWidth, offsetIn, offset, read, value, inRange, rangesHold}
+use Rattle.records.specs.Table.{table, rowOf, fieldOf}
+use Rattle.records.specs.Record.{mark, size, offsetIn, offset, read, value, inRange, rangesHold}
 use Rattle.records.proofs.Record.{field-in}
-use Rattle.index.proofs.Slots.{by-mark}
 use Rattle.acceptance.specs.declared.Tried.{Tried}
 use Rattle.acceptance.specs.Fit.{levelsOf, holds, fieldFits, ruleFits, fits}
 use Rattle.acceptance.specs.Looked.{Known, tried, triedAs}
@@ -136,22 +135,6 @@ of-mark t s e p = e ∙ ap (λ (x : ℕ). triedAs t x s) p
 
 pub at-mark : (t k m n : ℕ) (s : List ℕ) {b : Bool} → size m ≡ n → b ≡ fits t m s → k ≡ mark s → k ≡ m → tried n b ≡ triedAs t (mark s) s
 at-mark t k m n s z e p q = of-mark t s (at-kind t k m n s z e q) p
-
--- a kind that is none of the marks with a key has no key
-pub no-key : (k : ℕ) → k < kinds → (k ≡ 2 → ⊥) → (k ≡ 3 → ⊥) → (k ≡ 4 → ⊥) → (k ≡ 5 → ⊥) → (k ≡ 6 → ⊥) → (k ≡ 7 → ⊥) → (k ≡ 8 → ⊥) → (k ≡ 9 → ⊥) → (k ≡ 10 → ⊥) → keyWidth k ≡ 0
-unfolding keyWidth keyIn rowOf table
-no-key k l a b c d e f g h i =
-    split (eqb k 0)
-    (λ z. rw (eqb-true k 0 z) refl)
-    (λ z. by-mark (λ j. k ≡ j → keyWidth j ≡ 0) (λ w. refl) (λ w. absurd (a w)) (λ w. absurd (b w)) (λ w. absurd (c w)) (λ w. absurd (d w)) (λ w. absurd (e w)) (λ w. absurd (f w)) (λ w. absurd (g w)) (λ w. absurd (h w)) (λ w. absurd (i w)) (λ w. refl) k (eqb-false k 0 z) l refl)
-
--- a mark without a key that is not RS's and not LC's is none
-pub keyless-none : (k : ℕ) → k < kinds → keyWidth k ≡ 0 → (k ≡ 1 → ⊥) → (k ≡ 11 → ⊥) → k ≡ 0
-unfolding keyWidth keyIn rowOf table
-keyless-none k l w a b =
-    split (eqb k 0)
-    (λ z. eqb-true k 0 z)
-    (λ z. absurd (by-mark (λ j. k ≡ j → keyWidth j ≡ 0 → ⊥) (λ e x. a e) (λ e x. omega (arith, x)) (λ e x. omega (arith, x)) (λ e x. omega (arith, x)) (λ e x. omega (arith, x)) (λ e x. omega (arith, x)) (λ e x. omega (arith, x)) (λ e x. omega (arith, x)) (λ e x. omega (arith, x)) (λ e x. omega (arith, x)) (λ e x. b e) k (eqb-false k 0 z) l refl w))
 
 -- ---- a thermal station has every level, so AD fits unless its cost is 5, and TH fits
 

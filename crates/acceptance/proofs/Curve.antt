@@ -75,10 +75,6 @@ none-there l k n {r} e z = sym (there-is l k n e) ∙ le-ltb 0 (length r) (omega
 pub one-there : (l : List (List ℕ)) (k n : ℕ) {r : List ℕ} → r ≡ current k n l → (length r ≡ 0 → ⊥) → parameters l .has k n ≡ true
 one-there l k n {r} e z = sym (there-is l k n e) ∙ lt-ltb 0 (length r) (omega arith)
 
-pub cond-le : (b : Bool) (x y n : ℕ) → x ≤ n → y ≤ n → cond b x y ≤ n
-cond-le true x y n p q = p
-cond-le false x y n p q = q
-
 -- ---- the curve, leg by leg
 
 module _ (s : Parameters) where

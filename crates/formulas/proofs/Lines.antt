@@ -8,6 +8,7 @@ use native.Mathlib.Omega.{arith}
 use lib.Dec.{eqb, lit≤}
 use borrow.Author.Tests.{eqb-true}
 use Rattle.lists.specs.Lists.{Pairwise, none, more, Each, done, also}
+use Rattle.lists.proofs.Tests.{cond-holds, cond-relates}
 use Rattle.records.specs.Table.{FU, AD, MM, HR, CH, FP, LC}
 use Rattle.station.specs.Parameters.{Parameters, Amounts, Higher, technology, efficiency, window, chargeEnergy, chargePrice, lastCost, adderKey, itemKey}
 use Rattle.acceptance.specs.Curve.{fullHours}
@@ -64,11 +65,8 @@ module _ (s : Parameters) {m n : Amounts} (h : Higher m n) (p : ℕ) where
 
   charging-below : Below (chargingCost s m) (chargingCost s n)
   unfolding chargingCost
-  charging-below = go (eqb (totalEnergy s) 0)
-    where
-      go : (b : Bool) → Below (cond b (whole (lastCost m)) (share (chargingSum s m * 10000) (totalEnergy s))) (cond b (whole (lastCost n)) (share (chargingSum s n * 10000) (totalEnergy s)))
-      go true = wholes (h LC 0 0)
-      go false = shares (mul-le-mul-right 10000 chargingSum-le)
+  charging-below =
+      cond-relates Below (eqb (totalEnergy s) 0) _ _ _ _ (wholes (h LC 0 0)) (shares (mul-le-mul-right 10000 chargingSum-le))
 
   storage-below : Below (storageEnergy s m p) (storageEnergy s n p)
   unfolding storageEnergy shortRunCost opportunityCost
@@ -90,10 +88,6 @@ module _ (s : Parameters) {m n : Amounts} (h : Higher m n) (p : ℕ) where
 upper : (v i a b : ℕ) {x y : Sum} → Below x y → NoLower (line v i a b x) (line v i a b y)
 upper v i a b h = record { level = refl; lamination = refl; from = refl; to = refl; amount = cents-mono (dropped-mono h) }
 
-by-cond : {R : Line → Line → Type 0} {l l′ m m′ : List Line} (b : Bool) → Pairwise R l m → Pairwise R l′ m′ → Pairwise R (cond b l l′) (cond b m m′)
-by-cond true x y = x
-by-cond false x y = y
-
 module _ (s : Parameters) {m n : Amounts} (h : Higher m n) (p : ℕ) where
   laminations-upper : (k i : ℕ) {l l′ : List Line} → Pairwise NoLower l l′ → Pairwise NoLower (laminations s m p i k l) (laminations s n p i k l′)
   unfolding laminations
@@ -103,13 +97,13 @@ module _ (s : Parameters) {m n : Amounts} (h : Higher m n) (p : ℕ) where
   linesOf-upper : Pairwise NoLower (linesOf s m p) (linesOf s n p)
   unfolding linesOf oneLamination single
   linesOf-upper =
-      by-cond (eqb (technology s) 1)
+      cond-relates (Pairwise NoLower) (eqb (technology s) 1) _ _ _ _
       (laminations-upper _ 1 (more (upper 2 0 0 0 (start-below s h p)) (more (upper 3 0 0 0 (noLoad-below s h p)) (more (upper 4 0 0 0 (adders-below s h p 4)) none))))
-      (by-cond (eqb (technology s) 2)
+      (cond-relates (Pairwise NoLower) (eqb (technology s) 2) _ _ _ _
       (more (upper 1 1 0 _ (nuclear-below s h p)) none)
-      (by-cond (eqb (technology s) 3)
+      (cond-relates (Pairwise NoLower) (eqb (technology s) 3) _ _ _ _
       (more (upper 1 1 0 _ (storage-below s h p)) (more (upper 4 0 0 0 (adders-below s h p 4)) none))
-      (by-cond (eqb (technology s) 4)
+      (cond-relates (Pairwise NoLower) (eqb (technology s) 4) _ _ _ _
       (more (upper 1 1 0 _ (hydro-below s h p)) (more (upper 4 0 0 0 (adders-below s h p 4)) none))
       none)))
 
@@ -143,11 +137,8 @@ module _ (s : Parameters) (m : Amounts) (p : ℕ) where
   -- at most one division, whether energy was charged or not
   charging-one : Efficient (chargingCost s m) × (divisions (chargingCost s m) ≤ 1)
   unfolding chargingCost divisions
-  charging-one = go (eqb (totalEnergy s) 0)
-    where
-      go : (b : Bool) → Efficient (cond b (whole (lastCost m)) (share (chargingSum s m * 10000) (totalEnergy s))) × (divisions (cond b (whole (lastCost m)) (share (chargingSum s m * 10000) (totalEnergy s))) ≤ 1)
-      go true = (tt, lit≤ tt)
-      go false = (tt, lit≤ tt)
+  charging-one =
+      cond-holds (λ x. Efficient x × (divisions x ≤ 1)) (eqb (totalEnergy s) 0) (whole (lastCost m)) (share (chargingSum s m * 10000) (totalEnergy s)) (tt, lit≤ tt) (tt, lit≤ tt)
 
   storage-close : 500 ≤ efficiency s → CloseLine (oneLamination s (storageEnergy s m p))
   unfolding oneLamination storageEnergy shortRunCost opportunityCost adders maintenance divisions sumTo

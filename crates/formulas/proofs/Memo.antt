@@ -2,23 +2,19 @@
 use mathlib.Core.Path.{_≡_, refl, sym, _∙_}
 use mathlib.Core.Bool.{Bool, true, false, cond}
 use mathlib.Core.List.{List, [], _∷_}
-use Prim.Native.Nat.{ℕ, _*_}
 use native.Mathlib.Nat.{div-zero}
 use lib.Dec.{eqb}
 use borrow.Author.Tests.{eqb-true}
+use Rattle.lists.proofs.Tests.{cond-holds, cond-relates}
 use Rattle.station.specs.Parameters.{lastCost}
-use Rattle.formulas.specs.Exact.{whole, share, quotient, dropped}
-use Rattle.formulas.specs.Levels.{totalEnergy, chargingSum, chargingCost}
+use Rattle.formulas.specs.Exact.{whole, quotient, dropped}
+use Rattle.formulas.specs.Levels.{totalEnergy, chargingCost}
 use Rattle.formulas.specs.Memo.{Week, calculated, lastNonZero, memoCost, costOf, toSend, Sent, first, next}
 
 module _ (w : Week) (before : List Week) (carried : lastCost (w .amounts) ≡ lastNonZero before) where
   pub memo-charging : costOf w ≡ memoCost w before
-  unfolding chargingCost memoCost calculated
-  memo-charging = go (eqb (totalEnergy (w .parameters)) 0)
-    where
-      go : (b : Bool) → dropped (cond b (whole (lastCost (w .amounts))) (share (chargingSum (w .parameters) (w .amounts) * 10000) (totalEnergy (w .parameters)))) ≡ cond b (lastNonZero before) (quotient (chargingSum (w .parameters) (w .amounts) * 10000) (totalEnergy (w .parameters)))
-      go true = unfold dropped in carried
-      go false = unfold dropped in refl
+  unfolding chargingCost memoCost calculated dropped
+  memo-charging = cond-relates (λ x n. dropped x ≡ n) (eqb (totalEnergy (w .parameters)) 0) (whole (lastCost (w .amounts))) _ _ _ carried refl
 
   nothing-calculated : eqb (totalEnergy (w .parameters)) 0 ≡ true → calculated w ≡ 0
   unfolding calculated quotient
@@ -29,12 +25,8 @@ module _ (w : Week) (before : List Week) (carried : lastCost (w .amounts) ≡ la
   unfolding lastNonZero memoCost
   memo-next = rw (carried, memo-charging) (go (eqb (totalEnergy (w .parameters)) 0) refl)
     where
-      same : (b : Bool) (x : ℕ) → x ≡ cond b x x
-      same true x = refl
-      same false x = refl
-
       go : (b : Bool) → eqb (totalEnergy (w .parameters)) 0 ≡ b → cond (eqb (calculated w) 0) (lastNonZero before) (calculated w) ≡ cond (eqb (cond b (lastNonZero before) (calculated w)) 0) (lastNonZero before) (cond b (lastNonZero before) (calculated w))
-      go true e = rw (nothing-calculated e) (same (eqb (lastNonZero before) 0) (lastNonZero before))
+      go true e = rw (nothing-calculated e) (cond-holds (λ x. lastNonZero before ≡ x) (eqb (lastNonZero before) 0) (lastNonZero before) (lastNonZero before) refl refl)
       go false e = refl
 
 -- week after week, from the first on

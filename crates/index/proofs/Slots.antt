@@ -2,55 +2,21 @@
 use mathlib.Core.Path.{_≡_, refl, ap, sym, subst, _∙_}
 use mathlib.Core.Bool.{Bool, true, false, cond, _&&_, _||_, false≢true}
 use mathlib.Core.List.{List, [], _∷_}
-use Prim.Native.Nat.{ℕ, zero, suc, _+_, _*_, _/_, _%_, _≤_, _<_}
+use Prim.Native.Nat.{ℕ, _+_, _*_, _/_, _%_, _≤_, _<_}
 use native.Mathlib.Omega.{arith}
-use lib.Dec.{leb, ltb, eqb, lit≤, lit<}
-use lib.ListN.{length, getD}
+use lib.Dec.{leb, ltb, eqb, lit<}
+use lib.ListN.{getD}
 use borrow.Author.Tests.{lt-ltb, leb-true, ltb-true, eqb-true, ne-eqb}
 use Rattle.lists.specs.Tests.{allBelow, between, everyOf}
 use Rattle.lists.proofs.Tests.{and-left, and-right, and-both, between-low, between-high, in-between, below-at, everyOf-at}
 use Rattle.fields.specs.Numbers.{number}
 use Rattle.records.specs.declared.MarkShape.{MarkShape}
-use Rattle.records.specs.Table.{Row, table, rowOf, fieldOf, FP, kinds}
-use Rattle.records.specs.Record.{markIn, mark, widths, size, offsetIn, offset, read, value, keyIn, keyWidth, keyOf, inRange, rangesHold, fault}
-use Rattle.records.specs.Shapes.{shape, shortest, shapeOf, keyField, keyFits, keyTest}
+use Rattle.records.specs.Table.{table, rowOf, fieldOf, FP, kinds}
+use Rattle.records.specs.Record.{mark, offsetIn, offset, read, value, keyIn, keyWidth, keyOf, inRange, rangesHold, fault}
+use Rattle.records.specs.Shapes.{shape, shapeOf, keyField, keyFits, keyTest}
 use Rattle.records.proofs.Record.{faultless, field-in}
+use Rattle.records.proofs.Marks.{mark-lt, by-mark}
 use Rattle.index.specs.Slots.{slot, narrow, wide}
-
--- ---- the marks
-
-cond-lt : (b : Bool) (x y n : ℕ) → x < n → y < n → cond b x y < n
-cond-lt true x y n p q = p
-cond-lt false x y n p q = q
-
-in-lt : (k : ℕ) (l : List Row) (a b : ℕ) → 0 < k → markIn k l a b < k + length l
-unfolding markIn
-in-lt k [] a b h = omega arith
-in-lt k (x ∷ l) a b h =
-    cond-lt (eqb a (x .first) && eqb b (x .second)) k (markIn (suc k) l a b) (k + suc (length l)) (omega arith) (omega (arith, in-lt (suc k) l a b (omega arith)))
-
-pub mark-lt : (s : List ℕ) → mark s < kinds
-unfolding mark table
-mark-lt s = in-lt 1 table (getD s 0 0) (getD s 1 0) (lit< tt)
-
-pub by-mark : (P : ℕ → Type 0) → P 1 → P 2 → P 3 → P 4 → P 5 → P 6 → P 7 → P 8 → P 9 → P 10 → P 11 → (k : ℕ) → (k ≡ 0 → ⊥) → k < kinds → P k
-by-mark P a b c d e f g h i j m zero z l = absurd (z refl)
-by-mark P a b c d e f g h i j m (suc zero) z l = a
-by-mark P a b c d e f g h i j m (suc (suc zero)) z l = b
-by-mark P a b c d e f g h i j m (suc (suc (suc zero))) z l = c
-by-mark P a b c d e f g h i j m (suc (suc (suc (suc zero)))) z l = d
-by-mark P a b c d e f g h i j m (suc (suc (suc (suc (suc zero))))) z l = e
-by-mark P a b c d e f g h i j m (suc (suc (suc (suc (suc (suc zero)))))) z l = f
-by-mark P a b c d e f g h i j m (suc (suc (suc (suc (suc (suc (suc zero))))))) z l = g
-by-mark P a b c d e f g h i j m (suc (suc (suc (suc (suc (suc (suc (suc zero)))))))) z l = h
-by-mark P a b c d e f g h i j m (suc (suc (suc (suc (suc (suc (suc (suc (suc zero))))))))) z l = i
-by-mark P a b c d e f g h i j m (suc (suc (suc (suc (suc (suc (suc (suc (suc (suc zero)))))))))) z l = j
-by-mark P a b c d e f g h i j m (suc (suc (suc (suc (suc (suc (suc (suc (suc (suc (suc zero))))))))))) z l = m
-by-mark P a b c d e f g h i j m (suc (suc (suc (suc (suc (suc (suc (suc (suc (suc (suc (suc k)))))))))))) z l = absurd (omega arith)
-
-pub size-least : (k : ℕ) → (k ≡ 0 → ⊥) → k < kinds → shortest ≤ size k
-unfolding size widths rowOf table
-size-least = by-mark (λ k. shortest ≤ size k) (lit≤ tt) (lit≤ tt) (lit≤ tt) (lit≤ tt) (lit≤ tt) (lit≤ tt) (lit≤ tt) (lit≤ tt) (lit≤ tt) (lit≤ tt) (lit≤ tt)
 
 -- ---- keys: the numbers within the bounds of the code's table
 

@@ -17,10 +17,11 @@ use Rattle.records.specs.Shapes.{shortest}
 use Rattle.records.specs.Dossier.{firstOf}
 use Rattle.records.specs.Walk.{found}
 use Rattle.records.proofs.Record.{mark-take, size-ge, key-ends, faultless}
+use Rattle.records.proofs.Marks.{mark-lt, size-least}
 use Rattle.records.proofs.Walk.{found-record, found-within, Rest, next}
 use Rattle.records.proofs.Read.{number-take}
 use Rattle.index.specs.Slots.{slotAt, slot, wide, heldIssue, newer, kept, keepStep}
-use Rattle.index.proofs.Slots.{mark-lt, size-least, in-key, slot-lt}
+use Rattle.index.proofs.Slots.{in-key, slot-lt}
 
 pub tail : (d : List ℕ) (at : ℕ) → take (length d - at) (drop at d) ≡ drop at d
 tail d at = take-all (length d - at) (drop at d) (simp length-drop (omega arith))

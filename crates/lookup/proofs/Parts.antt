@@ -2,12 +2,12 @@
 use mathlib.Core.Path.{_≡_, refl, ap, ap₂, sym, subst, _∙_}
 use mathlib.Core.Bool.{Bool, true, false, cond, true≢false, _||_}
 use mathlib.Core.List.{List, []}
-use Prim.Native.Nat.{ℕ, zero, suc, _+_, _-_, _*_, _/_, _%_, _≤_, _<_}
+use Prim.Native.Nat.{ℕ, _+_, _-_, _*_, _/_, _%_, _≤_, _<_}
 use native.Mathlib.Nat.{add-sub-cancel-left}
 use native.Mathlib.Omega.{arith}
 use lib.Dec.{ltb, eqb, lit<, lit≤}
 use lib.ListN.{length, getD, take, drop}
-use borrow.Author.Tests.{ne-eqb, le-ltb, eqb-true, ltb-false}
+use borrow.Author.Tests.{ne-eqb, le-ltb, eqb-true, eqb-false, ltb-false}
 use Rattle.lists.specs.Lists.{Each, done, also}
 use Rattle.lists.proofs.Lists.{each-map}
 use Rattle.lists.proofs.Tests.{split, or-false-right}
@@ -18,6 +18,7 @@ use Rattle.records.specs.Dossier.{records}
 use Rattle.station.specs.Current.{matches, better, currentFrom, current, startFrom, startOf}
 use Rattle.station.proofs.Current.{matches-mark, matches-key}
 use Rattle.index.specs.Slots.{slot, wide}
+use Rattle.records.proofs.Marks.{by-mark}
 use Rattle.index.proofs.Slots.{Spans, InKey, at-mark, in-key, key-test, test-key, slot-lt, slot-narrow}
 use Rattle.index.proofs.Holds.{Holds, absent, there, Good, good-records, index-holds}
 use Rattle.lookup.specs.declared.Part.{Part}
@@ -214,16 +215,7 @@ slot-kind e f g = e ∙ ap₂ slot (sym g) f
 
 pub slot-none : (k n : ℕ) → k < kinds → (k ≡ 2 → ⊥) → (k ≡ 3 → ⊥) → (k ≡ 4 → ⊥) → (k ≡ 5 → ⊥) → (k ≡ 6 → ⊥) → (k ≡ 7 → ⊥) → (k ≡ 8 → ⊥) → (k ≡ 9 → ⊥) → (k ≡ 10 → ⊥) → (k ≡ 11 → ⊥) → 0 ≡ slot k n
 unfolding slot
-slot-none zero n l a b c d e f g h i j = refl
-slot-none (suc zero) n l a b c d e f g h i j = refl
-slot-none (suc (suc zero)) n l a b c d e f g h i j = absurd (a refl)
-slot-none (suc (suc (suc zero))) n l a b c d e f g h i j = absurd (b refl)
-slot-none (suc (suc (suc (suc zero)))) n l a b c d e f g h i j = absurd (c refl)
-slot-none (suc (suc (suc (suc (suc zero))))) n l a b c d e f g h i j = absurd (d refl)
-slot-none (suc (suc (suc (suc (suc (suc zero)))))) n l a b c d e f g h i j = absurd (e refl)
-slot-none (suc (suc (suc (suc (suc (suc (suc zero))))))) n l a b c d e f g h i j = absurd (f refl)
-slot-none (suc (suc (suc (suc (suc (suc (suc (suc zero)))))))) n l a b c d e f g h i j = absurd (g refl)
-slot-none (suc (suc (suc (suc (suc (suc (suc (suc (suc zero))))))))) n l a b c d e f g h i j = absurd (h refl)
-slot-none (suc (suc (suc (suc (suc (suc (suc (suc (suc (suc zero)))))))))) n l a b c d e f g h i j = absurd (i refl)
-slot-none (suc (suc (suc (suc (suc (suc (suc (suc (suc (suc (suc zero))))))))))) n l a b c d e f g h i j = absurd (j refl)
-slot-none (suc (suc (suc (suc (suc (suc (suc (suc (suc (suc (suc (suc k)))))))))))) n l a b c d e f g h i j = absurd (omega arith)
+slot-none k n l a b c d e f g h i j =
+    split (eqb k 0)
+    (λ z. rw (eqb-true k 0 z) refl)
+    (λ z. by-mark (λ m. k ≡ m → 0 ≡ slot m n) (λ w. refl) (λ w. absurd (a w)) (λ w. absurd (b w)) (λ w. absurd (c w)) (λ w. absurd (d w)) (λ w. absurd (e w)) (λ w. absurd (f w)) (λ w. absurd (g w)) (λ w. absurd (h w)) (λ w. absurd (i w)) (λ w. absurd (j w)) k (eqb-false k 0 z) l refl)

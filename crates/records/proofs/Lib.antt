@@ -1,5 +1,6 @@
 pub mod Answers
 pub mod Record
+pub mod Marks
 pub mod Dossier
 pub mod Raise
 pub mod RaiseTest

@@ -13,7 +13,7 @@ use Rattle.fields.specs.Numbers.{number}
 use Rattle.fields.proofs.Numbers.{number-same}
 use Rattle.records.specs.declared.Found.the-variants.{Record, Faulty}
 use Rattle.records.specs.Table.{table, rowOf, fieldOf}
-use Rattle.records.specs.Record.{markIn, mark, size, keyIn, keyWidth, offset, read, value, inRange, rangesHold, fault}
+use Rattle.records.specs.Record.{markIn, mark, size, offset, read, value, inRange, rangesHold, fault}
 use Rattle.records.specs.Dossier.{firstOf}
 use Rattle.records.specs.Walk.{found}
 use Rattle.records.proofs.Record.{mark-take, size-ge, within-record, agrees-alike}
@@ -75,35 +75,3 @@ begun a b s e =
     ap₂ (λ (x y : ℕ). markIn 1 table x y)
     (eqb-true (getD s 0 0) a (and-left (eqb (getD s 0 0) a) (eqb (getD s 1 0) b) e))
     (eqb-true (getD s 1 0) b (and-right (eqb (getD s 0 0) a) (eqb (getD s 1 0) b) e))
-
--- letters of no mark with a key
-pub no-key : (s : List ℕ) → begins s 72 80 ≡ false → begins s 70 85 ≡ false → begins s 65 68 ≡ false → begins s 77 77 ≡ false → begins s 82 81 ≡ false → begins s 72 82 ≡ false → begins s 67 72 ≡ false → begins s 84 72 ≡ false → begins s 70 80 ≡ false → keyWidth (mark s) ≡ 0
-unfolding mark markIn table
-no-key s a b c d e f g h i = rw (a, b, c, d, e, f, g, h, i) (go (begins s 82 83) (begins s 76 67))
-  where
-    go : (x y : Bool) → keyWidth (cond x 1 (cond y 11 0)) ≡ 0
-    go true y = unfold keyWidth keyIn rowOf table in refl
-    go false true = unfold keyWidth keyIn rowOf table in refl
-    go false false = unfold keyWidth keyIn rowOf table in refl
-
--- the mark with a key of some tests in turn; each has a key width above 0
-keyed : (a b c d e f g h i : Bool) → ℕ
-keyed a b c d e f g h i = cond a 2 (cond b 3 (cond c 4 (cond d 5 (cond e 6 (cond f 7 (cond g 8 (cond h 9 (cond i 10 0))))))))
-
-keyed-not : (a b c d e f g h i : Bool) → keyWidth (keyed a b c d e f g h i) ≡ 0 → keyed a b c d e f g h i ≡ 0
-unfolding keyed keyWidth keyIn rowOf table
-keyed-not true b c d e f g h i w = absurd (omega (arith, w))
-keyed-not false true c d e f g h i w = absurd (omega (arith, w))
-keyed-not false false true d e f g h i w = absurd (omega (arith, w))
-keyed-not false false false true e f g h i w = absurd (omega (arith, w))
-keyed-not false false false false true f g h i w = absurd (omega (arith, w))
-keyed-not false false false false false true g h i w = absurd (omega (arith, w))
-keyed-not false false false false false false true h i w = absurd (omega (arith, w))
-keyed-not false false false false false false false true i w = absurd (omega (arith, w))
-keyed-not false false false false false false false false true w = absurd (omega (arith, w))
-keyed-not false false false false false false false false false w = refl
-
--- a mark without a key is RS, LC or unknown
-pub keyless-unknown : (s : List ℕ) → keyWidth (mark s) ≡ 0 → begins s 82 83 ≡ false → begins s 76 67 ≡ false → mark s ≡ 0
-unfolding keyed mark markIn table
-keyless-unknown s z p q = rw (p, q) (keyed-not (begins s 72 80) (begins s 70 85) (begins s 65 68) (begins s 77 77) (begins s 82 81) (begins s 72 82) (begins s 67 72) (begins s 84 72) (begins s 70 80) (rw (p, q) at z))

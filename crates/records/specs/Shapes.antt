@@ -24,7 +24,7 @@ shape x =
       highest = keyBound (λ f. f .highest) x 0 ∷ keyBound (λ f. f .highest) x 1 ∷ keyBound (λ f. f .highest) x 2 ∷ [];
     }
 
--- no record of a known mark is shorter: the law `size-least` (index/proofs/Slots)
+-- no record of a known mark is shorter: the law `size-least`
 abbrev pub shortest : ℕ
 shortest = 10
 

@@ -1,6 +1,6 @@
 use mathlib.Core.Path.{ap, _∙_}
 use Prim.Native.Nat.{ℕ}
-use Rattle.index.proofs.Slots.{mark-lt}
+use Rattle.records.proofs.Marks.{mark-lt}
 use Rattle.lookup.specs.Parts.{lookupPart}
 use borrow.Author.Needs.{needs}
 use Rattle.lookup.proofs.current_by_number.Statement.{statement}

@@ -4,7 +4,7 @@ use mathlib.Core.Bool.{Bool, cond}
 use Prim.Native.Nat.{ℕ, _≤_}
 use native.Mathlib.Omega.{arith}
 use borrow.Author.Needs.{needs}
-use Rattle.acceptance.proofs.Curve.{cond-le}
+use Rattle.lists.proofs.Tests.{cond-holds}
 use Rattle.words.specs.Words.{heldBits}
 use Rattle.words.proofs.held_bits.Statement.{statement}
 use Rattle.words.proofs.held_bits.Tie as tie
@@ -35,7 +35,7 @@ choose-requires-4 c κs = search needs
 
 -- a bit that is there or not
 at-most : {r : ℕ} (b : Bool) (x : ℕ) → x ≤ 8 → r ≡ cond b x 0 → r ≤ 8
-at-most b x h e = rw e (cond-le b x 0 8 h (omega arith))
+at-most b x h e = rw e (cond-holds (λ n. n ≤ 8) b x 0 h (omega arith))
 
 bits : (c : tie.After-choose4) → (c .before .before .before .before .before .before .choose .result ≤ 8) × (c .before .before .before .before .choose2 .result ≤ 8) × (c .before .before .choose3 .result ≤ 8) × (c .choose4 .result ≤ 8)
 bits c = (at-most (c .before .before .before .before .before .before .before .level-held .result) 1 (omega arith) (c .before .before .before .before .before .before .choose .ensures), at-most (c .before .before .before .before .before .level-held2 .result) 2 (omega arith) (c .before .before .before .before .choose2 .ensures), at-most (c .before .before .before .level-held3 .result) 4 (omega arith) (c .before .before .choose3 .ensures), at-most (c .before .level-held4 .result) 8 (omega arith) (c .choose4 .ensures))

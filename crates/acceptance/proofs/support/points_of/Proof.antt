@@ -1,4 +1,5 @@
-use Rattle.acceptance.proofs.Curve.{cond-le, count-next, there-is}
+use Rattle.lists.proofs.Tests.{cond-holds}
+use Rattle.acceptance.proofs.Curve.{count-next, there-is}
 use Rattle.acceptance.specs.Curve.{points}
 use Rattle.records.specs.Table.{HP}
 use Rattle.lists.specs.Tests.{countTo}
@@ -33,13 +34,13 @@ choose-requires : tie.Need-choose-requires Inv-loop μ-loop
 choose-requires c κs = search needs
 
 add-n : tie.Need-add-n Inv-loop μ-loop
-add-n c = omega (arith, c .choose .ensures, cond-le (ltb 0 (length (c .before .hp .result .now))) 1 0 1 (omega arith) (omega arith))
+add-n c = omega (arith, c .choose .ensures, cond-holds (λ n. n ≤ 1) (ltb 0 (length (c .before .hp .result .now))) 1 0 (omega arith) (omega arith))
 
 loop-less : tie.Need-loop-less Inv-loop μ-loop
 loop-less c = omega arith
 
 loop-again : tie.Need-loop-again Inv-loop μ-loop
-loop-again c = (omega arith, omega (arith, c .choose .ensures, cond-le (ltb 0 (length (c .before .hp .result .now))) 1 0 1 (omega arith) (omega arith)), count-next (c .before .before .before .loop .i) (parameters (records (c .before .before .before .before .before .before .args .d .now)) .has HP) (c .before .before .before .loop .inv .2) (c .choose .ensures ∙ ap (λ (x : Bool). cond x 1 0) (there-is (records (c .before .before .before .before .before .before .args .d .now)) HP (c .before .before .before .loop .i + 1) (c .before .hp .ensures))))
+loop-again c = (omega arith, omega (arith, c .choose .ensures, cond-holds (λ n. n ≤ 1) (ltb 0 (length (c .before .hp .result .now))) 1 0 (omega arith) (omega arith)), count-next (c .before .before .before .loop .i) (parameters (records (c .before .before .before .before .before .before .args .d .now)) .has HP) (c .before .before .before .loop .inv .2) (c .choose .ensures ∙ ap (λ (x : Bool). cond x 1 0) (there-is (records (c .before .before .before .before .before .before .args .d .now)) HP (c .before .before .before .loop .i + 1) (c .before .hp .ensures))))
 
 returns : tie.Need-returns Inv-loop μ-loop
 returns c = (unfold points in (c .before .loop .inv .2 ∙ ap (λ (i : ℕ). countTo i (parameters (records (c .before .before .before .before .args .d .now)) .has HP)) (omega arith)), omega arith)

@@ -1,9 +1,10 @@
 use borrow.Author.Needs.{needs}
 use mathlib.Core.Path.{refl}
 use native.Mathlib.Omega.{arith}
+use Prim.Native.Nat.{_≤_}
 use lib.Dec.{eqb}
+use Rattle.lists.proofs.Tests.{cond-holds}
 use Rattle.acceptance.specs.Looked.{otherFit}
-use Rattle.acceptance.proofs.Curve.{cond-le}
 use Rattle.acceptance.proofs.technology.other_fit.Statement.{statement}
 use Rattle.acceptance.proofs.technology.other_fit.Tie as tie
 
@@ -17,7 +18,7 @@ slots-fit-requires-2 : tie.Need-slots-fit-requires-2
 slots-fit-requires-2 c κs = search needs
 
 slots-empty-requires : tie.Need-slots-empty-requires
-slots-empty-requires c κs = omega (arith, c .before .before .choose .ensures, cond-le (eqb (c .before .before .before .before .before .args .t) 3) 0 2184 2184 (omega arith) (omega arith), c .before .before .before .before .before .pre)
+slots-empty-requires c κs = omega (arith, c .before .before .choose .ensures, cond-holds (λ n. n ≤ 2184) (eqb (c .before .before .before .before .before .args .t) 3) 0 2184 (omega arith) (omega arith), c .before .before .before .before .before .pre)
 
 returns : tie.Need-returns
 unfolding otherFit

@@ -1,11 +1,11 @@
 use mathlib.Core.Bool.{_||_}
 use Prim.Native.Nat.{ℕ, _<_}
 use lib.Dec.{eqb}
-use Rattle.index.proofs.Slots.{mark-lt}
+use Rattle.records.proofs.Marks.{mark-lt, no-key}
 use Rattle.records.specs.Table.{kinds}
 use Rattle.records.proofs.Record.{hp-size, fu-size, ad-size, mm-size, rq-size, hr-size, ch-size, th-size, fp-size}
 use Rattle.acceptance.specs.Fit.{holds}
-use Rattle.acceptance.proofs.ByMark.{at-mark, of-mark, no-key, fits-mm, fits-hp, fits-th, fits-hr, fits-ch, fits-fp, fits-rq}
+use Rattle.acceptance.proofs.ByMark.{at-mark, of-mark, fits-mm, fits-hp, fits-th, fits-hr, fits-ch, fits-fp, fits-rq}
 use mathlib.Core.Path.{ap, sym, subst, _∙_}
 use borrow.Author.Needs.{needs}
 use Rattle.acceptance.proofs.technology.tried_at.Statement.{statement}

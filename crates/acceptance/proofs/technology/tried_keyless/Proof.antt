@@ -1,6 +1,7 @@
 use mathlib.Core.Path.{_∙_}
 use Rattle.records.proofs.Record.{no-size, rs-size, lc-size}
-use Rattle.acceptance.proofs.ByMark.{at-kind, keyless-none, fits-lc, fits-none}
+use Rattle.records.proofs.Marks.{keyless}
+use Rattle.acceptance.proofs.ByMark.{at-kind, fits-lc, fits-none}
 use borrow.Author.Needs.{needs}
 use Rattle.acceptance.proofs.technology.tried_keyless.Statement.{statement}
 use Rattle.acceptance.proofs.technology.tried_keyless.Tie as tie
@@ -26,7 +27,7 @@ trial-requires-3 c κs = search needs
 returns-3 : tie.Need-returns-3
 returns-3 c =
     let p = c .before .before .before .before .pre in
-    c .trial3 .ensures ∙ at-kind _ _ 0 _ _ no-size (fits-none _ _ (p .0)) (keyless-none _ (p .1) (p .2) (c .before .before .if1 .left) (c .before .if2 .left))
+    c .trial3 .ensures ∙ at-kind _ _ 0 _ _ no-size (fits-none _ _ (p .0)) (keyless _ (p .1) (p .2) (c .before .before .if1 .left) (c .before .if2 .left))
 
 pub tried-keyless-spec : {M : Type 1} → statement M
 tried-keyless-spec =

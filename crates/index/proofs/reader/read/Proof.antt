@@ -1,7 +1,7 @@
 use mathlib.Core.Path.{refl, sym, _∙_}
 use Rattle.records.specs.Table.{table}
 use Rattle.records.specs.Record.{markIn}
-use Rattle.records.proofs.Read.{no-key}
+use Rattle.records.proofs.Marks.{letters-no-key}
 use Rattle.index.proofs.Entries.{reading-short, reading-as}
 use borrow.Author.Needs.{needs}
 use Rattle.index.proofs.reader.read.Statement.{statement}
@@ -110,7 +110,7 @@ read-keyless-requires c κs =
     let c3 = c4 .before .before .before in
     let c2 = c3 .before .before .before in
     let c1 = c2 .before .before .before in
-    (c1 .before .before .before .if1 .left, no-key _ (sym (c2 .before .is-mark2 .ensures) ∙ c2 .if3 .left) (sym (c6 .before .is-mark6 .ensures) ∙ c6 .if7 .left) (sym (c7 .before .is-mark7 .ensures) ∙ c7 .if8 .left) (sym (c8 .before .is-mark8 .ensures) ∙ c8 .if9 .left) (sym (c .before .is-mark9 .ensures) ∙ c .if10 .left) (sym (c4 .before .is-mark4 .ensures) ∙ c4 .if5 .left) (sym (c1 .before .is-mark .ensures) ∙ c1 .if2 .left) (sym (c3 .before .is-mark3 .ensures) ∙ c3 .if4 .left) (sym (c5 .before .is-mark5 .ensures) ∙ c5 .if6 .left))
+    (c1 .before .before .before .if1 .left, letters-no-key _ (sym (c2 .before .is-mark2 .ensures) ∙ c2 .if3 .left) (sym (c6 .before .is-mark6 .ensures) ∙ c6 .if7 .left) (sym (c7 .before .is-mark7 .ensures) ∙ c7 .if8 .left) (sym (c8 .before .is-mark8 .ensures) ∙ c8 .if9 .left) (sym (c .before .is-mark9 .ensures) ∙ c .if10 .left) (sym (c4 .before .is-mark4 .ensures) ∙ c4 .if5 .left) (sym (c1 .before .is-mark .ensures) ∙ c1 .if2 .left) (sym (c3 .before .is-mark3 .ensures) ∙ c3 .if4 .left) (sym (c5 .before .is-mark5 .ensures) ∙ c5 .if6 .left))
 
 returns-11 : tie.Need-returns-11
 returns-11 c = c .read-keyless .ensures

@@ -1,7 +1,7 @@
 use mathlib.Core.Path.{refl, sym, _∙_}
 use Rattle.records.specs.Table.{table}
 use Rattle.records.specs.Record.{markIn}
-use Rattle.records.proofs.Read.{keyless-unknown}
+use Rattle.records.proofs.Marks.{letters-keyless}
 use Rattle.index.proofs.Entries.{reading-as, reading-unknown}
 use borrow.Author.Needs.{needs}
 use Rattle.index.proofs.reader.read_keyless.Statement.{statement}
@@ -31,7 +31,7 @@ returns-3 : tie.Need-returns-3
 returns-3 c =
     let c1 = c .before .before .before in
     let p = c1 .before .before .before .before .pre in
-    reading-unknown _ (p .0) (keyless-unknown _ (p .1) (sym (c1 .before .is-mark .ensures) ∙ c1 .if1 .left) (sym (c .before .is-mark2 .ensures) ∙ c .if2 .left))
+    reading-unknown _ (p .0) (letters-keyless _ (p .1) (sym (c1 .before .is-mark .ensures) ∙ c1 .if1 .left) (sym (c .before .is-mark2 .ensures) ∙ c .if2 .left))
 
 pub read-keyless-spec : {M : Type 1} → statement M
 read-keyless-spec =
