@@ -2,13 +2,13 @@
 use mathlib.Core.Path.{_≡_, refl, sym, _∙_}
 use mathlib.Core.Bool.{Bool, true, false, cond}
 use mathlib.Core.List.{List, [], _∷_}
-use native.Mathlib.Nat.{div-zero}
 use lib.Dec.{eqb}
 use borrow.Author.Tests.{eqb-true}
 use Rattle.lists.proofs.Tests.{cond-holds, cond-relates}
 use Rattle.station.specs.Parameters.{lastCost}
-use Rattle.formulas.specs.Exact.{whole, quotient, dropped}
+use Rattle.formulas.specs.Exact.{whole, dropped}
 use Rattle.formulas.specs.Levels.{totalEnergy, chargingCost}
+use Rattle.formulas.proofs.Exact.{quotient-none}
 use Rattle.formulas.specs.Memo.{Week, calculated, lastNonZero, memoCost, costOf, toSend, Sent, first, next}
 
 module _ (w : Week) (before : List Week) (carried : lastCost (w .amounts) ≡ lastNonZero before) where
@@ -17,8 +17,8 @@ module _ (w : Week) (before : List Week) (carried : lastCost (w .amounts) ≡ la
   memo-charging = cond-relates (λ x n. dropped x ≡ n) (eqb (totalEnergy (w .parameters)) 0) (whole (lastCost (w .amounts))) _ _ _ carried refl
 
   nothing-calculated : eqb (totalEnergy (w .parameters)) 0 ≡ true → calculated w ≡ 0
-  unfolding calculated quotient
-  nothing-calculated e = rw (eqb-true (totalEnergy (w .parameters)) 0 e) (div-zero _)
+  unfolding calculated
+  nothing-calculated e = rw (eqb-true (totalEnergy (w .parameters)) 0 e) (quotient-none _)
 
   -- the next week's LC: this week's charging cost, or where that is 0 this week's LC
   pub memo-next : lastNonZero (w ∷ before) ≡ cond (eqb (costOf w) 0) (lastCost (w .amounts)) (costOf w)

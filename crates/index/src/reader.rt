@@ -288,6 +288,7 @@ fn read_keyless(rest: &[u8]) -> Reading
     Reading::Fault(1)
 }
 
+// The entry of the same.
 fn entry_keyless(rest: &[u8]) -> Entry
     requires { ⌜ keyWidth (mark (now rest)) ≡ 0 ⌝ }
     ensures { λ r. ⌜ r ≡ entryAs (mark (now (rest .entry))) (now (rest .entry)) ⌝ }
