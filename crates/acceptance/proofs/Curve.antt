@@ -26,9 +26,10 @@ use Rattle.station.proofs.Fields.{technology-at, output-at, heat-at, requested-
 use Rattle.index.specs.Slots.{slot}
 use Rattle.lookup.specs.Parts.{Indexed}
 use Rattle.lookup.proofs.Parts.{request-key, current-none, fits}
-use Rattle.acceptance.specs.Curve.{points, rise, curveHolds, curveFits, fuelHolds, fullHours, hoursHold, windowFits, placesHold, forecastFits}
-use Rattle.acceptance.specs.Looked.{Known, slotsEmpty, lastRise, legHolds, fuelled}
-use Rattle.acceptance.proofs.Sound.{clean-range, clean-agrees}
+use Rattle.rules.specs.Fit.{Known}
+use Rattle.rules.specs.Curve.{points, rise, curveHolds, curveFits, fuelHolds, fullHours, hoursHold, windowFits, placesHold, forecastFits}
+use Rattle.acceptance.specs.Looked.{slotsEmpty, lastRise, legHolds, fuelled}
+use Rattle.rules.proofs.Sound.{clean-range, clean-agrees}
 
 -- ---- tests of 1 to n
 

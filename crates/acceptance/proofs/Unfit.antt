@@ -40,10 +40,10 @@ use Rattle.index.specs.declared.Entry.{Entry}
 use Rattle.index.specs.Entries.{entryAs}
 use Rattle.lookup.specs.Parts.{part, bytesOf, placeAt, partAt, Indexed, Complete}
 use Rattle.lookup.proofs.Parts.{part-current}
-use Rattle.acceptance.specs.Fit.{holds, fieldFits, ruleFits, fits, isCurrent, unfit}
-use Rattle.acceptance.specs.Looked.{Known, heldFits, slotFits, slotsFit, slotsEmpty, thermalFit, otherFit, allFit, notFit}
-use Rattle.acceptance.proofs.ByMark.{fits-hp, fits-fu, fits-mm, fits-rq, fits-none, fits-hr, fits-ch, fits-fp, thermal-ad, thermal-th}
-use Rattle.acceptance.proofs.Sound.{each-unfit}
+use Rattle.rules.specs.Fit.{Known, holds, fieldFits, ruleFits, fits, isCurrent, unfit}
+use Rattle.acceptance.specs.Looked.{heldFits, slotFits, slotsFit, slotsEmpty, thermalFit, otherFit, allFit, notFit}
+use Rattle.rules.proofs.ByMark.{fits-hp, fits-fu, fits-mm, fits-rq, fits-none, fits-hr, fits-ch, fits-fp, thermal-ad, thermal-th}
+use Rattle.rules.proofs.Sound.{each-unfit}
 
 -- ---- a record cut from the rest fits as the rest does
 

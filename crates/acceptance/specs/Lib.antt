@@ -1,5 +1,1 @@
-pub mod Fit
-pub mod Curve
-pub mod Answer
-pub mod Sound
 pub mod Looked

@@ -2,7 +2,7 @@
 -- for 7: along the curve once; for 8: request by request. No paper speaks of this; the laws `slots-accepted` and `legs-curve` tie it to `unfit` and `curveHolds`.
 use mathlib.Core.Bool.{Bool, cond, _&&_, _||_, not}
 use mathlib.Core.List.{List}
-use Prim.Native.Nat.{ℕ, _+_, _*_, _-_, _≤_}
+use Prim.Native.Nat.{ℕ, _+_, _*_, _-_}
 use lib.Dec.{ltb, leb, eqb}
 use lib.ListN.{length, getD, drop}
 use Rattle.lists.specs.Tests.{allBelow}
@@ -13,12 +13,8 @@ use Rattle.index.specs.Slots.{narrow, slotAt}
 use Rattle.lookup.specs.Parts.{partAt}
 use Rattle.station.specs.Parameters.{Parameters, output, heat, requested}
 use Rattle.acceptance.specs.declared.Tried.{Tried}
-use Rattle.acceptance.specs.Fit.{fits}
-use Rattle.acceptance.specs.Curve.{rise}
-
--- one of the four technologies
-abbrev pub Known : ℕ → Type 0
-Known t = (1 ≤ t) × (t ≤ 4)
+use Rattle.rules.specs.Fit.{fits}
+use Rattle.rules.specs.Curve.{rise}
 
 -- a record's length, and whether it fits
 abbrev pub tried : ℕ → Bool → Tried

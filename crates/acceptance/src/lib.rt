@@ -7,7 +7,7 @@ ghost use mathlib.Core.Bool.{true};
 ghost use Rattle.records.specs.declared.Answer.the-variants.{Accepted};
 ghost use Rattle.station.specs.Current.{readable};
 ghost use Rattle.lookup.specs.Parts.{Empty, Indexed, Complete};
-ghost use Rattle.acceptance.specs.Answer.{answer};
+ghost use Rattle.rules.specs.Answer.{answer};
 use crate::support::unsupported_of;
 use crate::technology::unfit_of;
 use index::Passed;

@@ -12,8 +12,8 @@ ghost use Rattle.records.specs.Dossier.{records};
 ghost use Rattle.station.specs.Current.{readable};
 ghost use Rattle.station.specs.Parameters.{parameters, technology};
 ghost use Rattle.lookup.specs.Parts.{Indexed, Complete};
-ghost use Rattle.acceptance.specs.Fit.{fits, holds, unfit};
-ghost use Rattle.acceptance.specs.Looked.{Known, tried, triedAs, heldFits, slotsFit, slotsEmpty, thermalFit, otherFit, allFit, notFit};
+ghost use Rattle.rules.specs.Fit.{Known, fits, holds, unfit};
+ghost use Rattle.acceptance.specs.Looked.{tried, triedAs, heldFits, slotsFit, slotsEmpty, thermalFit, otherFit, allFit, notFit};
 use crate::Tried;
 use records::Answer;
 

@@ -6,8 +6,8 @@ use Rattle.records.specs.declared.Answer.the-variants.{Accepted, Refused as Tur
 use Rattle.lookup.specs.declared.Part.{Part}
 use Rattle.verdicts.specs.declared.Verdict.{Verdict}
 use Rattle.verdicts.specs.declared.Verdict.the-variants.{Passes, Fails, Refused}
-use Rattle.report.specs.declared.Written.{Written}
-use Rattle.report.specs.declared.Written.the-variants.{Bytes, Refused as Unwritten}
+use Rattle.layout.specs.declared.Written.{Written}
+use Rattle.layout.specs.declared.Written.the-variants.{Bytes, Refused as Unwritten}
 use Rattle.bench.specs.Codes.{coded, answerCode, partCode, wordsCode, verdictCode, writtenCode}
 
 pub accepted-code : {a : Answer} → a ≡ Accepted → 0 ≡ answerCode a

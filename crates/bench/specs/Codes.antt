@@ -5,8 +5,8 @@ use Rattle.records.specs.declared.Answer.the-variants.{Accepted, Refused as Tur
 use Rattle.lookup.specs.declared.Part.{Part}
 use Rattle.verdicts.specs.declared.Verdict.{Verdict}
 use Rattle.verdicts.specs.declared.Verdict.the-variants.{Passes, Fails, Refused}
-use Rattle.report.specs.declared.Written.{Written}
-use Rattle.report.specs.declared.Written.the-variants.{Bytes, Refused as Unwritten}
+use Rattle.layout.specs.declared.Written.{Written}
+use Rattle.layout.specs.declared.Written.the-variants.{Bytes, Refused as Unwritten}
 
 -- a in 24 bits and b in 32, so that no class is touched: only an offer longer than 4 GB has a place that is cut
 abbrev pub coded : ℕ → ℕ → ℕ → ℕ

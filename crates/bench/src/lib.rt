@@ -5,13 +5,13 @@ ghost use Prim.Native.Nat.{_/_, _%_, _<_};
 ghost use lib.ListN.{length};
 ghost use Rattle.records.specs.Record.{mark};
 ghost use Rattle.lookup.specs.Parts.{lookupPart};
-ghost use Rattle.acceptance.specs.Answer.{answer};
+ghost use Rattle.rules.specs.Answer.{answer};
 ghost use Rattle.verdicts.specs.Verdict.{onOffer, onPrice};
-ghost use Rattle.report.specs.Report.{written, report, reportAnswer, bufferAfter};
+ghost use Rattle.layout.specs.Report.{written, report, reportAnswer, bufferAfter};
 ghost use Rattle.words.specs.Words.{wordsAnswer, wordsAfter};
 ghost use Rattle.bench.specs.Codes.{coded, answerCode, partCode, wordsCode, verdictCode, writtenCode};
+use layout::Written;
 use records::Answer;
-use report::Written;
 use verdicts::Verdict;
 
 // class × 2^56 + a × 2^32 + b

@@ -5,10 +5,10 @@ use Prim.Native.Nat.{ℕ, _/_}
 use lib.ListN.{length}
 use Rattle.records.specs.declared.Answer.the-variants.{Accepted}
 use Rattle.station.specs.Parameters.{Parameters}
-use Rattle.acceptance.specs.Fit.{energy}
-use Rattle.formulas.specs.Levels.{Line}
+use Rattle.rules.specs.Fit.{energy}
+use Rattle.formulas.specs.Levels.{Line, shown}
 use Rattle.reference.specs.declared.HourLevels.{HourLevels}
-use Rattle.reference.specs.Packed.{shown, unpacked}
+use Rattle.reference.specs.Packed.{unpacked}
 use Rattle.verdicts.specs.declared.Verdict.{Verdict}
 use Rattle.verdicts.specs.Refusals.{offerRefusal, priceRefusal}
 use Rattle.verdicts.specs.Verdict.{offerVerdict, priceVerdict}

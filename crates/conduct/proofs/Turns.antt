@@ -17,7 +17,7 @@ use Rattle.records.specs.Record.{inRange}
 use Rattle.records.specs.Answers.{orElse, refuseIf}
 use Rattle.station.specs.Current.{current, present}
 use Rattle.station.specs.Parameters.{Parameters, parameters, capacity, technology, thresholdKey}
-use Rattle.acceptance.specs.Fit.{holds}
+use Rattle.rules.specs.Fit.{holds}
 use Rattle.verdicts.specs.Test.{quantity, priceAt, before}
 use Rattle.verdicts.specs.Refusals.{levelRefusal, conditionRefusal, lengthRefusal, priceBefore, pairHolds, malformed, aboveCapacity}
 use Rattle.limits.proofs.Turns.{one-less}

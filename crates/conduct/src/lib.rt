@@ -5,7 +5,7 @@ ghost use mathlib.Core.Path.{_≡_};
 ghost use Prim.Native.Nat.{_<_, _≤_};
 ghost use Rattle.records.specs.Dossier.{records};
 ghost use Rattle.station.specs.Parameters.{parameters};
-ghost use Rattle.acceptance.specs.Answer.{IsAccepted};
+ghost use Rattle.rules.specs.Answer.{IsAccepted};
 ghost use Rattle.formulas.specs.Levels.{levels};
 ghost use Rattle.lookup.specs.Parts.{Indexed};
 ghost use Rattle.limits.specs.Shapes.{thresholdOf};

@@ -7,7 +7,7 @@ use Prim.Native.Nat.{ℕ, _+_, _-_}
 use lib.Dec.{eqb}
 use Rattle.records.specs.Table.{RS, HP, FU, AD, MM, RQ, HR, CH, FP, LC}
 use Rattle.station.specs.Parameters.{Parameters, Amounts, adderKey, itemKey}
-use Rattle.acceptance.specs.Curve.{rise, fullHours}
+use Rattle.rules.specs.Curve.{rise, fullHours}
 use Rattle.formulas.specs.Sums.{sumTo, listTo, insert, falling, sumFirst, sumHighest, fromTop}
 use Rattle.formulas.specs.Exact.{quotient, dropped, cents}
 use Rattle.formulas.specs.Levels.{covers, profileOf, profile, adders, maintenance, startMaintenance, thermalEnergy, heatCost, startCost, noLoadCost, nuclearEnergy, totalEnergy, chargingSum, chargingCost, shortRunCost, highestSum, opportunityCost, storageEnergy, forecastPlace, forecastPrice, hydroEnergy}

@@ -11,7 +11,7 @@ use Rattle.lists.specs.Lists.{Pairwise, none, more, Each, done, also}
 use Rattle.lists.proofs.Tests.{cond-holds, cond-relates}
 use Rattle.records.specs.Table.{FU, AD, MM, HR, CH, FP, LC}
 use Rattle.station.specs.Parameters.{Parameters, Amounts, Higher, technology, efficiency, window, chargeEnergy, chargePrice, lastCost, adderKey, itemKey}
-use Rattle.acceptance.specs.Curve.{fullHours}
+use Rattle.rules.specs.Curve.{fullHours}
 use Rattle.formulas.specs.Sums.{sumTo}
 use Rattle.formulas.specs.Exact.{Sum, whole, share}
 use Rattle.formulas.specs.Levels.{profile, adders, maintenance, startMaintenance, thermalEnergy, heatCost, startCost, noLoadCost, nuclearEnergy, totalEnergy, chargingSum, chargingCost, shortRunCost, highestSum, opportunityCost, storageEnergy, forecastPlace, forecastPrice, hydroEnergy, Line, line, amount, NoLower, CloseLine, laminations, oneLamination, single, linesOf, lines}

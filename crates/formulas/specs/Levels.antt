@@ -7,8 +7,8 @@ use lib.Dec.{leb, eqb}
 use Rattle.records.specs.Table.{thermal, nuclear, storage, hydro, RQ}
 use Rattle.records.specs.Dossier.{records}
 use Rattle.station.specs.Parameters.{Parameters, Amounts, parameters, amounts, technology, capacity, factor, startHeat, noLoadHeat, incrementalFuel, efficiency, window, output, heat, fuel, emission, adder, costC, outputW, intervalT, hoursPerStartS, firstHour, lastHour, requested, hourPrice, chargePrice, chargeEnergy, placePrice, lastCost}
-use Rattle.acceptance.specs.Fit.{energy, start, noLoad, reserve}
-use Rattle.acceptance.specs.Curve.{points, rise, fullHours}
+use Rattle.rules.specs.Fit.{energy, start, noLoad, reserve}
+use Rattle.rules.specs.Curve.{points, rise, fullHours}
 use Rattle.formulas.specs.Sums.{sumTo, listTo, sumHighest, fromTop}
 use Rattle.formulas.specs.Exact.{Sum, whole, share, _⊕_, total, perThousand, greater, dropped, exact, cents, Close}
 
@@ -170,6 +170,24 @@ lines s m h = linesOf s m (profile s h)
 -- the levels of a dossier at an hour
 unfoldable pub levels : List ℕ → ℕ → List Line
 levels d h = lines (parametersIn d) (amountsIn d) h
+
+-- ---- what a line shows
+
+-- a line without its formula
+pub record Shown : Type 0 where
+  pub level : ℕ
+  pub lamination : ℕ
+  pub from : ℕ
+  pub to : ℕ
+  pub cents : ℕ
+
+-- these at once, in the order of `Shown`
+abbrev pub row : ℕ → ℕ → ℕ → ℕ → ℕ → Shown
+row v i a b x = record { level = v; lamination = i; from = a; to = b; cents = x }
+
+-- what a line shows
+abbrev pub shown : Line → Shown
+shown x = row (x .level) (x .lamination) (x .from) (x .to) (amount x)
 
 -- ---- levels side by side
 

@@ -11,10 +11,10 @@ use lib.Dec.{eqb}
 use lib.ListN.{getD}
 use borrow.Author.Tests.{eq-eqb, ne-eqb}
 use Rattle.station.specs.Parameters.{Parameters}
-use Rattle.acceptance.specs.Fit.{energy, holds}
+use Rattle.rules.specs.Fit.{energy, holds}
 use Rattle.reference.specs.declared.HourLevels.{HourLevels}
-use Rattle.formulas.specs.Levels.{Line, amount}
-use Rattle.reference.specs.Packed.{Shown, row, shown, laminationsFrom, singleOf, unpacked}
+use Rattle.formulas.specs.Levels.{Line, amount, Shown, row, shown}
+use Rattle.reference.specs.Packed.{laminationsFrom, singleOf, unpacked}
 use Rattle.limits.specs.declared.Threshold.{Threshold}
 use Rattle.limits.specs.declared.Pair.{Pair}
 use Rattle.verdicts.specs.declared.Verdict.{Verdict}

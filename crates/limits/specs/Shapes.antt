@@ -6,13 +6,13 @@ use Prim.Native.Nat.{ℕ, zero, suc, _+_, min}
 use lib.Dec.{eqb}
 use lib.ListN.{getD}
 use Rattle.station.specs.Parameters.{Parameters, percent, margin, floor}
-use Rattle.acceptance.specs.Fit.{energy, start, noLoad}
+use Rattle.rules.specs.Fit.{energy, start, noLoad}
 use Rattle.reference.specs.declared.HourLevels.{HourLevels}
-use Rattle.reference.specs.Packed.{Shown}
 use Rattle.limits.specs.declared.Threshold.{Threshold}
 use Rattle.limits.specs.declared.Pair.{Pair}
 use Rattle.verdicts.specs.declared.Verdict.{Verdict}
 use Rattle.verdicts.specs.declared.Verdict.the-variants.{Passes, Fails}
+use Rattle.formulas.specs.Levels.{Shown}
 use Rattle.verdicts.specs.Test.{fails, quantity, priceAt, before, overlap}
 
 -- what TH says of a condition and level

@@ -5,7 +5,7 @@ ghost use mathlib.Core.Bool.{true};
 ghost use Prim.Native.Nat.{_<_, _≤_, _/_, min};
 ghost use lib.ListN.{length};
 ghost use Rattle.fields.specs.Numbers.{biasedOf};
-ghost use Rattle.acceptance.specs.Fit.{holds};
+ghost use Rattle.rules.specs.Fit.{holds};
 ghost use Rattle.reference.specs.Packed.{unpacked};
 ghost use Rattle.verdicts.specs.Test.{limit as limitOf, overlap, quantity, priceAt};
 ghost use Rattle.limits.specs.Shapes.{failsAt, failsIn, firstFailing, leastOf, singleLevel, offerShown, priceShown};

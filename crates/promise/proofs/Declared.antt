@@ -8,8 +8,8 @@ use Rattle.records.specs.declared.Answer.{Answer}
 use Rattle.records.specs.declared.Answer.the-variants.{Accepted, Refused}
 use Rattle.records.specs.Answers.{answerNumbers}
 use Rattle.station.proofs.Current.{current-found}
-use Rattle.acceptance.specs.Answer.{answer}
-use Rattle.acceptance.proofs.Sound.{accepted-sound, sound-accepted}
+use Rattle.rules.specs.Answer.{answer}
+use Rattle.rules.proofs.Sound.{accepted-sound, sound-accepted}
 use Rattle.promise.specs.Declared.{CurrentDeclared, AcceptanceDeclared}
 
 pub current-declared : CurrentDeclared

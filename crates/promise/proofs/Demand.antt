@@ -12,8 +12,8 @@ use Rattle.records.specs.Raise.{Raised}
 use Rattle.records.proofs.Raise.{raised, raised-self}
 use Rattle.station.specs.Parameters.{parameters, amounts, technology}
 use Rattle.station.proofs.Parameters.{same-parameters, higher}
-use Rattle.acceptance.specs.Answer.{IsAccepted}
-use Rattle.acceptance.proofs.Sound.{accepted-sound, sound-accepted, sound-raised, efficient}
+use Rattle.rules.specs.Answer.{IsAccepted}
+use Rattle.rules.proofs.Sound.{accepted-sound, sound-accepted, sound-raised, efficient}
 use Rattle.formulas.specs.Levels.{NoLower, levels}
 use Rattle.formulas.proofs.Lines.{lines-upper, lines-close}
 use Rattle.verdicts.specs.declared.Verdict.{Verdict}

@@ -7,9 +7,9 @@ use Rattle.lists.specs.Lists.{Permutation, empty, keep, swap, then, joined}
 use Rattle.records.specs.Table.{thermal, storage, hydro, LC}
 use Rattle.records.specs.Answers.{numberOf}
 use Rattle.records.proofs.RaiseTest.{riseTest, recordTest, recordsTest, raiseTest, raise-by}
-use Rattle.acceptance.specs.Answer.{answer, IsAccepted}
+use Rattle.rules.specs.Answer.{answer, IsAccepted}
 use Rattle.formulas.specs.Levels.{storageEnergy, hydroEnergy}
-use Rattle.report.proofs.Computed.{computed}
+use Rattle.layout.proofs.Computed.{computed}
 use Rattle.promise.specs.Demand.{Raise, RaiseKeeps}
 use Rattle.promise.specs.Order.{SameMeaning}
 use Rattle.promise.specs.Stations.{valuesIn, made, r1, r1Raised, forecast, riverWith, river, idleWith, idle}

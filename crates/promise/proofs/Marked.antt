@@ -1,7 +1,7 @@
 -- The marked cases hold: one proof, by computation.
 use mathlib.Core.Path.{refl}
 use Rattle.lists.specs.Lists.{done, also}
-use Rattle.report.proofs.Computed.{computed}
+use Rattle.layout.proofs.Computed.{computed}
 use Rattle.promise.specs.Stations.{valuesIn, made, pair}
 use Rattle.promise.specs.Marked.{MarkedHold, marked}
 

@@ -9,12 +9,12 @@ use Rattle.records.specs.Dossier.{records}
 use Rattle.records.proofs.Dossier.{joined-records, records-joined, records-whole}
 use Rattle.station.specs.Parameters.{parameters}
 use Rattle.station.proofs.Parameters.{parameters-permuted, amounts-permuted}
-use Rattle.acceptance.specs.Answer.{answer, IsAccepted}
-use Rattle.acceptance.specs.Sound.{Sound}
-use Rattle.acceptance.proofs.Sound.{accepted-sound, sound-accepted, sound-permuted}
+use Rattle.rules.specs.Answer.{answer, IsAccepted}
+use Rattle.rules.specs.Sound.{Sound}
+use Rattle.rules.proofs.Sound.{accepted-sound, sound-accepted, sound-permuted}
 use Rattle.formulas.specs.Levels.{levels}
 use Rattle.verdicts.specs.Verdict.{onOffer, onPrice}
-use Rattle.report.specs.Report.{report, reportAnswer, bufferAfter}
+use Rattle.layout.specs.Report.{report, reportAnswer, bufferAfter}
 use Rattle.promise.specs.Order.{Reordered, SameMeaning, ArrivalOrder}
 
 module _ {d e : List ℕ} (h : IsAccepted d) (q : Reordered d e) where

@@ -7,8 +7,8 @@ use Rattle.records.specs.Answers.{answerNumbers}
 use Rattle.records.specs.Dossier.{records}
 use Rattle.station.specs.Current.{current}
 use Rattle.station.specs.Declared.{CurrentOf}
-use Rattle.acceptance.specs.Answer.{answer, IsAccepted}
-use Rattle.acceptance.specs.Sound.{Sound}
+use Rattle.rules.specs.Answer.{answer, IsAccepted}
+use Rattle.rules.specs.Sound.{Sound}
 
 -- the current record is one of the records, with the mark and key, and none with them has a higher issue; empty where none has them
 abbrev pub CurrentDeclared : Type 0

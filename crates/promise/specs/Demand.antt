@@ -7,7 +7,7 @@ use Rattle.lists.specs.Lists.{Pairwise, Each}
 use Rattle.records.specs.Dossier.{records}
 use Rattle.records.specs.Raise.{RaiseFor}
 use Rattle.station.specs.Parameters.{parameters, technology}
-use Rattle.acceptance.specs.Answer.{IsAccepted}
+use Rattle.rules.specs.Answer.{IsAccepted}
 use Rattle.formulas.specs.Levels.{levels, NoLower, CloseLine}
 use Rattle.verdicts.specs.declared.Verdict.{Verdict}
 use Rattle.verdicts.specs.Verdict.{numbers, onOffer, onPrice}

@@ -8,13 +8,13 @@ use Rattle.fields.specs.Numbers.{bias}
 use Rattle.records.specs.Answers.{numberOf}
 use Rattle.records.specs.Dossier.{records}
 use Rattle.station.specs.Parameters.{Parameters, Amounts, parameters, amounts, hourPrice}
-use Rattle.acceptance.specs.Curve.{fullHours}
-use Rattle.acceptance.specs.Answer.{answer}
+use Rattle.rules.specs.Curve.{fullHours}
+use Rattle.rules.specs.Answer.{answer}
 use Rattle.formulas.specs.Exact.{Sum, dropped, cents}
 use Rattle.formulas.specs.Levels.{chargingCost, shortRunCost, opportunityCost}
 use Rattle.verdicts.specs.Test.{fails}
 use Rattle.verdicts.specs.Verdict.{numbers, onOffer}
-use Rattle.report.specs.Report.{report, prints}
+use Rattle.layout.specs.Report.{report, prints}
 use Rattle.promise.specs.Stations.{pair, r1, r1Tested, r1Lines, m6, m7, m9}
 
 -- what the definitions give, and what the paper marks

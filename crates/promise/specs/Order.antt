@@ -5,10 +5,10 @@ use Prim.Native.Nat.{ℕ}
 use lib.IntN.{ℤ}
 use Rattle.lists.specs.Lists.{Permutation, joined}
 use Rattle.records.specs.Dossier.{records}
-use Rattle.acceptance.specs.Answer.{IsAccepted}
+use Rattle.rules.specs.Answer.{IsAccepted}
 use Rattle.formulas.specs.Levels.{levels}
 use Rattle.verdicts.specs.Verdict.{onOffer, onPrice}
-use Rattle.report.specs.Report.{report, reportAnswer, bufferAfter}
+use Rattle.layout.specs.Report.{report, reportAnswer, bufferAfter}
 
 -- e is made of the records of d, back to back in some order
 pub record Reordered (d e : List ℕ) : Type 0 where

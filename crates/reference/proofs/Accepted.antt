@@ -11,9 +11,9 @@ use Rattle.records.specs.Table.{table, rowOf, fieldOf, RS, HR, FP}
 use Rattle.records.specs.Record.{value, inRange}
 use Rattle.station.specs.Current.{current}
 use Rattle.station.specs.Parameters.{parameters, technology, window}
-use Rattle.acceptance.specs.Curve.{fullHours, hoursHold, windowFits, placesHold, forecastFits}
-use Rattle.acceptance.specs.Sound.{Sound}
-use Rattle.acceptance.proofs.Sound.{its-range}
+use Rattle.rules.specs.Curve.{fullHours, hoursHold, windowFits, placesHold, forecastFits}
+use Rattle.rules.specs.Sound.{Sound}
+use Rattle.rules.proofs.Sound.{its-range}
 
 pub technology-low : {l : List (List ℕ)} → Sound l → 1 ≤ technology (parameters l)
 unfolding parameters inRange fieldOf rowOf table

@@ -3,8 +3,8 @@ use mathlib.Core.Path.{_≡_, refl}
 use Prim.Native.Nat.{ℕ, _+_, _*_, _/_}
 use native.Mathlib.Omega.{arith}
 use Rattle.station.specs.Parameters.{Parameters, Amounts, factor, startHeat, noLoadHeat, incrementalFuel, output, heat, fuel, emission}
-use Rattle.acceptance.specs.Fit.{energy, start, noLoad}
-use Rattle.acceptance.specs.Curve.{rise}
+use Rattle.rules.specs.Fit.{energy, start, noLoad}
+use Rattle.rules.specs.Curve.{rise}
 use Rattle.formulas.specs.Exact.{quotient, dropped}
 use Rattle.formulas.specs.Levels.{adders, maintenance, startMaintenance, thermalEnergy, heatCost, startCost, noLoadCost, nuclearEnergy, forecastPrice, hydroEnergy}
 

@@ -16,13 +16,13 @@ use Rattle.records.specs.declared.Answer.the-variants.{Accepted, Refused}
 use Rattle.records.specs.Answers.{isAccepted}
 use Rattle.records.specs.Dossier.{records}
 use Rattle.station.specs.Parameters.{Parameters, Amounts, parameters, amounts, technology, capacity}
-use Rattle.acceptance.specs.Fit.{energy, start, noLoad, reserve, levelsOf, holds}
-use Rattle.acceptance.specs.Curve.{points}
-use Rattle.acceptance.specs.Answer.{answer}
+use Rattle.rules.specs.Fit.{energy, start, noLoad, reserve, levelsOf, holds}
+use Rattle.rules.specs.Curve.{points}
+use Rattle.rules.specs.Answer.{answer}
 use Rattle.reference.specs.declared.HourLevels.{HourLevels}
 use Rattle.formulas.specs.Exact.{Sum, dropped, cents}
-use Rattle.formulas.specs.Levels.{parametersIn, amountsIn, Line, amount, adders, startCost, noLoadCost, nuclearEnergy, storageEnergy, hydroEnergy, lamination, laminations, oneLamination, single, profile, linesOf, lines, levels}
-use Rattle.reference.specs.Packed.{Shown, row, shown, laminationsFrom, singleOf, unpacked, energyLines, amountOf, padded, hourLevels, packed, noLevels, levelsAnswer}
+use Rattle.formulas.specs.Levels.{parametersIn, amountsIn, Line, amount, adders, startCost, noLoadCost, nuclearEnergy, storageEnergy, hydroEnergy, lamination, laminations, oneLamination, single, profile, linesOf, lines, levels, Shown, row, shown}
+use Rattle.reference.specs.Packed.{laminationsFrom, singleOf, unpacked, energyLines, amountOf, padded, hourLevels, packed, noLevels, levelsAnswer}
 
 -- ---- an array filled from the front
 

@@ -6,27 +6,11 @@ use lib.Dec.{eqb}
 use lib.ListN.{length, getD, replicate}
 use Rattle.records.specs.Answers.{isAccepted}
 use Rattle.station.specs.Parameters.{technology}
-use Rattle.acceptance.specs.Fit.{energy, start, noLoad, reserve, holds}
-use Rattle.acceptance.specs.Answer.{answer}
+use Rattle.rules.specs.Fit.{energy, start, noLoad, reserve, holds}
+use Rattle.rules.specs.Answer.{answer}
 use Rattle.reference.specs.declared.HourLevels.{HourLevels}
 use Rattle.reference.specs.declared.LevelsAnswer.{LevelsAnswer}
-use Rattle.formulas.specs.Levels.{parametersIn, profile, Line, amount, levels}
-
--- a line without its formula
-pub record Shown : Type 0 where
-  pub level : ℕ
-  pub lamination : ℕ
-  pub from : ℕ
-  pub to : ℕ
-  pub cents : ℕ
-
--- these at once, in the order of `Shown`
-abbrev pub row : ℕ → ℕ → ℕ → ℕ → ℕ → Shown
-row v i a b x = record { level = v; lamination = i; from = a; to = b; cents = x }
-
--- what a line shows
-abbrev pub shown : Line → Shown
-shown x = row (x .level) (x .lamination) (x .from) (x .to) (amount x)
+use Rattle.formulas.specs.Levels.{parametersIn, profile, Line, amount, Shown, row, levels}
 
 -- ---- from the arrays to lines
 

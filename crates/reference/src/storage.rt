@@ -4,7 +4,7 @@ ghost use Prim.Native.Nat.{_+_, _*_, _-_, _≤_};
 ghost use lib.ListN.{length, drop};
 ghost use Rattle.station.specs.Parameters.{window, hourPrice, chargePrice, chargeEnergy};
 ghost use Rattle.lookup.specs.Parts.{Indexed};
-ghost use Rattle.acceptance.specs.Curve.{fullHours};
+ghost use Rattle.rules.specs.Curve.{fullHours};
 ghost use Rattle.formulas.specs.Sums.{sumTo, listTo, sumHighest};
 ghost use Rattle.formulas.specs.Exact.{dropped};
 ghost use Rattle.formulas.specs.Levels.{parametersIn, amountsIn, totalEnergy, chargingCost, shortRunCost, opportunityCost, storageEnergy};

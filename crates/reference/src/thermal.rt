@@ -7,7 +7,7 @@ ghost use lib.Dec.{eqb};
 ghost use lib.ListN.{replicate};
 ghost use Rattle.station.specs.Parameters.{output, heat};
 ghost use Rattle.lookup.specs.Parts.{Indexed};
-ghost use Rattle.acceptance.specs.Curve.{points, rise};
+ghost use Rattle.rules.specs.Curve.{points, rise};
 ghost use Rattle.formulas.specs.Exact.{dropped, cents};
 ghost use Rattle.formulas.specs.Levels.{parametersIn, amountsIn, adders, maintenance, thermalEnergy, heatCost, startCost, noLoadCost, laminations, amount};
 ghost use Rattle.reference.specs.Packed.{padded};

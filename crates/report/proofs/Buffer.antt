@@ -8,14 +8,14 @@ use Rattle.records.specs.declared.Answer.the-variants.{Accepted, Refused as Tur
 use Rattle.records.specs.Answers.{orElse, refuseIf, isAccepted}
 use Rattle.records.specs.Dossier.{records}
 use Rattle.station.specs.Parameters.{parameters}
-use Rattle.acceptance.specs.Answer.{answer}
+use Rattle.rules.specs.Answer.{answer}
 use Rattle.reference.specs.declared.HourLevels.{HourLevels}
-use Rattle.formulas.specs.Levels.{profile, levels}
-use Rattle.reference.specs.Packed.{shown, unpacked}
-use Rattle.report.specs.declared.Written.{Written}
-use Rattle.report.specs.declared.Written.the-variants.{Refused}
+use Rattle.formulas.specs.Levels.{profile, levels, shown}
+use Rattle.reference.specs.Packed.{unpacked}
+use Rattle.layout.specs.declared.Written.{Written}
+use Rattle.layout.specs.declared.Written.the-variants.{Refused}
 use Rattle.report.specs.Parts.{packedReport}
-use Rattle.report.specs.Report.{report, shortFor, bufferWith, written, reportAnswer, bufferAfter}
+use Rattle.layout.specs.Report.{report, shortFor, bufferWith, written, reportAnswer, bufferAfter}
 
 pub too-short : (text : List ℕ) (n : ℕ) → n < length text → shortFor text n ≡ Turned 15 0
 unfolding shortFor refuseIf

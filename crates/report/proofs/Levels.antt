@@ -11,12 +11,13 @@ use Rattle.lists.proofs.Tests.{split}
 use Rattle.text.specs.Text.{startWord, noLoadWord, reserveWord}
 use Rattle.text.proofs.Decimal.{decimal-within}
 use Rattle.text.proofs.Over.{Wrote, then}
-use Rattle.acceptance.specs.Fit.{energy, start, noLoad, reserve, holds}
+use Rattle.rules.specs.Fit.{energy, start, noLoad, reserve, holds}
 use Rattle.reference.specs.declared.HourLevels.{HourLevels}
-use Rattle.reference.specs.Packed.{Shown, row, laminationAt, laminationsFrom, singleOf, unpacked}
+use Rattle.formulas.specs.Levels.{Shown, row}
+use Rattle.reference.specs.Packed.{laminationAt, laminationsFrom, singleOf, unpacked}
 use Rattle.report.specs.Parts.{packedReport, laminationLines, heldLine, otherLines}
-use Rattle.report.specs.Report.{profileLine, energyLine, amountLine, levelLine, levelLines, reportText}
-use Rattle.report.proofs.Lines.{profile-length, energy-within, either, amount-within}
+use Rattle.layout.specs.Report.{profileLine, energyLine, amountLine, levelLine, levelLines, reportText}
+use Rattle.layout.proofs.Lines.{profile-length, energy-within, either, amount-within}
 
 lines-append : (l m : List Shown) → levelLines (l ++ m) ≡ levelLines l ++ levelLines m
 unfolding levelLines

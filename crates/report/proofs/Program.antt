@@ -20,19 +20,18 @@ use Rattle.records.specs.Dossier.{records}
 use Rattle.index.proofs.Turn.{tail}
 use Rattle.station.specs.Current.{readable}
 use Rattle.station.specs.Parameters.{Parameters, Amounts, parameters, amounts, technology}
-use Rattle.acceptance.specs.Answer.{answer}
-use Rattle.acceptance.specs.Curve.{points}
-use Rattle.formulas.specs.Levels.{Line, profile, laminations, linesOf, lines, levels}
-use Rattle.reference.specs.Packed.{shown}
+use Rattle.rules.specs.Answer.{answer}
+use Rattle.rules.specs.Curve.{points}
+use Rattle.formulas.specs.Levels.{Line, profile, laminations, linesOf, lines, levels, shown}
 use Rattle.text.specs.Text.{refusalLine}
 use Rattle.text.proofs.Decimal.{decimal-within}
 use Rattle.text.proofs.Lengths.{refusal-length}
 use Rattle.text.proofs.Over.{Wrote}
-use Rattle.report.specs.declared.Written.{Written}
-use Rattle.report.specs.declared.Written.the-variants.{Bytes, Refused}
-use Rattle.report.specs.Report.{report, bufferWith, written, reportAnswer, bufferAfter, printed, prints}
+use Rattle.layout.specs.declared.Written.{Written}
+use Rattle.layout.specs.declared.Written.the-variants.{Bytes, Refused}
+use Rattle.layout.specs.Report.{report, bufferWith, written, reportAnswer, bufferAfter, printed, prints}
 use Rattle.report.proofs.Buffer.{long-enough, Told}
-use Rattle.report.proofs.Lines.{either}
+use Rattle.layout.proofs.Lines.{either}
 use Rattle.report.proofs.Levels.{text-within}
 
 -- ---- room

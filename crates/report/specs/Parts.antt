@@ -2,10 +2,10 @@
 use mathlib.Core.Bool.{Bool, cond}
 use mathlib.Core.List.{List, [], _++_}
 use Prim.Native.Nat.{ℕ}
-use Rattle.acceptance.specs.Fit.{start, noLoad, reserve}
+use Rattle.rules.specs.Fit.{start, noLoad, reserve}
 use Rattle.reference.specs.declared.HourLevels.{HourLevels}
 use Rattle.reference.specs.Packed.{laminationsFrom, singleOf, unpacked}
-use Rattle.report.specs.Report.{amountLine, levelLines, reportText}
+use Rattle.layout.specs.Report.{amountLine, levelLines, reportText}
 
 -- the whole
 unfoldable pub packedReport : HourLevels → List ℕ

@@ -4,18 +4,13 @@ ghost use mathlib.Core.List.{_++_};
 ghost use Prim.Native.Nat.{_≤_};
 ghost use lib.ListN.{length};
 ghost use Rattle.text.specs.Text.{over, tenths, space};
-ghost use Rattle.acceptance.specs.Fit.{holds};
+ghost use Rattle.rules.specs.Fit.{holds};
 ghost use Rattle.report.specs.Parts.{laminationLines, heldLine, otherLines, packedReport};
-ghost use Rattle.report.specs.Report.{profileLine, energyLine, amountLine, shortFor, bufferWith, written, report, reportAnswer, bufferAfter, prints};
+ghost use Rattle.layout.specs.Report.{profileLine, energyLine, amountLine, shortFor, bufferWith, written, report, reportAnswer, bufferAfter, prints};
 use acceptance::technology::level_held;
+use layout::Written;
 use records::Answer;
 use reference::HourLevels;
-
-// What a report gives its caller: how many bytes were written, or a refusal.
-pub enum Written {
-    Bytes(usize),
-    Refused { number: u8, place: usize },
-}
 
 // The word and the line end are 9 bytes.
 fn profile_line_len(profile: u64) -> usize

@@ -1,6 +1,6 @@
 -- The cases hold, each by computation. Written by tools/vectors.
 use mathlib.Core.Path.{refl}
-use Rattle.report.proofs.Computed.{computed}
+use Rattle.layout.proofs.Computed.{computed}
 use Rattle.vectors.specs.Cases as cases
 
 line7 : cases.Line7

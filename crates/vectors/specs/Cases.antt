@@ -5,7 +5,7 @@ use Rattle.fields.specs.Numbers.{bytesOf}
 use Rattle.station.specs.Current.{lookupBytes}
 use Rattle.verdicts.specs.declared.Verdict.the-variants.{Passes, Fails, Refused}
 use Rattle.verdicts.specs.Verdict.{onOffer, onPrice}
-use Rattle.report.specs.Report.{prints}
+use Rattle.layout.specs.Report.{prints}
 
 -- line 7: program, refused 8
 abbrev pub Line7 : Type 0

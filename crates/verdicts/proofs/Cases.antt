@@ -12,7 +12,7 @@ use Rattle.records.specs.declared.Answer.the-variants.{Accepted, Refused}
 use Rattle.records.specs.Record.{inRange}
 use Rattle.records.specs.Answers.{orElse, refuseIf}
 use Rattle.station.specs.Parameters.{Parameters}
-use Rattle.acceptance.specs.Fit.{energy, holds, levelsOf}
+use Rattle.rules.specs.Fit.{energy, holds, levelsOf}
 use Rattle.formulas.specs.Exact.{whole, dropped, cents}
 use Rattle.formulas.specs.Levels.{Line, line}
 use Rattle.verdicts.specs.declared.Verdict.the-variants.{Fails}

@@ -7,7 +7,7 @@ use native.Mathlib.Decide.{ℕ-discrete}
 use native.Mathlib.Omega.{arith}
 use Rattle.lists.specs.Lists.{done, also}
 use Rattle.station.specs.Parameters.{Parameters}
-use Rattle.acceptance.specs.Fit.{energy}
+use Rattle.rules.specs.Fit.{energy}
 use Rattle.formulas.specs.Levels.{Line}
 use Rattle.verdicts.specs.declared.Verdict.{Verdict}
 use Rattle.verdicts.specs.declared.Verdict.the-variants.{Fails}

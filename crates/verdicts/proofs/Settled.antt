@@ -14,7 +14,7 @@ use Rattle.records.specs.declared.Answer.the-variants.{Accepted, Refused as Tur
 use Rattle.records.specs.Table.{TH}
 use Rattle.records.proofs.Answers.{not-refuseIf, orElse-parts}
 use Rattle.station.specs.Parameters.{Parameters, technology, thresholdKey}
-use Rattle.acceptance.specs.Fit.{energy, holds, levelsOf}
+use Rattle.rules.specs.Fit.{energy, holds, levelsOf}
 use Rattle.formulas.specs.Levels.{Line}
 use Rattle.verdicts.specs.declared.Verdict.{Verdict}
 use Rattle.verdicts.specs.declared.Verdict.the-variants.{Refused}

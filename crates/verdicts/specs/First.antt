@@ -7,7 +7,7 @@ use Prim.Native.Nat.{ℕ, _+_, _≤_, _<_}
 use lib.Dec.{eqb}
 use Rattle.lists.specs.Lists.{Each}
 use Rattle.station.specs.Parameters.{Parameters}
-use Rattle.acceptance.specs.Fit.{energy}
+use Rattle.rules.specs.Fit.{energy}
 use Rattle.formulas.specs.Levels.{Line, amount}
 use Rattle.verdicts.specs.declared.Verdict.{Verdict}
 use Rattle.verdicts.specs.declared.Verdict.the-variants.{Passes, Fails}

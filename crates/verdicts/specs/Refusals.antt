@@ -11,7 +11,7 @@ use Rattle.records.specs.Table.{TH, price}
 use Rattle.records.specs.Record.{inRange}
 use Rattle.records.specs.Answers.{orElse, refuseIf}
 use Rattle.station.specs.Parameters.{Parameters, technology, capacity, thresholdKey}
-use Rattle.acceptance.specs.Fit.{energy, holds}
+use Rattle.rules.specs.Fit.{energy, holds}
 use Rattle.verdicts.specs.Test.{quantity, priceAt, before}
 
 -- "12 level not 1 to 4, not held by the technology, or 1 put to the single-price test"

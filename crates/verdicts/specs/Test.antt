@@ -5,7 +5,7 @@ use Prim.Native.Nat.{ℕ, zero, suc, _+_, _*_, _/_, max, min}
 use lib.Dec.{leb, ltb, eqb}
 use Rattle.fields.specs.Numbers.{number, biased, bias}
 use Rattle.station.specs.Parameters.{Parameters, percent, margin, floor}
-use Rattle.acceptance.specs.Fit.{energy}
+use Rattle.rules.specs.Fit.{energy}
 use Rattle.formulas.specs.Levels.{Line, amount}
 use Rattle.verdicts.specs.declared.Verdict.{Verdict}
 use Rattle.verdicts.specs.declared.Verdict.the-variants.{Passes, Fails}

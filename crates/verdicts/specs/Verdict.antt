@@ -8,7 +8,7 @@ use Rattle.records.specs.declared.Answer.{Answer}
 use Rattle.records.specs.declared.Answer.the-variants.{Accepted, Refused as Turned}
 use Rattle.records.specs.Dossier.{records}
 use Rattle.station.specs.Parameters.{Parameters, parameters}
-use Rattle.acceptance.specs.Answer.{answer}
+use Rattle.rules.specs.Answer.{answer}
 use Rattle.formulas.specs.Levels.{Line, levels}
 use Rattle.verdicts.specs.declared.Verdict.{Verdict}
 use Rattle.verdicts.specs.declared.Verdict.the-variants.{Passes, Fails, Refused}

@@ -2,7 +2,7 @@ use mathlib.Core.Path.{ap₂, sym, _∙_}
 use borrow.Author.Needs.{needs}
 use Rattle.index.specs.declared.Passed.the-variants.{Ended}
 use Rattle.lookup.proofs.Opening.{scan-stopped, scan-rising}
-use Rattle.acceptance.proofs.Answers.{unreadable}
+use Rattle.rules.proofs.Draws.{unreadable}
 use Rattle.acceptance.proofs.accept.Statement.{statement}
 use Rattle.acceptance.proofs.accept.Tie as tie
 

@@ -1,7 +1,6 @@
-use Rattle.acceptance.proofs.Answers.{no-station, draws-6, the-rest}
+use Rattle.rules.proofs.Draws.{no-station, draws-6, the-rest}
 use Rattle.acceptance.proofs.Curve.{none-there, one-there, technology-known}
-use Rattle.acceptance.specs.Looked.{Known}
-use Rattle.acceptance.specs.Fit.{unfit}
+use Rattle.rules.specs.Fit.{Known, unfit}
 use Rattle.station.proofs.Fields.{technology-at}
 use Rattle.records.specs.Dossier.{records}
 use Rattle.records.specs.Table.{RS}

@@ -1,7 +1,7 @@
 use mathlib.Core.Path.{sym, _∙_}
 use borrow.Author.Needs.{needs}
 use Rattle.lookup.proofs.Opening.{scan-twins}
-use Rattle.acceptance.proofs.Answers.{unreadable}
+use Rattle.rules.proofs.Draws.{unreadable}
 use Rattle.acceptance.proofs.indexed_answer.Statement.{statement}
 use Rattle.acceptance.proofs.indexed_answer.Tie as tie
 

@@ -3,7 +3,7 @@ use borrow.Author.Needs.{needs}
 use Rattle.records.proofs.Answers.{not-refused}
 use Rattle.index.specs.declared.Passed.the-variants.{Ended}
 use Rattle.lookup.proofs.Opening.{scan-stopped, scan-rising}
-use Rattle.acceptance.proofs.Answers.{unreadable}
+use Rattle.rules.proofs.Draws.{unreadable}
 use Rattle.acceptance.proofs.judge.Statement.{statement}
 use Rattle.acceptance.proofs.judge.Tie as tie
 

@@ -5,7 +5,7 @@ use lib.ListN.{length-replicate}
 use borrow.Author.Needs.{needs}
 use Rattle.lookup.proofs.Parts.{wide-complete}
 use Rattle.index.specs.Slots.{wide}
-use Rattle.acceptance.proofs.Answers.{unreadable}
+use Rattle.rules.proofs.Draws.{unreadable}
 use Rattle.acceptance.proofs.judge_forecast.Statement.{statement}
 use Rattle.acceptance.proofs.judge_forecast.Tie as tie
 

@@ -4,7 +4,7 @@ use native.Mathlib.Omega.{arith}
 use Rattle.records.specs.declared.Answer.the-variants.{Accepted}
 use Rattle.records.specs.Dossier.{records}
 use Rattle.station.specs.Parameters.{parameters}
-use Rattle.acceptance.specs.Fit.{holds}
+use Rattle.rules.specs.Fit.{holds}
 use Rattle.formulas.specs.Levels.{levels}
 use Rattle.verdicts.specs.Refusals.{priceRefusal}
 use Rattle.reference.proofs.Packed.{handed-shown, handed-technology}

@@ -3,7 +3,7 @@ use mathlib.Core.Path.{_≡_, sym, _∙_}
 use native.Mathlib.Omega.{arith}
 use Rattle.records.specs.Dossier.{records}
 use Rattle.station.specs.Parameters.{parameters, technology}
-use Rattle.acceptance.proofs.Sound.{accepted-sound}
+use Rattle.rules.proofs.Sound.{accepted-sound}
 use Rattle.acceptance.proofs.Curve.{storage-window}
 use Rattle.reference.proofs.Accepted.{technology-low, hours-fit, places-fit}
 use Rattle.reference.proofs.Packed.{levels-packed}

@@ -2,7 +2,7 @@ use borrow.Author.Needs.{needs}
 use mathlib.Core.Path.{_≡_, sym, _∙_}
 use Rattle.records.specs.Dossier.{records}
 use Rattle.station.specs.Parameters.{parameters, technology}
-use Rattle.acceptance.proofs.Sound.{accepted-sound}
+use Rattle.rules.proofs.Sound.{accepted-sound}
 use Rattle.reference.proofs.Accepted.{places-fit}
 use Rattle.reference.proofs.Packed.{levels-packed}
 use Rattle.reference.proofs.tested_levels.Statement.{statement}

@@ -1,7 +1,7 @@
 -- `report::amount_line_len` meets its contract.
 use native.Mathlib.Omega.{arith}
 use borrow.Author.Needs.{needs}
-use Rattle.report.proofs.Lines.{amount-length, hundredths-within}
+use Rattle.layout.proofs.Lines.{amount-length, hundredths-within}
 use Rattle.report.proofs.amount_line_len.Statement.{statement}
 use Rattle.report.proofs.amount_line_len.Tie as tie
 

@@ -7,8 +7,8 @@ use borrow.Author.Needs.{needs}
 use lib.ListN.{length, drop}
 use Rattle.fields.specs.Numbers.{number}
 use Rattle.text.specs.Text.{over, refusalLine}
-use Rattle.report.specs.declared.Written.{Written}
-use Rattle.report.specs.Report.{prints}
+use Rattle.layout.specs.declared.Written.{Written}
+use Rattle.layout.specs.Report.{prints}
 use Rattle.report.proofs.Buffer.{Told}
 use Rattle.report.proofs.Program.{prints-fits, prints-short, after-hour, print-report, print-refusal}
 use Rattle.report.proofs.print.Statement.{statement}

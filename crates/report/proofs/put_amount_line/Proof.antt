@@ -6,8 +6,8 @@ use borrow.Author.Needs.{needs}
 use lib.ListN.{length}
 use Rattle.text.specs.Text.{hundredths, newline}
 use Rattle.text.proofs.Over.{then}
-use Rattle.report.specs.Report.{amountLine}
-use Rattle.report.proofs.Lines.{amount-length}
+use Rattle.layout.specs.Report.{amountLine}
+use Rattle.layout.proofs.Lines.{amount-length}
 use Rattle.report.proofs.put_amount_line.Statement.{statement}
 use Rattle.report.proofs.put_amount_line.Tie as tie
 

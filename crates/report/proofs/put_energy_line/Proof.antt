@@ -6,8 +6,8 @@ use borrow.Author.Needs.{needs}
 use lib.ListN.{length}
 use Rattle.text.specs.Text.{decimal, tenths, hundredths, energyWord, space}
 use Rattle.text.proofs.Over.{then-two}
-use Rattle.report.specs.Report.{energyLine}
-use Rattle.report.proofs.Lines.{energy-length, amount-length, then-amount}
+use Rattle.layout.specs.Report.{energyLine}
+use Rattle.layout.proofs.Lines.{energy-length, amount-length, then-amount}
 use Rattle.report.proofs.put_energy_line.Statement.{statement}
 use Rattle.report.proofs.put_energy_line.Tie as tie
 

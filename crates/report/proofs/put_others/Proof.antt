@@ -6,7 +6,7 @@ use borrow.Author.Needs.{needs}
 use lib.ListN.{length}
 use Rattle.text.specs.Text.{startWord, noLoadWord, reserveWord}
 use Rattle.text.proofs.Over.{then}
-use Rattle.acceptance.specs.Fit.{holds}
+use Rattle.rules.specs.Fit.{holds}
 use Rattle.report.specs.Parts.{heldLine}
 use Rattle.report.proofs.Levels.{others-are, others-length}
 use Rattle.report.proofs.put_others.Statement.{statement}

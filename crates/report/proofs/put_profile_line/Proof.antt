@@ -6,8 +6,8 @@ use borrow.Author.Needs.{needs}
 use lib.ListN.{length}
 use Rattle.text.specs.Text.{decimal, profileWord, newline}
 use Rattle.text.proofs.Over.{then}
-use Rattle.report.specs.Report.{profileLine}
-use Rattle.report.proofs.Lines.{profile-length}
+use Rattle.layout.specs.Report.{profileLine}
+use Rattle.layout.proofs.Lines.{profile-length}
 use Rattle.report.proofs.put_profile_line.Statement.{statement}
 use Rattle.report.proofs.put_profile_line.Tie as tie
 

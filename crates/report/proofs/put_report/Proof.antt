@@ -6,7 +6,7 @@ use borrow.Author.Needs.{needs}
 use lib.ListN.{length}
 use Rattle.text.proofs.Over.{then}
 use Rattle.report.specs.Parts.{laminationLines, otherLines}
-use Rattle.report.specs.Report.{profileLine}
+use Rattle.layout.specs.Report.{profileLine}
 use Rattle.report.proofs.Levels.{report-is, report-length}
 use Rattle.report.proofs.put_report.Statement.{statement}
 use Rattle.report.proofs.put_report.Tie as tie

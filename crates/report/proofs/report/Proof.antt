@@ -2,7 +2,7 @@
 use mathlib.Core.Path.{_≡_, sym, _∙_}
 use borrow.Author.Needs.{needs}
 use Rattle.records.specs.declared.Answer.{Answer}
-use Rattle.acceptance.specs.Answer.{answer}
+use Rattle.rules.specs.Answer.{answer}
 use Rattle.reference.proofs.Packed.{handed-shown, handed-count, handed-profile}
 use Rattle.report.proofs.Buffer.{packed-is, told-levels, told-refusal}
 use Rattle.report.proofs.report.Statement.{statement}

@@ -4,9 +4,9 @@ use native.Mathlib.Omega.{arith}
 use borrow.Author.Needs.{needs}
 use lib.ListN.{length}
 use Rattle.records.specs.Answers.{isAccepted}
-use Rattle.report.specs.declared.Written.the-variants.{Bytes}
+use Rattle.layout.specs.declared.Written.the-variants.{Bytes}
 use Rattle.report.specs.Parts.{packedReport}
-use Rattle.report.specs.Report.{bufferWith, written}
+use Rattle.layout.specs.Report.{bufferWith, written}
 use Rattle.report.proofs.Buffer.{too-short, long-enough}
 use Rattle.report.proofs.report_levels.Statement.{statement}
 use Rattle.report.proofs.report_levels.Tie as tie

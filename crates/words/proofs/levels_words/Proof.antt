@@ -2,7 +2,7 @@
 use mathlib.Core.Path.{_≡_, sym, _∙_}
 use borrow.Author.Needs.{needs}
 use Rattle.records.specs.declared.Answer.{Answer}
-use Rattle.acceptance.specs.Answer.{answer}
+use Rattle.rules.specs.Answer.{answer}
 use Rattle.words.proofs.Answers.{told-words, told-few, told-refusal}
 use Rattle.words.proofs.levels_words.Statement.{statement}
 use Rattle.words.proofs.levels_words.Tie as tie

@@ -1,6 +1,6 @@
 use Rattle.lists.proofs.Tests.{cond-holds}
 use Rattle.acceptance.proofs.Curve.{count-next, there-is}
-use Rattle.acceptance.specs.Curve.{points}
+use Rattle.rules.specs.Curve.{points}
 use Rattle.records.specs.Table.{HP}
 use Rattle.lists.specs.Tests.{countTo}
 use mathlib.Core.Bool.{Bool, cond}

@@ -1,4 +1,4 @@
-use Rattle.acceptance.proofs.Answers.{draws-7, draws-8, draws-9, draws-17, draws-none}
+use Rattle.rules.proofs.Draws.{draws-7, draws-8, draws-9, draws-17, draws-none}
 use borrow.Author.Tests.{not-true, not-false}
 use mathlib.Core.Path.{sym, _∙_}
 use borrow.Author.Needs.{needs}

@@ -1,4 +1,4 @@
-use Rattle.acceptance.proofs.ByMark.{fits-ad}
+use Rattle.rules.proofs.ByMark.{fits-ad}
 use borrow.Author.Needs.{needs}
 use Rattle.acceptance.proofs.technology.ad_fits.Statement.{statement}
 use Rattle.acceptance.proofs.technology.ad_fits.Tie as tie

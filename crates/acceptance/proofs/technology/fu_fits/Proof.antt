@@ -1,4 +1,4 @@
-use Rattle.acceptance.proofs.ByMark.{fits-fu}
+use Rattle.rules.proofs.ByMark.{fits-fu}
 use borrow.Author.Needs.{needs}
 use Rattle.acceptance.proofs.technology.fu_fits.Statement.{statement}
 use Rattle.acceptance.proofs.technology.fu_fits.Tie as tie

@@ -1,4 +1,4 @@
-use Rattle.acceptance.proofs.ByMark.{holds-tests}
+use Rattle.rules.proofs.ByMark.{holds-tests}
 use Rattle.acceptance.proofs.technology.level_held.Statement.{statement}
 use Rattle.acceptance.proofs.technology.level_held.Tie as tie
 

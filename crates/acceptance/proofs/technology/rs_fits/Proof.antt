@@ -1,4 +1,4 @@
-use Rattle.acceptance.proofs.ByMark.{fits-rs}
+use Rattle.rules.proofs.ByMark.{fits-rs}
 use borrow.Author.Needs.{needs}
 use Rattle.acceptance.proofs.technology.rs_fits.Statement.{statement}
 use Rattle.acceptance.proofs.technology.rs_fits.Tie as tie

@@ -4,8 +4,9 @@ use lib.Dec.{eqb}
 use Rattle.records.proofs.Marks.{mark-lt, no-key}
 use Rattle.records.specs.Table.{kinds}
 use Rattle.records.proofs.Record.{hp-size, fu-size, ad-size, mm-size, rq-size, hr-size, ch-size, th-size, fp-size}
-use Rattle.acceptance.specs.Fit.{holds}
-use Rattle.acceptance.proofs.ByMark.{at-mark, of-mark, fits-mm, fits-hp, fits-th, fits-hr, fits-ch, fits-fp, fits-rq}
+use Rattle.rules.specs.Fit.{holds}
+use Rattle.rules.proofs.ByMark.{fits-mm, fits-hp, fits-th, fits-hr, fits-ch, fits-fp, fits-rq}
+use Rattle.acceptance.proofs.Trials.{at-mark, of-mark}
 use mathlib.Core.Path.{ap, sym, subst, _∙_}
 use borrow.Author.Needs.{needs}
 use Rattle.acceptance.proofs.technology.tried_at.Statement.{statement}

@@ -1,7 +1,8 @@
 use mathlib.Core.Path.{_∙_}
 use Rattle.records.proofs.Record.{no-size, rs-size, lc-size}
 use Rattle.records.proofs.Marks.{keyless}
-use Rattle.acceptance.proofs.ByMark.{at-kind, fits-lc, fits-none}
+use Rattle.rules.proofs.ByMark.{fits-lc, fits-none}
+use Rattle.acceptance.proofs.Trials.{at-kind}
 use borrow.Author.Needs.{needs}
 use Rattle.acceptance.proofs.technology.tried_keyless.Statement.{statement}
 use Rattle.acceptance.proofs.technology.tried_keyless.Tie as tie

@@ -4,7 +4,7 @@ use Prim.Native.Nat.{ℕ, _*_, _-_}
 use native.Mathlib.Omega.{arith}
 use Rattle.records.specs.Dossier.{records}
 use Rattle.station.specs.Parameters.{parameters, amounts, hourPrice}
-use Rattle.acceptance.specs.Curve.{fullHours}
+use Rattle.rules.specs.Curve.{fullHours}
 use Rattle.formulas.specs.Sums.{listTo, sumHighest}
 use Rattle.formulas.specs.Exact.{quotient, dropped}
 use Rattle.formulas.specs.Levels.{highestSum, opportunityCost}

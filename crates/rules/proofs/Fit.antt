@@ -13,7 +13,7 @@ use Rattle.records.specs.Table.{Field, table, rowOf, fieldOf, AD, TH}
 use Rattle.records.specs.Record.{mark, isMoney, value}
 use Rattle.records.specs.Raise.{Rise, stays, rises, limitOf, Raised}
 use Rattle.records.proofs.Raise.{raised-same}
-use Rattle.acceptance.specs.Fit.{holds, fieldFits, ruleFits, fits}
+use Rattle.rules.specs.Fit.{holds, fieldFits, ruleFits, fits}
 
 rise-fits : (t : ℕ) (f : Field) {a b : ℕ} → Rise (limitOf t f) a b → fieldFits t f a ≡ true → fieldFits t f b ≡ true
 unfolding fieldFits limitOf

@@ -12,9 +12,7 @@ use Rattle.fields.specs.Numbers.{number}
 use Rattle.records.specs.Table.{table, rowOf, fieldOf}
 use Rattle.records.specs.Record.{mark, size, offsetIn, offset, read, value, inRange, rangesHold}
 use Rattle.records.proofs.Record.{field-in}
-use Rattle.acceptance.specs.declared.Tried.{Tried}
-use Rattle.acceptance.specs.Fit.{levelsOf, holds, fieldFits, ruleFits, fits}
-use Rattle.acceptance.specs.Looked.{Known, tried, triedAs}
+use Rattle.rules.specs.Fit.{Known, levelsOf, holds, fieldFits, ruleFits, fits}
 
 or-false : (a : Bool) → a || false ≡ a
 or-false true = refl
@@ -124,17 +122,6 @@ module _ (t : ℕ) (s : List ℕ) (known : Known t) where
   pub fits-rq : true ≡ fits t 6 s
   unfolding fits ruleFits fieldFits allBelow among value read offset offsetIn fieldOf rowOf table
   fits-rq = by-technology (λ t. true ≡ fits t 6 s) refl refl refl refl t known
-
--- a record of kind m
-pub at-kind : (t k m n : ℕ) (s : List ℕ) {b : Bool} → size m ≡ n → b ≡ fits t m s → k ≡ m → tried n b ≡ triedAs t k s
-at-kind t k m n s z e q = ap₂ tried (sym z) e ∙ ap (λ (x : ℕ). triedAs t x s) (sym q)
-
--- whose mark was read
-pub of-mark : (t : ℕ) (s : List ℕ) {k : ℕ} {r : Tried} → r ≡ triedAs t k s → k ≡ mark s → r ≡ triedAs t (mark s) s
-of-mark t s e p = e ∙ ap (λ (x : ℕ). triedAs t x s) p
-
-pub at-mark : (t k m n : ℕ) (s : List ℕ) {b : Bool} → size m ≡ n → b ≡ fits t m s → k ≡ mark s → k ≡ m → tried n b ≡ triedAs t (mark s) s
-at-mark t k m n s z e p q = of-mark t s (at-kind t k m n s z e q) p
 
 -- ---- a thermal station has every level, so AD fits unless its cost is 5, and TH fits
 

@@ -9,7 +9,7 @@ use Rattle.text.specs.Text.{decimal, tenths, hundredths, newline}
 use Rattle.text.proofs.Decimal.{decimal-within}
 use Rattle.text.proofs.Lengths.{tenths-length, hundredths-length}
 use Rattle.text.proofs.Over.{Wrote, then}
-use Rattle.report.specs.Report.{profileLine, energyLine, amountLine}
+use Rattle.layout.specs.Report.{profileLine, energyLine, amountLine}
 
 pub profile-length : (p : ℕ) → length (profileLine p) ≡ length (decimal p) + 9
 unfolding profileLine

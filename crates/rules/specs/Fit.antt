@@ -1,7 +1,7 @@
 -- "6 current record unfit for the technology".
 use mathlib.Core.Bool.{Bool, true, cond, _&&_, _||_, not}
 use mathlib.Core.List.{List, [], _∷_}
-use Prim.Native.Nat.{ℕ}
+use Prim.Native.Nat.{ℕ, _≤_}
 use lib.Dec.{ltb, eqb}
 use lib.ListN.{length}
 use Rattle.lists.specs.Tests.{allBelow, among}
@@ -31,6 +31,10 @@ abbrev pub reserve : ℕ
 reserve = 4
 
 -- ---- what a technology may have
+
+-- one of the four technologies
+abbrev pub Known : ℕ → Type 0
+Known t = (1 ≤ t) × (t ≤ 4)
 
 -- "Thermal has all four levels, nuclear level 1 only, storage 1 and 4"; of hydroelectric "levels 1 and 4 are held"
 unfoldable pub levelsOf : ℕ → List ℕ

@@ -7,19 +7,19 @@ use Rattle.records.specs.declared.Answer.the-variants.{Refused}
 use Rattle.records.specs.Table.{RS, FU}
 use Rattle.records.specs.Answers.{orElse, refuseIf}
 use Rattle.station.specs.Parameters.{Parameters}
-use Rattle.acceptance.specs.Curve.{curveFits, fuelHolds, windowFits, placesHold, forecastFits}
-use Rattle.acceptance.specs.Answer.{unsupported}
+use Rattle.rules.specs.Curve.{curveFits, fuelHolds, windowFits, placesHold, forecastFits}
+use Rattle.rules.specs.Answer.{unsupported}
 
 -- with or without fuel
 abbrev river : Bool → Parameters
 river fuelled = record { has = λ k n. fuelled && eqb k FU; says = λ k n i. cond (eqb k RS && eqb i 0) 4 (cond (eqb k RS && eqb i 8) 50 0) }
 
 -- without fuel it draws 8
-eight-first : unsupported (river false) 100 ≡ Refused 8 100
+pub eight-first : unsupported (river false) 100 ≡ Refused 8 100
 unfolding unsupported orElse refuseIf curveFits fuelHolds windowFits placesHold forecastFits allTo
 eight-first = refl
 
 -- with fuel 17
-then-seventeen : unsupported (river true) 100 ≡ Refused 17 100
+pub then-seventeen : unsupported (river true) 100 ≡ Refused 17 100
 unfolding unsupported orElse refuseIf curveFits fuelHolds windowFits placesHold forecastFits allTo
 then-seventeen = refl

@@ -10,12 +10,11 @@ use Rattle.records.specs.declared.Answer.the-variants.{Accepted, Refused as Tur
 use Rattle.records.specs.Answers.{orElse, refuseIf, isAccepted}
 use Rattle.records.specs.Dossier.{records}
 use Rattle.station.specs.Parameters.{parameters}
-use Rattle.acceptance.specs.Fit.{energy, start, noLoad}
-use Rattle.acceptance.specs.Answer.{answer}
-use Rattle.formulas.specs.Levels.{profile, levels}
-use Rattle.reference.specs.Packed.{Shown, shown}
-use Rattle.report.specs.declared.Written.{Written}
-use Rattle.report.specs.declared.Written.the-variants.{Bytes, Refused}
+use Rattle.rules.specs.Fit.{energy, start, noLoad}
+use Rattle.rules.specs.Answer.{answer}
+use Rattle.formulas.specs.Levels.{profile, levels, Shown, shown}
+use Rattle.layout.specs.declared.Written.{Written}
+use Rattle.layout.specs.declared.Written.the-variants.{Bytes, Refused}
 use Rattle.text.specs.Text.{decimal, tenths, hundredths, refusalLine, profileWord, energyWord, startWord, noLoadWord, reserveWord, space, newline, over}
 
 -- ---- the lines, "each line ended by byte 10"

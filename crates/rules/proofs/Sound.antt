@@ -26,11 +26,11 @@ use Rattle.station.specs.Declared.{IsCurrent, CurrentOf, absent, standing}
 use Rattle.station.proofs.Current.{current-found, current-raised}
 use Rattle.station.proofs.Twins.{twins-distinct, distinct-twins, distinct-permuted, current-permuted, twins-same}
 use Rattle.station.proofs.Parameters.{parameters-permuted, same-parameters}
-use Rattle.acceptance.specs.Fit.{fieldFits, ruleFits, fits, isCurrent, unfit}
-use Rattle.acceptance.specs.Curve.{curveFits, fuelHolds, windowFits, forecastFits}
-use Rattle.acceptance.specs.Answer.{unsupported, answer, IsAccepted}
-use Rattle.acceptance.specs.Sound.{FitsIn, Sound}
-use Rattle.acceptance.proofs.Fit.{fits-stays}
+use Rattle.rules.specs.Fit.{fieldFits, ruleFits, fits, isCurrent, unfit}
+use Rattle.rules.specs.Curve.{curveFits, fuelHolds, windowFits, forecastFits}
+use Rattle.rules.specs.Answer.{unsupported, answer, IsAccepted}
+use Rattle.rules.specs.Sound.{FitsIn, Sound}
+use Rattle.rules.proofs.Fit.{fits-stays}
 
 unfit-each : (l : List (List ℕ)) → unfit (technology (parameters l)) l ≡ Accepted → Each (FitsIn l) l
 unfolding unfit

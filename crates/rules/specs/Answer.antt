@@ -11,8 +11,8 @@ use Rattle.records.specs.Answers.{orElse, refuseIf}
 use Rattle.records.specs.Dossier.{records}
 use Rattle.station.specs.Current.{readable}
 use Rattle.station.specs.Parameters.{Parameters, parameters, technology}
-use Rattle.acceptance.specs.Fit.{unfit}
-use Rattle.acceptance.specs.Curve.{curveFits, fuelHolds, windowFits, forecastFits}
+use Rattle.rules.specs.Fit.{unfit}
+use Rattle.rules.specs.Curve.{curveFits, fuelHolds, windowFits, forecastFits}
 
 -- 7, 8, 9 at "dossier length"; 17 is "tried after 9, at the dossier's length"
 unfoldable pub unsupported : Parameters → ℕ → Answer

@@ -9,8 +9,8 @@ use Rattle.records.specs.Table.{RS}
 use Rattle.records.specs.Record.{mark, fault}
 use Rattle.station.specs.Declared.{Distinct}
 use Rattle.station.specs.Parameters.{parameters, technology}
-use Rattle.acceptance.specs.Fit.{fits, isCurrent}
-use Rattle.acceptance.specs.Curve.{curveFits, fuelHolds, windowFits, forecastFits}
+use Rattle.rules.specs.Fit.{fits, isCurrent}
+use Rattle.rules.specs.Curve.{curveFits, fuelHolds, windowFits, forecastFits}
 
 -- a record of some fits their technology, if it is current
 abbrev pub FitsIn : List (List ℕ) → List ℕ → Type 0

@@ -11,9 +11,9 @@ use Rattle.records.specs.Answers.{orElse, refuseIf}
 use Rattle.records.specs.Dossier.{records}
 use Rattle.station.specs.Current.{readable}
 use Rattle.station.specs.Parameters.{Parameters, parameters, technology}
-use Rattle.acceptance.specs.Fit.{unfit}
-use Rattle.acceptance.specs.Curve.{curveFits, fuelHolds, windowFits, forecastFits}
-use Rattle.acceptance.specs.Answer.{unsupported, answer}
+use Rattle.rules.specs.Fit.{unfit}
+use Rattle.rules.specs.Curve.{curveFits, fuelHolds, windowFits, forecastFits}
+use Rattle.rules.specs.Answer.{unsupported, answer}
 
 -- ---- 7, 8, 9 and 17
 

@@ -1,0 +1,5 @@
+pub mod Cases
+pub mod Fit
+pub mod ByMark
+pub mod Draws
+pub mod Sound

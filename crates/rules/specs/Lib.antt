@@ -1,0 +1,4 @@
+pub mod Fit
+pub mod Curve
+pub mod Answer
+pub mod Sound
