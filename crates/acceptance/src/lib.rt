@@ -1,23 +1,14 @@
-// Whether a dossier is accepted: 13, 1 to 9 and 17, each with its place. The definitions are in specs/, their laws in proofs/.
-pub mod support;
-pub mod technology;
-
+// Whether a dossier is accepted: 13, 1 to 9 and 17, each with its place.
 ghost use mathlib.Core.Path.{_≡_};
 ghost use mathlib.Core.Bool.{true};
 ghost use Rattle.records.specs.declared.Answer.the-variants.{Accepted};
 ghost use Rattle.station.specs.Current.{readable};
 ghost use Rattle.lookup.specs.Parts.{Empty, Indexed, Complete};
 ghost use Rattle.rules.specs.Answer.{answer};
-use crate::support::unsupported_of;
-use crate::technology::unfit_of;
 use index::Passed;
 use records::Answer;
-
-// A record's length, and whether it fits.
-pub struct Tried {
-    pub len: usize,
-    pub fits: bool,
-}
+use support::unsupported_of;
+use technology::unfit_of;
 
 // 5 to 9 and 17, of a dossier that draws none before them.
 fn beyond_reading(d: &[u8], index: &[u16]) -> Answer

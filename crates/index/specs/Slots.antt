@@ -4,6 +4,7 @@ use mathlib.Core.List.{List}
 use Prim.Native.Nat.{ℕ, zero, suc, _+_, _*_, _/_, _%_}
 use lib.Dec.{leb, ltb, eqb}
 use lib.ListN.{length, getD, set, replicate}
+use Rattle.lists.specs.Tests.{allBelow}
 use Rattle.fields.specs.Numbers.{number}
 use Rattle.records.specs.Record.{head, mark, issue, keyWidth, keyOf}
 use Rattle.records.specs.Walk.{Step, Walked, ended, stopped}
@@ -79,3 +80,7 @@ passOf (stopped n p) = Stopped n p
 unfoldable pub slotsOf : List ℕ → Walked Kept → List ℕ
 slotsOf l (ended x) = x .slots
 slotsOf l (stopped n p) = l
+
+-- n slots from slot j on are empty
+unfoldable pub slotsEmpty : List ℕ → ℕ → ℕ → Bool
+slotsEmpty ix j n = allBelow n (λ i. eqb (getD ix (j + i) 0) 0)

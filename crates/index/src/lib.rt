@@ -4,10 +4,10 @@ pub mod reader;
 
 ghost use mathlib.Core.Path.{_≡_};
 ghost use mathlib.Core.Bool.{true};
-ghost use Prim.Native.Nat.{_≤_};
+ghost use Prim.Native.Nat.{_+_, _≤_};
 ghost use lib.ListN.{length};
 ghost use Rattle.records.specs.Walk.{walk};
-ghost use Rattle.index.specs.Slots.{heldIssue, newer, kept, keepStep, passOf, slotsOf};
+ghost use Rattle.index.specs.Slots.{heldIssue, newer, kept, keepStep, passOf, slotsOf, slotsEmpty};
 use crate::reader::read;
 
 // The slots of all marks but FP, and with them.
@@ -91,4 +91,18 @@ pub fn pass(d: &[u8], index: &mut [u16]) -> Passed
         }
     }
     Passed::Ended { rising, complete }
+}
+
+// Whether n slots from slot j on are empty.
+pub fn slots_empty(index: &[u16], j: usize, n: usize) -> bool
+    requires { ⌜ j + n ≤ length (now index) ⌝ }
+    ensures { λ r. ⌜ r ≡ slotsEmpty (now (index .entry)) j n ⌝ }
+{
+    let mut any = 0;
+    let mut i = 0;
+    while i < n {
+        any = any | index[j + i];
+        i += 1;
+    }
+    any == 0
 }

@@ -14,10 +14,9 @@ use Rattle.records.specs.Table.{CH}
 use Rattle.records.specs.Dossier.{records}
 use Rattle.station.specs.Parameters.{chargePrice, chargeEnergy}
 use Rattle.station.proofs.Fields.{chargeEnergy-at}
-use Rattle.index.specs.Slots.{slot}
+use Rattle.index.specs.Slots.{slot, slotsEmpty}
 use Rattle.lookup.specs.Parts.{Indexed}
 use Rattle.lookup.proofs.Parts.{current-none, fits, interval-key}
-use Rattle.acceptance.specs.Looked.{slotsEmpty}
 use Rattle.formulas.specs.Sums.{sumTo}
 use Rattle.formulas.specs.Levels.{parametersIn, amountsIn}
 use Rattle.reference.specs.Intervals.{Summed}

@@ -55,7 +55,7 @@ fn with_block(d: &[u8], index: &[u16], n: usize, before: Charging) -> Charging
     requires { ⌜ Indexed (now d) (now index) × (n + 32 ≤ 2016) × Summed (now d) n (before .cost) (before .energy) ⌝ }
     ensures { λ r. ⌜ Summed (now (d .entry)) (n + 32) (r .cost) (r .energy) ⌝ }
 {
-    if acceptance::technology::slots_empty(index, index::keys::slot_ch(n + 1), 32) {
+    if index::slots_empty(index, index::keys::slot_ch(n + 1), 32) {
         return before;
     }
     with_each(d, index, n, before)

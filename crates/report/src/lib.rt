@@ -7,10 +7,10 @@ ghost use Rattle.text.specs.Text.{over, tenths, space};
 ghost use Rattle.rules.specs.Fit.{holds};
 ghost use Rattle.report.specs.Parts.{laminationLines, heldLine, otherLines, packedReport};
 ghost use Rattle.layout.specs.Report.{profileLine, energyLine, amountLine, shortFor, bufferWith, written, report, reportAnswer, bufferAfter, prints};
-use acceptance::technology::level_held;
 use layout::Written;
 use records::Answer;
 use reference::HourLevels;
+use technology::level_held;
 
 // The word and the line end are 9 bytes.
 fn profile_line_len(profile: u64) -> usize

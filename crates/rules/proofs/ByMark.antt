@@ -1,5 +1,5 @@
 -- What it takes for a record of each mark to fit a technology.
-use mathlib.Core.Path.{_≡_, refl, ap, ap₂, sym, _∙_}
+use mathlib.Core.Path.{_≡_, refl, sym, _∙_}
 use mathlib.Core.Bool.{Bool, true, false, cond, _&&_, _||_, not}
 use mathlib.Core.List.{List, [], _∷_}
 use Prim.Native.Nat.{ℕ, zero, suc, _/_, _%_, _≤_, _<_}
@@ -10,7 +10,7 @@ use Rattle.lists.specs.Tests.{allBelow, among, between}
 use Rattle.lists.proofs.Tests.{and-true, split, between-low, between-high}
 use Rattle.fields.specs.Numbers.{number}
 use Rattle.records.specs.Table.{table, rowOf, fieldOf}
-use Rattle.records.specs.Record.{mark, size, offsetIn, offset, read, value, inRange, rangesHold}
+use Rattle.records.specs.Record.{offsetIn, offset, read, value, inRange, rangesHold}
 use Rattle.records.proofs.Record.{field-in}
 use Rattle.rules.specs.Fit.{Known, levelsOf, holds, fieldFits, ruleFits, fits}
 

@@ -5,10 +5,10 @@ ghost use mathlib.Core.List.{_++_};
 ghost use Prim.Native.Nat.{_≤_};
 ghost use lib.ListN.{length, drop};
 ghost use Rattle.words.specs.Words.{heldBits, wordsTo, wordsOf, wordsAnswer, wordsAfter};
-use acceptance::technology::choose;
-use acceptance::technology::level_held;
+use lists::choose;
 use records::Answer;
 use reference::HourLevels;
+use technology::level_held;
 
 // The levels that a technology holds, a bit each.
 fn held_bits(technology: u8) -> u64

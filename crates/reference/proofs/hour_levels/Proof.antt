@@ -4,7 +4,7 @@ use native.Mathlib.Omega.{arith}
 use Rattle.records.specs.Dossier.{records}
 use Rattle.station.specs.Parameters.{parameters, technology}
 use Rattle.rules.proofs.Sound.{accepted-sound}
-use Rattle.acceptance.proofs.Curve.{storage-window}
+use Rattle.support.proofs.Curve.{storage-window}
 use Rattle.reference.proofs.Accepted.{technology-low, hours-fit, places-fit}
 use Rattle.reference.proofs.Packed.{levels-packed}
 use Rattle.reference.proofs.hour_levels.Statement.{statement}

@@ -1,0 +1,75 @@
+use mathlib.Core.Path.{_≡_, refl, ap, _∙_}
+use mathlib.Core.Bool.{Bool, true, false, _&&_}
+use mathlib.Core.List.{List}
+use Prim.Native.Nat.{ℕ, _+_, _≤_, _-_}
+use native.Mathlib.Numerals.{add-one}
+use native.Mathlib.Omega.{arith}
+use borrow.Author.Needs.{needs}
+use borrow.Author.Tests.{eqb-true, eqb-false, ne-eqb}
+use lib.Bits.{bitOr, and-le-r, or-add-and}
+use lib.Dec.{eqb}
+use lib.ListN.{getD}
+use Rattle.lists.specs.Tests.{allBelow}
+use Rattle.index.specs.Slots.{slotsEmpty}
+use Rattle.index.proofs.slots_empty.Statement.{statement}
+use Rattle.index.proofs.slots_empty.Tie as tie
+
+-- a number that two have no bit of has no bit
+or-none : (a b : ℕ) → eqb (bitOr a b) 0 ≡ eqb a 0 && eqb b 0
+or-none a b = go (eqb a 0) refl
+  where
+    some : (a ≡ 0 → ⊥) → bitOr a b ≡ 0 → ⊥
+    some z e = omega (arith, z, or-add-and a b, and-le-r a b, e)
+
+    go : (x : Bool) → eqb a 0 ≡ x → eqb (bitOr a b) 0 ≡ x && eqb b 0
+    go true e = rw (eqb-true a 0 e) refl
+    go false e = ne-eqb (bitOr a b) 0 (some (eqb-false a 0 e))
+
+empty-next : (ix : List ℕ) (j i a : ℕ) → eqb a 0 ≡ slotsEmpty ix j i → eqb (bitOr a (getD ix (j + i) 0)) 0 ≡ slotsEmpty ix j (i + 1)
+unfolding slotsEmpty allBelow
+empty-next ix j i a e = or-none a (getD ix (j + i) 0) ∙ rw (e, add-one i) refl
+
+abbrev Inv-loop : tie.InvT-loop
+Inv-loop index j n any₀ i₀ any i = (i ≤ n) × (eqb any 0 ≡ slotsEmpty index j i)
+
+abbrev μ-loop : tie.MeasureT-loop
+μ-loop index j n any₀ i₀ any i = n - i
+
+loop-holds : tie.Need-loop-holds Inv-loop μ-loop
+loop-holds c = (omega arith, unfold slotsEmpty allBelow in refl)
+
+add-any : tie.Need-add-any Inv-loop μ-loop
+add-any c = omega arith
+
+mul-any : tie.Need-mul-any Inv-loop μ-loop
+mul-any c = search needs
+
+shared-slice-read-any : tie.Need-shared-slice-read-any Inv-loop μ-loop
+shared-slice-read-any c = search needs
+
+add-i : tie.Need-add-i Inv-loop μ-loop
+add-i c = omega arith
+
+loop-less : tie.Need-loop-less Inv-loop μ-loop
+loop-less c = omega arith
+
+loop-again : tie.Need-loop-again Inv-loop μ-loop
+loop-again c = (omega arith, empty-next (c .before .before .before .args .index .now) (c .before .before .before .args .j) (c .before .before .loop .i) (c .before .before .loop .any) (c .before .before .loop .inv .1))
+
+returns : tie.Need-returns Inv-loop μ-loop
+returns c = c .before .loop .inv .1 ∙ ap (slotsEmpty (c .before .before .args .index .now) (c .before .before .args .j)) (omega arith)
+
+pub slots-empty-spec : {M : Type 1} → statement M
+slots-empty-spec =
+    tie.close
+    (tie.spec
+    Inv-loop
+    μ-loop
+    loop-holds
+    add-any
+    mul-any
+    shared-slice-read-any
+    add-i
+    loop-less
+    loop-again
+    returns)
