@@ -1,15 +1,18 @@
 -- How long the report's lines are, and that each fits a fixed number of bytes.
-use mathlib.Core.Path.{_≡_}
+use mathlib.Core.Path.{_≡_, refl, sym, ap, _∙_}
 use mathlib.Core.Bool.{Bool, true, false, cond}
-use mathlib.Core.List.{List, _++_, append-assoc}
-use Prim.Native.Nat.{ℕ, _+_, _-_, _/_, _≤_}
+use mathlib.Core.List.{List, [], _∷_, _++_, append-assoc}
+use Prim.Native.Nat.{ℕ, _+_, _*_, _-_, _/_, _≤_}
 use native.Mathlib.Omega.{arith}
+use lib.Dec.{eqb}
 use lib.ListN.{length, take, drop, length-append}
-use Rattle.text.specs.Text.{decimal, tenths, hundredths, newline}
+use Rattle.text.specs.Text.{decimal, tenths, hundredths, startWord, noLoadWord, reserveWord, newline}
 use Rattle.text.proofs.Decimal.{decimal-within}
 use Rattle.text.proofs.Lengths.{tenths-length, hundredths-length}
 use Rattle.text.proofs.Over.{Wrote, then}
-use Rattle.layout.specs.Report.{profileLine, energyLine, amountLine}
+use Rattle.rules.specs.Fit.{energy, start, noLoad}
+use Rattle.formulas.specs.Levels.{Shown}
+use Rattle.layout.specs.Report.{profileLine, energyLine, amountLine, levelLine, levelLines, reportText}
 
 pub profile-length : (p : ℕ) → length (profileLine p) ≡ length (decimal p) + 9
 unfolding profileLine
@@ -48,3 +51,28 @@ unfolding amountLine
 then-amount t e word x p q =
     let k : t ++ word ++ hundredths x ++ newline ≡ t ++ (word ++ hundredths x ++ newline) = simp append-assoc in
     rw k (then t (word ++ hundredths x ++ newline) e p q)
+
+-- ---- the lines of some levels
+
+pub lines-append : (l m : List Shown) → levelLines (l ++ m) ≡ levelLines l ++ levelLines m
+unfolding levelLines
+lines-append [] m = refl
+lines-append (x ∷ l) m = ap (λ (t : List ℕ). levelLine x ++ t) (lines-append l m) ∙ sym (append-assoc (levelLine x) (levelLines l) (levelLines m))
+
+-- a line has at most 98 bytes
+level-within : (x : Shown) → length (levelLine x) ≤ 98
+unfolding levelLine
+level-within x =
+    either 98 (eqb (x .level) energy) (energyLine (x .lamination) (x .from) (x .to) (x .cents)) _ (energy-within (x .lamination) (x .from) (x .to) (x .cents))
+    (either 98 (eqb (x .level) start) (amountLine startWord (x .cents)) _ (amount-within startWord (x .cents) (omega arith))
+    (either 98 (eqb (x .level) noLoad) (amountLine noLoadWord (x .cents)) (amountLine reserveWord (x .cents)) (amount-within noLoadWord (x .cents) (omega arith))
+    (amount-within reserveWord (x .cents) (omega arith))))
+
+pub lines-within : (l : List Shown) → length (levelLines l) ≤ 98 * length l
+unfolding levelLines
+lines-within [] = omega arith
+lines-within (x ∷ l) = omega (arith, length-append (levelLine x) (levelLines l), level-within x, lines-within l)
+
+pub text-within : (p : ℕ) (l : List Shown) → length (reportText p l) ≤ 29 + 98 * length l
+unfolding reportText
+text-within p l = omega (arith, length-append (profileLine p) (levelLines l), profile-length p, decimal-within p, lines-within l)

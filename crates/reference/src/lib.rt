@@ -1,11 +1,6 @@
 // Reference levels at an hour. The formulas are in specs/, their laws in proofs/.
-mod hydro;
-mod maintenance;
-mod nuclear;
-mod parameters;
+mod laminations;
 mod profile;
-mod storage;
-mod thermal;
 
 ghost use mathlib.Core.Path.{_≡_};
 ghost use mathlib.Core.List.{[], _∷_};
@@ -75,11 +70,11 @@ fn thermal_levels(d: &[u8], index: &[u16], p: usize) -> HourLevels
     let mut from = [0u64; 20];
     let mut to = [0u64; 20];
     let mut cents = [0u64; 20];
-    let count = thermal::lamination_count(d, index);
-    thermal::laminations(d, index, p, count, &mut from, &mut to, &mut cents);
-    let start = Money::from_sum(thermal::start_cost(d, index, p));
-    let noload = Money::from_sum(thermal::no_load_cost(d, index, p));
-    let reserve = Money::from_sum(maintenance::adders(d, index, p, 4));
+    let count = costs::thermal::lamination_count(d, index);
+    laminations::laminations(d, index, p, count, &mut from, &mut to, &mut cents);
+    let start = Money::from_sum(costs::thermal::start_cost(d, index, p));
+    let noload = Money::from_sum(costs::thermal::no_load_cost(d, index, p));
+    let reserve = Money::from_sum(costs::maintenance::adders(d, index, p, 4));
     HourLevels {
         technology: 1,
         profile: p,
@@ -97,7 +92,7 @@ fn nuclear_levels(d: &[u8], index: &[u16], p: usize) -> HourLevels
     requires { ⌜ Indexed (now d) (now index) × (1 ≤ p) × (p ≤ 4) × (technology (parametersIn (now d)) ≡ 2) ⌝ }
     ensures { λ r. ⌜ r ≡ packed (technology (parametersIn (now (d .entry)))) p (linesOf (parametersIn (now (d .entry))) (amountsIn (now (d .entry))) p) ⌝ }
 {
-    let energy = Money::from_sum(nuclear::nuclear_energy(d, index, p));
+    let energy = Money::from_sum(costs::nuclear::nuclear_energy(d, index, p));
     one_lamination(2, p, parameters::capacity(d, index), energy.cents, 0)
 }
 
@@ -105,8 +100,8 @@ fn storage_levels(d: &[u8], index: &[u16], p: usize) -> HourLevels
     requires { ⌜ Indexed (now d) (now index) × (1 ≤ p) × (p ≤ 4) × (technology (parametersIn (now d)) ≡ 3) × (fullHours (parametersIn (now d)) ≤ window (parametersIn (now d))) × (window (parametersIn (now d)) ≤ 168) ⌝ }
     ensures { λ r. ⌜ r ≡ packed (technology (parametersIn (now (d .entry)))) p (linesOf (parametersIn (now (d .entry))) (amountsIn (now (d .entry))) p) ⌝ }
 {
-    let energy = Money::from_sum(storage::storage_energy(d, index, p));
-    let reserve = Money::from_sum(maintenance::adders(d, index, p, 4));
+    let energy = Money::from_sum(costs::storage::storage_energy(d, index, p));
+    let reserve = Money::from_sum(costs::maintenance::adders(d, index, p, 4));
     one_lamination(
         3,
         p,
@@ -120,8 +115,8 @@ fn hydro_levels(d: &[u8], index: &[u16], p: usize) -> HourLevels
     requires { ⌜ Indexed (now d) (now index) × (1 ≤ p) × (p ≤ 4) × (technology (parametersIn (now d)) ≡ 4) × (50 ≤ window (parametersIn (now d))) ⌝ }
     ensures { λ r. ⌜ r ≡ packed (technology (parametersIn (now (d .entry)))) p (linesOf (parametersIn (now (d .entry))) (amountsIn (now (d .entry))) p) ⌝ }
 {
-    let energy = Money::from_sum(hydro::hydro_energy(d, index, p));
-    let reserve = Money::from_sum(maintenance::adders(d, index, p, 4));
+    let energy = Money::from_sum(costs::hydro::hydro_energy(d, index, p));
+    let reserve = Money::from_sum(costs::maintenance::adders(d, index, p, 4));
     one_lamination(
         4,
         p,

@@ -14,7 +14,7 @@ use Rattle.formulas.specs.Levels.{profile, levels, shown}
 use Rattle.reference.specs.Packed.{unpacked}
 use Rattle.layout.specs.declared.Written.{Written}
 use Rattle.layout.specs.declared.Written.the-variants.{Refused}
-use Rattle.report.specs.Parts.{packedReport}
+use Rattle.lines.specs.Parts.{packedReport}
 use Rattle.layout.specs.Report.{report, shortFor, bufferWith, written, reportAnswer, bufferAfter}
 
 pub too-short : (text : List ℕ) (n : ℕ) → n < length text → shortFor text n ≡ Turned 15 0

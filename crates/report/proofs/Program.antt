@@ -31,8 +31,7 @@ use Rattle.layout.specs.declared.Written.{Written}
 use Rattle.layout.specs.declared.Written.the-variants.{Bytes, Refused}
 use Rattle.layout.specs.Report.{report, bufferWith, written, reportAnswer, bufferAfter, printed, prints}
 use Rattle.report.proofs.Buffer.{long-enough, Told}
-use Rattle.layout.proofs.Lines.{either}
-use Rattle.report.proofs.Levels.{text-within}
+use Rattle.layout.proofs.Lines.{either, text-within}
 
 -- ---- room
 

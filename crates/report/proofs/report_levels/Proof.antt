@@ -5,7 +5,7 @@ use borrow.Author.Needs.{needs}
 use lib.ListN.{length}
 use Rattle.records.specs.Answers.{isAccepted}
 use Rattle.layout.specs.declared.Written.the-variants.{Bytes}
-use Rattle.report.specs.Parts.{packedReport}
+use Rattle.lines.specs.Parts.{packedReport}
 use Rattle.layout.specs.Report.{bufferWith, written}
 use Rattle.report.proofs.Buffer.{too-short, long-enough}
 use Rattle.report.proofs.report_levels.Statement.{statement}

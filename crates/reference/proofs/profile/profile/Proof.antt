@@ -5,7 +5,7 @@ use native.Mathlib.Omega.{arith}
 use Rattle.records.specs.Dossier.{records}
 use Rattle.station.specs.Parameters.{parameters}
 use Rattle.formulas.specs.Levels.{profileOf, profile}
-use Rattle.reference.proofs.Bounds.{clean}
+use Rattle.parameters.proofs.Bounds.{clean}
 use Rattle.reference.proofs.Requests.{profile-next, profile-range}
 use Rattle.reference.proofs.profile.profile.Statement.{statement}
 use Rattle.reference.proofs.profile.profile.Tie as tie

@@ -1,0 +1,54 @@
+use borrow.Author.Needs.{needs}
+use mathlib.Core.Path.{ap, _∙_}
+use Prim.Native.Nat.{ℕ, _-_, _/_}
+use native.Mathlib.Omega.{arith}
+use lib.ListN.{length-replicate}
+use Rattle.records.specs.Dossier.{records}
+use Rattle.station.specs.Parameters.{amounts, placePrice}
+use Rattle.index.specs.Slots.{wide}
+use Rattle.lookup.proofs.Parts.{wide-complete}
+use Rattle.formulas.specs.Sums.{listTo, fromTop}
+use Rattle.formulas.specs.Levels.{forecastPlace, forecastPrice}
+use Rattle.costs.proofs.hydro.forecast_price.Statement.{statement}
+use Rattle.costs.proofs.hydro.forecast_price.Tie as tie
+
+slice-aggregate-fill : tie.Need-slice-aggregate-fill
+slice-aggregate-fill c = search needs
+
+fill-requires : tie.Need-fill-requires
+fill-requires c κs = search needs
+
+slice-aggregate-price-from-top : tie.Need-slice-aggregate-price-from-top
+slice-aggregate-price-from-top c = search needs
+
+price-from-top-requires : tie.Need-price-from-top-requires
+price-from-top-requires c κs =
+    let f = c .before .before .fill in
+    let p = c .before .before .before .before .before .pre in
+    (f .ensures, wide-complete _ _ (f .ensures) (omega (arith, f .kept .1 .0, length-replicate {A = ℕ} wide 0)), p .4, omega (arith, p .3), omega arith)
+
+cast-less : tie.Need-cast-less
+cast-less c = search needs
+
+less-requires : tie.Need-less-requires
+less-requires c κs = search needs
+
+returns : tie.Need-returns
+unfolding forecastPrice forecastPlace
+returns c =
+    let a = c .before .before .before .before .before .before .before in
+    let m = amounts (records (a .args .d .now)) in
+    let e = c .before .price-from-top .ensures .0 ∙ ap (λ (w : ℕ). fromTop (w / 50) (listTo w (placePrice m))) (a .pre .2) in
+    (c .less .ensures ∙ ap (λ (x : ℕ). x - 2147483648) e, omega (arith, c .less .ensures, c .before .price-from-top .ensures .1))
+
+pub forecast-price-spec : {M : Type 1} → statement M
+forecast-price-spec =
+    tie.close
+    (tie.spec
+    slice-aggregate-fill
+    fill-requires
+    slice-aggregate-price-from-top
+    price-from-top-requires
+    cast-less
+    less-requires
+    returns)

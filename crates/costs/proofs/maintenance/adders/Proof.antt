@@ -1,0 +1,61 @@
+use borrow.Author.Needs.{needs}
+use mathlib.Core.Path.{_≡_}
+use Prim.Native.Nat.{_≤_, _*_, _-_}
+use native.Mathlib.Omega.{arith}
+use Rattle.records.specs.Dossier.{records}
+use Rattle.station.specs.Parameters.{amounts, adder}
+use Rattle.formulas.specs.Sums.{sumTo}
+use Rattle.formulas.specs.Exact.{dropped}
+use Rattle.formulas.specs.Levels.{adders}
+use Rattle.formulas.proofs.Sums.{sum-more, sum-ends}
+use Rattle.costs.proofs.maintenance.adders.Statement.{statement}
+use Rattle.costs.proofs.maintenance.adders.Tie as tie
+
+abbrev Inv-loop : tie.InvT-loop
+Inv-loop d index p v sum₀ c₀ sum c = (c ≤ 5) × (sum ≤ c * 1000000000000) × (sum ≡ sumTo c (λ k. adder (amounts (records d)) p k v))
+
+abbrev μ-loop : tie.MeasureT-loop
+μ-loop d index p v sum₀ c₀ sum c = 5 - c
+
+loop-holds : tie.Need-loop-holds Inv-loop μ-loop
+unfolding sumTo
+loop-holds c = (search needs, search needs, search needs)
+
+add-adder : tie.Need-add-adder Inv-loop μ-loop
+add-adder c = omega arith
+
+adder-requires : tie.Need-adder-requires Inv-loop μ-loop
+adder-requires c κs = search needs
+
+add-sum : tie.Need-add-sum Inv-loop μ-loop
+add-sum c = omega arith
+
+add-c : tie.Need-add-c Inv-loop μ-loop
+add-c c = omega arith
+
+loop-less : tie.Need-loop-less Inv-loop μ-loop
+loop-less c = omega arith
+
+loop-again : tie.Need-loop-again Inv-loop μ-loop
+loop-again c = (omega arith, omega arith, sum-more _ _ _ _ (c .before .before .loop .inv .2) (c .adder .ensures .0))
+
+returns : tie.Need-returns Inv-loop μ-loop
+unfolding dropped adders
+returns c =
+    let l = c .before .loop in
+    (sum-ends _ (l .c) 5 _ (c .loop-test .left) (l .inv .0) (l .inv .2), omega arith)
+
+pub adders-spec : {M : Type 1} → statement M
+adders-spec =
+    tie.close
+    (tie.spec
+    Inv-loop
+    μ-loop
+    loop-holds
+    add-adder
+    adder-requires
+    add-sum
+    add-c
+    loop-less
+    loop-again
+    returns)

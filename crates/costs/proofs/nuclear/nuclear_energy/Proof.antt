@@ -1,0 +1,57 @@
+use borrow.Author.Needs.{needs}
+use Prim.Native.Nat.{_*_, _≤_}
+use native.Mathlib.Nat.{mul-le-mul}
+use native.Mathlib.Omega.{arith}
+use Rattle.costs.proofs.Costs.{nuclear-costs}
+use Rattle.costs.proofs.nuclear.nuclear_energy.Statement.{statement}
+use Rattle.costs.proofs.nuclear.nuclear_energy.Tie as tie
+
+incremental-fuel-requires : tie.Need-incremental-fuel-requires
+incremental-fuel-requires c κs = search needs
+
+fuel-requires : tie.Need-fuel-requires
+fuel-requires c κs = search needs
+
+factor-requires : tie.Need-factor-requires
+factor-requires c κs = search needs
+
+mul-result : tie.Need-mul-result
+mul-result c = omega (arith, mul-le-mul (c .before .before .incremental-fuel .ensures .1) (c .before .fuel .ensures .1))
+
+product : (c : tie.After-factor) → c .before .before .incremental-fuel .result * c .before .fuel .result * c .factor .result ≤ 1000000 * 400000000 * 2000
+product c = mul-le-mul (mul-le-mul (c .before .before .incremental-fuel .ensures .1) (c .before .fuel .ensures .1)) (c .factor .ensures .1)
+
+mul-result-2 : tie.Need-mul-result-2
+mul-result-2 c = omega (arith, product c)
+
+adders-requires : tie.Need-adders-requires
+adders-requires c κs = search needs
+
+add-result : tie.Need-add-result
+add-result c = omega (arith, product (c .before))
+
+maintenance-requires : tie.Need-maintenance-requires
+maintenance-requires c κs = search needs
+
+add-result-2 : tie.Need-add-result-2
+add-result-2 c = omega (arith, product (c .before .before))
+
+returns : tie.Need-returns
+returns c =
+    let f = c .before .before in
+    nuclear-costs _ _ _ (f .before .before .incremental-fuel .ensures .0) (f .before .fuel .ensures .0) (f .factor .ensures .0) (c .before .adders .ensures .0) (c .maintenance .ensures .0)
+
+pub nuclear-energy-spec : {M : Type 1} → statement M
+nuclear-energy-spec =
+    tie.close
+    (tie.spec
+    incremental-fuel-requires
+    fuel-requires
+    factor-requires
+    mul-result
+    mul-result-2
+    adders-requires
+    add-result
+    maintenance-requires
+    add-result-2
+    returns)

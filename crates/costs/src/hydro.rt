@@ -1,0 +1,56 @@
+// The hydroelectric level: the forecast price at the place from the top.
+ghost use mathlib.Core.Path.{_≡_};
+ghost use Prim.Native.Nat.{_/_, _-_, _≤_};
+ghost use lib.ListN.{length, drop};
+ghost use Rattle.records.specs.declared.Answer.the-variants.{Accepted};
+ghost use Rattle.records.specs.Dossier.{records, scan};
+ghost use Rattle.station.specs.Parameters.{window, placePrice};
+ghost use Rattle.lookup.specs.Parts.{Indexed, Complete};
+ghost use Rattle.formulas.specs.Sums.{listTo, fromTop};
+ghost use Rattle.formulas.specs.Exact.{dropped};
+ghost use Rattle.formulas.specs.Levels.{parametersIn, amountsIn, forecastPrice, hydroEnergy};
+use crate::maintenance::adders;
+use crate::maintenance::maintenance;
+
+// The prices of so many places from place 1 on, into the last places of an array, place 1 the very last.
+fn prices(d: &[u8], index: &[u16], places: usize, prices: &mut [u32])
+    requires { ⌜ Indexed (now d) (now index) × Complete (now d) (now index) × (places ≤ 4000) × (length (now prices) ≡ 4000) ⌝ }
+    ensures { λ r. ⌜ drop (4000 - places) (now (prices .exit)) ≡ listTo places (placePrice (amountsIn (now (d .entry)))) ⌝ }
+{
+    let mut n = 0;
+    while n < places {
+        prices[3999 - n] = parameters::place_price(d, index, n + 1);
+        n += 1;
+    }
+}
+
+// The price at a place from the top among them, plus 2^31.
+fn price_from_top(d: &[u8], index: &[u16], places: usize, place: usize) -> u32
+    requires { ⌜ Indexed (now d) (now index) × Complete (now d) (now index) × (places ≤ 4000) × (1 ≤ place) × (place ≤ places) ⌝ }
+    ensures { λ r. ⌜ (r ≡ fromTop place (listTo places (placePrice (amountsIn (now (d .entry)))))) × (r ≤ 2147683648) ⌝ }
+{
+    let mut table = [0u32; 4000];
+    prices(d, index, places, &mut table);
+    let from = 4000 - places;
+    arithmetic::highest::from_top(&table[from..], place)
+}
+
+// The greater of 0 and the price at the forecast's place, in cents. The index at hand may have no slot for FP, so it is filled anew.
+fn forecast_price(d: &[u8], places: usize) -> u64
+    requires { ⌜ (length (now d) ≤ 60000) × (scan 0 (records (now d)) ≡ Accepted) × (places ≡ window (parametersIn (now d))) × (50 ≤ places) × (places ≤ 4000) ⌝ }
+    ensures { λ r. ⌜ (r ≡ forecastPrice (parametersIn (now (d .entry))) (amountsIn (now (d .entry)))) × (r ≤ 200000) ⌝ }
+{
+    let mut index = [0u16; index::WIDE];
+    lookup::fill(d, &mut index);
+    let price = price_from_top(d, &index, places, places / 50);
+    arithmetic::less(price as u64, 2147483648)
+}
+
+// The sum of its one lamination.
+pub fn hydro_energy(d: &[u8], index: &[u16], p: usize) -> u64
+    requires { ⌜ Indexed (now d) (now index) × (1 ≤ p) × (p ≤ 4) × (50 ≤ window (parametersIn (now d))) ⌝ }
+    ensures { λ r. ⌜ r ≡ dropped (hydroEnergy (parametersIn (now (d .entry))) (amountsIn (now (d .entry))) p) ⌝ }
+{
+    let price = forecast_price(d, parameters::window(d, index));
+    price * 10000 + adders(d, index, p, 1) + maintenance(d, index, p)
+}

@@ -1,0 +1,73 @@
+// Adders and maintenance: what AD and MM add to the levels of a profile.
+ghost use mathlib.Core.Path.{_≡_};
+ghost use Prim.Native.Nat.{_*_, _≤_};
+ghost use Rattle.station.specs.Parameters.{costC, outputW, intervalT, hoursPerStartS};
+ghost use Rattle.lookup.specs.Parts.{Indexed};
+ghost use Rattle.formulas.specs.Exact.{quotient, dropped};
+ghost use Rattle.formulas.specs.Levels.{parametersIn, amountsIn, adders, maintenance, startMaintenance};
+
+// The adders of a level.
+pub fn adders(d: &[u8], index: &[u16], p: usize, v: usize) -> u64
+    requires { ⌜ Indexed (now d) (now index) × (1 ≤ p) × (p ≤ 4) × (1 ≤ v) × (v ≤ 4) ⌝ }
+    ensures { λ r. ⌜ (r ≡ dropped (adders (amountsIn (now (d .entry))) p v)) × (r ≤ 5000000000000) ⌝ }
+{
+    let mut sum = 0;
+    let mut c = 0;
+    while c < 5 {
+        sum += parameters::adder(d, index, p, c + 1, v);
+        c += 1;
+    }
+    sum
+}
+
+// What item j adds to energy.
+fn item(d: &[u8], index: &[u16], p: usize, j: usize) -> u64
+    requires { ⌜ Indexed (now d) (now index) × (1 ≤ p) × (p ≤ 4) × (1 ≤ j) × (j ≤ 8) ⌝ }
+    ensures { λ r. ⌜ (r ≡ quotient (costC (amountsIn (now (d .entry))) p j * 100000) (outputW (parametersIn (now (d .entry))) p j * intervalT (parametersIn (now (d .entry))) p j)) × (r ≤ 10000000000000000) ⌝ }
+{
+    let r = lookup::mm(d, index, p, j);
+    let cost = fields::u64_at(r, 8);
+    let output = fields::u16_at(r, 16) as u64;
+    let interval = fields::u32_at(r, 18) as u64;
+    arithmetic::share(cost * 100000, output * interval)
+}
+
+// What it adds to a start.
+fn start_item(d: &[u8], index: &[u16], p: usize, j: usize) -> u64
+    requires { ⌜ Indexed (now d) (now index) × (1 ≤ p) × (p ≤ 4) × (1 ≤ j) × (j ≤ 8) ⌝ }
+    ensures { λ r. ⌜ (r ≡ quotient (costC (amountsIn (now (d .entry))) p j * hoursPerStartS (parametersIn (now (d .entry))) p j * 1000) (intervalT (parametersIn (now (d .entry))) p j)) × (r ≤ 1000000000000000000) ⌝ }
+{
+    let r = lookup::mm(d, index, p, j);
+    let cost = fields::u64_at(r, 8);
+    let interval = fields::u32_at(r, 18) as u64;
+    let hours = fields::u16_at(r, 22) as u64;
+    arithmetic::share(cost * hours * 1000, interval)
+}
+
+// Maintenance in an energy level.
+pub fn maintenance(d: &[u8], index: &[u16], p: usize) -> u64
+    requires { ⌜ Indexed (now d) (now index) × (1 ≤ p) × (p ≤ 4) ⌝ }
+    ensures { λ r. ⌜ (r ≡ dropped (maintenance (parametersIn (now (d .entry))) (amountsIn (now (d .entry))) p)) × (r ≤ 80000000000000000) ⌝ }
+{
+    let mut sum = 0;
+    let mut j = 0;
+    while j < 8 {
+        sum += item(d, index, p, j + 1);
+        j += 1;
+    }
+    sum
+}
+
+// Maintenance in a start level.
+pub fn start_maintenance(d: &[u8], index: &[u16], p: usize) -> u64
+    requires { ⌜ Indexed (now d) (now index) × (1 ≤ p) × (p ≤ 4) ⌝ }
+    ensures { λ r. ⌜ (r ≡ dropped (startMaintenance (parametersIn (now (d .entry))) (amountsIn (now (d .entry))) p)) × (r ≤ 8000000000000000000) ⌝ }
+{
+    let mut sum = 0;
+    let mut j = 0;
+    while j < 8 {
+        sum += start_item(d, index, p, j + 1);
+        j += 1;
+    }
+    sum
+}

@@ -1,0 +1,143 @@
+// The storage level: the greater of the short-run cost and the opportunity cost.
+ghost use mathlib.Core.Path.{_≡_};
+ghost use Prim.Native.Nat.{_+_, _*_, _-_, _≤_};
+ghost use lib.ListN.{length, drop};
+ghost use Rattle.station.specs.Parameters.{window, hourPrice, chargePrice, chargeEnergy};
+ghost use Rattle.lookup.specs.Parts.{Indexed};
+ghost use Rattle.rules.specs.Curve.{fullHours};
+ghost use Rattle.formulas.specs.Sums.{sumTo, listTo, sumHighest};
+ghost use Rattle.formulas.specs.Exact.{dropped};
+ghost use Rattle.formulas.specs.Levels.{parametersIn, amountsIn, totalEnergy, chargingCost, shortRunCost, opportunityCost, storageEnergy};
+ghost use Rattle.costs.specs.Intervals.{Summed};
+use crate::maintenance::adders;
+use crate::maintenance::maintenance;
+
+// Price × energy, the price plus 2^31, and energy: of an interval, or of all together.
+pub struct Charging {
+    pub cost: u64,
+    pub energy: u64,
+}
+
+// Interval n.
+fn interval(d: &[u8], index: &[u16], n: usize) -> Charging
+    requires { ⌜ Indexed (now d) (now index) × (1 ≤ n) × (n ≤ 2016) ⌝ }
+    ensures { λ r. ⌜ (r .cost ≡ chargePrice (amountsIn (now (d .entry))) n * chargeEnergy (parametersIn (now (d .entry))) n) × (r .energy ≡ chargeEnergy (parametersIn (now (d .entry))) n) × (r .cost ≤ 2147683648 * r .energy) × (r .energy ≤ 1000000) ⌝ }
+{
+    let r = lookup::ch(d, index, n);
+    let price = arithmetic::biased(fields::u32_at(r, 8)) as u64;
+    let energy = fields::u32_at(r, 12) as u64;
+    Charging {
+        cost: price * energy,
+        energy,
+    }
+}
+
+// The sums over intervals 1 to n, with the 32 after them one by one.
+fn with_each(d: &[u8], index: &[u16], n: usize, before: Charging) -> Charging
+    requires { ⌜ Indexed (now d) (now index) × (n + 32 ≤ 2016) × Summed (now d) n (before .cost) (before .energy) ⌝ }
+    ensures { λ r. ⌜ Summed (now (d .entry)) (n + 32) (r .cost) (r .energy) ⌝ }
+{
+    let mut cost = before.cost;
+    let mut energy = before.energy;
+    let mut k = n;
+    while k < n + 32 {
+        let c = interval(d, index, k + 1);
+        cost += c.cost;
+        energy += c.energy;
+        k += 1;
+    }
+    Charging { cost, energy }
+}
+
+// The same, sooner where none of the 32 has a record: they are passed over at once.
+fn with_block(d: &[u8], index: &[u16], n: usize, before: Charging) -> Charging
+    requires { ⌜ Indexed (now d) (now index) × (n + 32 ≤ 2016) × Summed (now d) n (before .cost) (before .energy) ⌝ }
+    ensures { λ r. ⌜ Summed (now (d .entry)) (n + 32) (r .cost) (r .energy) ⌝ }
+{
+    if index::slots_empty(index, index::keys::slot_ch(n + 1), 32) {
+        return before;
+    }
+    with_each(d, index, n, before)
+}
+
+// All intervals.
+fn intervals(d: &[u8], index: &[u16]) -> Charging
+    requires { ⌜ Indexed (now d) (now index) ⌝ }
+    ensures { λ r. ⌜ (r .cost ≡ sumTo 2016 (λ n. chargePrice (amountsIn (now (d .entry))) n * chargeEnergy (parametersIn (now (d .entry))) n)) × (r .energy ≡ totalEnergy (parametersIn (now (d .entry)))) × (r .cost ≤ 2147683648 * r .energy) × (r .energy ≤ 2016000000) ⌝ }
+{
+    let mut sums = Charging { cost: 0, energy: 0 };
+    let mut n = 0;
+    while n < 2016 {
+        sums = with_block(d, index, n, sums);
+        n += 32;
+    }
+    sums
+}
+
+// The charging cost; where no energy was charged, the last one.
+fn charging_cost(d: &[u8], index: &[u16]) -> u64
+    requires { ⌜ Indexed (now d) (now index) ⌝ }
+    ensures { λ r. ⌜ (r ≡ dropped (chargingCost (parametersIn (now (d .entry))) (amountsIn (now (d .entry))))) × (r ≤ 2000000000) ⌝ }
+{
+    let c = intervals(d, index);
+    if c.energy == 0 {
+        return parameters::last_cost(d, index);
+    }
+    let sum = arithmetic::less(c.cost, 2147483648 * c.energy);
+    arithmetic::share(sum * 10000, c.energy)
+}
+
+// The short-run cost.
+fn short_run_cost(d: &[u8], index: &[u16], p: usize) -> u64
+    requires { ⌜ Indexed (now d) (now index) × (1 ≤ p) × (p ≤ 4) ⌝ }
+    ensures { λ r. ⌜ r ≡ dropped (shortRunCost (parametersIn (now (d .entry))) (amountsIn (now (d .entry))) p) ⌝ }
+{
+    let charge = charging_cost(d, index) + parameters::fuel(d, index, p);
+    let efficiency = parameters::efficiency(d, index);
+    arithmetic::share(charge * 1000, efficiency) + adders(d, index, p, 1) + maintenance(d, index, p)
+}
+
+// The prices of hours 1 to the window, into the last places of an array, hour 1 the very last.
+fn prices(d: &[u8], index: &[u16], window: usize, prices: &mut [u32])
+    requires { ⌜ Indexed (now d) (now index) × (window ≤ 168) × (length (now prices) ≡ 168) ⌝ }
+    ensures { λ r. ⌜ drop (168 - window) (now (prices .exit)) ≡ listTo window (hourPrice (amountsIn (now (d .entry)))) ⌝ }
+{
+    let mut n = 0;
+    while n < window {
+        prices[167 - n] = parameters::hour_price(d, index, n + 1);
+        n += 1;
+    }
+}
+
+// The sum of the highest prices of the window.
+fn highest_sum(d: &[u8], index: &[u16], hours: usize, window: usize) -> u64
+    requires { ⌜ Indexed (now d) (now index) × (window ≤ 168) × (hours ≤ window) ⌝ }
+    ensures { λ r. ⌜ (r ≡ sumHighest hours (listTo window (hourPrice (amountsIn (now (d .entry)))))) × (r ≤ 336 * 4294967295) ⌝ }
+{
+    let mut table = [0u32; 168];
+    prices(d, index, window, &mut table);
+    let from = 168 - window;
+    arithmetic::highest::highest(&table[from..], hours)
+}
+
+// The opportunity cost.
+fn opportunity_cost(d: &[u8], index: &[u16]) -> u64
+    requires { ⌜ Indexed (now d) (now index) × (fullHours (parametersIn (now d)) ≤ window (parametersIn (now d))) × (window (parametersIn (now d)) ≤ 168) ⌝ }
+    ensures { λ r. ⌜ r ≡ dropped (opportunityCost (parametersIn (now (d .entry))) (amountsIn (now (d .entry)))) ⌝ }
+{
+    let hours = arithmetic::share(parameters::charge(d, index), parameters::capacity(d, index));
+    let window = parameters::window(d, index);
+    let sum = arithmetic::less(
+        highest_sum(d, index, hours as usize, window),
+        2147483648 * hours,
+    );
+    arithmetic::share(sum * 10000, hours)
+}
+
+// The greater is taken.
+pub fn storage_energy(d: &[u8], index: &[u16], p: usize) -> u64
+    requires { ⌜ Indexed (now d) (now index) × (1 ≤ p) × (p ≤ 4) × (fullHours (parametersIn (now d)) ≤ window (parametersIn (now d))) × (window (parametersIn (now d)) ≤ 168) ⌝ }
+    ensures { λ r. ⌜ r ≡ dropped (storageEnergy (parametersIn (now (d .entry))) (amountsIn (now (d .entry))) p) ⌝ }
+{
+    arithmetic::greater(short_run_cost(d, index, p), opportunity_cost(d, index))
+}

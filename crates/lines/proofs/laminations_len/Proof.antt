@@ -1,0 +1,86 @@
+-- `report::laminations_len` meets its contract. The loop's invariant: `len` is the length of the lines passed. The measure is how many
+-- laminations are left.
+use mathlib.Core.Path.{_≡_, sym, ap, _∙_}
+use Prim.Native.Nat.{ℕ, _≤_, _-_}
+use native.Mathlib.Omega.{arith}
+use borrow.Author.Needs.{needs}
+use lib.ListN.{length}
+use Rattle.lines.specs.Parts.{laminationLines}
+use Rattle.lines.proofs.Levels.{no-line, next-length, laminations-within, line-fits}
+use Rattle.lines.proofs.laminations_len.Statement.{statement}
+use Rattle.lines.proofs.laminations_len.Tie as tie
+
+abbrev Inv-loop : tie.InvT-loop
+Inv-loop lv count len₀ i₀ len i = (i ≤ lv .count) × (len ≡ length (laminationLines lv i))
+
+abbrev μ-loop : tie.MeasureT-loop
+μ-loop lv count len₀ i₀ len i = lv .count - i
+
+loop-holds : tie.Need-loop-holds Inv-loop μ-loop
+loop-holds c = (omega arith, ap length (sym (no-line (c .args .t1))))
+
+add-energy-line-len : tie.Need-add-energy-line-len Inv-loop μ-loop
+add-energy-line-len c = search needs
+
+mul-energy-line-len : tie.Need-mul-energy-line-len Inv-loop μ-loop
+mul-energy-line-len c = search needs
+
+element-copy-out-energy-line-len : tie.Need-element-copy-out-energy-line-len Inv-loop μ-loop
+element-copy-out-energy-line-len c = search needs
+
+mul-energy-line-len-2 : tie.Need-mul-energy-line-len-2 Inv-loop μ-loop
+mul-energy-line-len-2 c = search needs
+
+element-copy-out-energy-line-len-2 : tie.Need-element-copy-out-energy-line-len-2 Inv-loop μ-loop
+element-copy-out-energy-line-len-2 c = search needs
+
+mul-energy-line-len-3 : tie.Need-mul-energy-line-len-3 Inv-loop μ-loop
+mul-energy-line-len-3 c = search needs
+
+element-copy-out-energy-line-len-3 : tie.Need-element-copy-out-energy-line-len-3 Inv-loop μ-loop
+element-copy-out-energy-line-len-3 c = search needs
+
+energy-line-len-requires : tie.Need-energy-line-len-requires Inv-loop μ-loop
+energy-line-len-requires c κs = search needs
+
+add-len : tie.Need-add-len Inv-loop μ-loop
+add-len c =
+    let l = c .before .before .before .before .before in
+    omega (arith, line-fits (l .before .args .t1) (l .loop .i) (l .before .args .t1 .count) (omega arith), laminations-within (l .before .args .t1) (l .before .args .t1 .count))
+
+add-i : tie.Need-add-i Inv-loop μ-loop
+add-i c = search needs
+
+loop-less : tie.Need-loop-less Inv-loop μ-loop
+loop-less c = search needs
+
+loop-again : tie.Need-loop-again Inv-loop μ-loop
+loop-again c =
+    let l = c .before .before .before .before .before in
+    (omega arith, omega (arith, next-length (l .before .args .t1) (l .loop .i)))
+
+returns : tie.Need-returns Inv-loop μ-loop
+returns c =
+    let z : c .before .loop .i ≡ c .before .before .args .t1 .count = omega arith in
+    c .before .loop .inv .1 ∙ ap (λ (n : ℕ). length (laminationLines (c .before .before .args .t1) n)) z
+
+pub laminations-len-spec : {M : Type 1} → statement M
+laminations-len-spec =
+    tie.close
+    (tie.spec
+    Inv-loop
+    μ-loop
+    loop-holds
+    add-energy-line-len
+    mul-energy-line-len
+    element-copy-out-energy-line-len
+    mul-energy-line-len-2
+    element-copy-out-energy-line-len-2
+    mul-energy-line-len-3
+    element-copy-out-energy-line-len-3
+    energy-line-len-requires
+    add-len
+    add-i
+    loop-less
+    loop-again
+    returns)

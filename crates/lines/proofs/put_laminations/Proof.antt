@@ -1,0 +1,116 @@
+-- `report::put_laminations` meets its contract. The loop's invariant: the lines passed stand at the front of the buffer. The measure is
+-- how many laminations are left.
+use mathlib.Core.Path.{_≡_, refl, sym, ap, subst}
+use Prim.Native.Nat.{ℕ, _+_, _≤_, _-_}
+use native.Mathlib.Omega.{arith}
+use borrow.Author.Needs.{needs}
+use lib.ListN.{length}
+use Rattle.text.proofs.Over.{Wrote}
+use Rattle.reference.specs.declared.HourLevels.{HourLevels}
+use Rattle.lines.specs.Parts.{laminationLines}
+use Rattle.lines.proofs.Levels.{lineAt, no-line, line-fits, turn}
+use Rattle.lines.proofs.put_laminations.Statement.{statement}
+use Rattle.lines.proofs.put_laminations.Tie as tie
+
+abbrev Inv-loop : tie.InvT-loop
+Inv-loop buf₀ lv count at₀ i₀ buf at i = (i ≤ lv .count) × (length buf ≡ length buf₀) × Wrote (laminationLines lv i) buf₀ at buf
+
+abbrev μ-loop : tie.MeasureT-loop
+μ-loop buf₀ lv count at₀ i₀ buf at i = lv .count - i
+
+abbrev lv-of : tie.In-loop Inv-loop μ-loop → HourLevels
+lv-of c = c .before .before .before .args .t2
+
+abbrev i-of : tie.In-loop Inv-loop μ-loop → ℕ
+i-of c = c .before .loop .i
+
+-- the lines before place i and the line there fit
+room : (c : tie.In-loop Inv-loop μ-loop) → length (laminationLines (lv-of c) (i-of c)) + length (lineAt (lv-of c) (i-of c)) ≤ length (c .before .loop .buf)
+room c = omega (arith, line-fits (lv-of c) (i-of c) (lv-of c .count) (omega arith))
+
+loop-holds : tie.Need-loop-holds Inv-loop μ-loop
+loop-holds c =
+    let z = no-line (c .before .args .t2) in (omega arith, refl, (ap length (sym z), rw z))
+
+sub-put-energy-line : tie.Need-sub-put-energy-line Inv-loop μ-loop
+sub-put-energy-line c = omega (arith, room c)
+
+part-put-energy-line-start : tie.Need-part-put-energy-line-start Inv-loop μ-loop
+part-put-energy-line-start c = omega (arith, room c)
+
+part-put-energy-line-end : tie.Need-part-put-energy-line-end Inv-loop μ-loop
+part-put-energy-line-end c = search needs
+
+add-put-energy-line : tie.Need-add-put-energy-line Inv-loop μ-loop
+add-put-energy-line c = search needs
+
+mul-put-energy-line : tie.Need-mul-put-energy-line Inv-loop μ-loop
+mul-put-energy-line c = search needs
+
+element-copy-out-put-energy-line : tie.Need-element-copy-out-put-energy-line Inv-loop μ-loop
+element-copy-out-put-energy-line c = search needs
+
+mul-put-energy-line-2 : tie.Need-mul-put-energy-line-2 Inv-loop μ-loop
+mul-put-energy-line-2 c = search needs
+
+element-copy-out-put-energy-line-2 : tie.Need-element-copy-out-put-energy-line-2 Inv-loop μ-loop
+element-copy-out-put-energy-line-2 c = search needs
+
+mul-put-energy-line-3 : tie.Need-mul-put-energy-line-3 Inv-loop μ-loop
+mul-put-energy-line-3 c = search needs
+
+element-copy-out-put-energy-line-3 : tie.Need-element-copy-out-put-energy-line-3 Inv-loop μ-loop
+element-copy-out-put-energy-line-3 c = search needs
+
+put-energy-line-requires : tie.Need-put-energy-line-requires Inv-loop μ-loop
+put-energy-line-requires c κs = omega (arith, room (c .before .before .before .before))
+
+add-at : tie.Need-add-at Inv-loop μ-loop
+add-at c = omega (arith, room (c .before .before .before .before .before .before .before))
+
+add-i : tie.Need-add-i Inv-loop μ-loop
+add-i c = search needs
+
+loop-less : tie.Need-loop-less Inv-loop μ-loop
+loop-less c = search needs
+
+loop-again : tie.Need-loop-again Inv-loop μ-loop
+loop-again c =
+    let l = c .before .before .before .before .before .before .before .before in
+    let args = l .before .before .args in
+    (omega arith, search needs, turn (args .t2) (l .loop .i) (args .buf .now) (l .loop .inv .2) (c .before .before .put-energy-line .ensures))
+
+same-length : tie.Need-same-length Inv-loop μ-loop
+same-length c = search needs
+
+returns : tie.Need-returns Inv-loop μ-loop
+returns c =
+    let l = c .before .loop in
+    let args = c .before .before .before .args in
+    let z : l .i ≡ args .t2 .count = omega arith in
+    subst (λ (n : ℕ). Wrote (laminationLines (args .t2) n) (args .buf .now) (l .at) (l .buf)) z (l .inv .2)
+
+pub put-laminations-spec : {M : Type 1} → statement M
+put-laminations-spec =
+    tie.close
+    (tie.spec
+    Inv-loop
+    μ-loop
+    loop-holds
+    sub-put-energy-line
+    part-put-energy-line-start
+    part-put-energy-line-end
+    add-put-energy-line
+    mul-put-energy-line
+    element-copy-out-put-energy-line
+    mul-put-energy-line-2
+    element-copy-out-put-energy-line-2
+    mul-put-energy-line-3
+    element-copy-out-put-energy-line-3
+    put-energy-line-requires
+    add-at
+    add-i
+    loop-less
+    loop-again
+    same-length
+    returns)

@@ -1,0 +1,176 @@
+// The report of levels in hand, line by line in a lent buffer. The definitions are in specs/, their laws in proofs/.
+ghost use mathlib.Core.Path.{_≡_};
+ghost use mathlib.Core.List.{_++_};
+ghost use Prim.Native.Nat.{_≤_};
+ghost use lib.ListN.{length};
+ghost use Rattle.text.specs.Text.{over, tenths, space};
+ghost use Rattle.rules.specs.Fit.{holds};
+ghost use Rattle.layout.specs.Report.{profileLine, energyLine, amountLine};
+ghost use Rattle.lines.specs.Parts.{laminationLines, heldLine, otherLines, packedReport};
+use reference::HourLevels;
+use technology::level_held;
+
+// The word and the line end are 9 bytes.
+fn profile_line_len(profile: u64) -> usize
+    ensures { λ r. ⌜ r ≡ length (profileLine profile) ⌝ }
+{
+    text::decimal_len(profile) + 9
+}
+
+fn put_profile_line(buf: &mut [u8], profile: u64) -> usize
+    requires { ⌜ length (profileLine profile) ≤ length (now buf) ⌝ }
+    ensures { λ r. ⌜ (r ≡ length (profileLine profile)) × (now (buf .exit) ≡ over (profileLine profile) (now (buf .entry))) ⌝ }
+{
+    let a = text::put_numbered(buf, b"profile ", profile);
+    a + text::put(&mut buf[a..], b"\n")
+}
+
+// A line with a word and a level.
+fn put_amount_line(buf: &mut [u8], word: &[u8], cents: u64) -> usize
+    requires { ⌜ length (amountLine (now word) cents) ≤ length (now buf) ⌝ }
+    ensures { λ r. ⌜ (r ≡ length (amountLine (now (word .entry)) cents)) × (now (buf .exit) ≡ over (amountLine (now (word .entry)) cents) (now (buf .entry))) ⌝ }
+{
+    let a = text::put(buf, word);
+    let b = a + text::put_hundredths(&mut buf[a..], cents);
+    b + text::put(&mut buf[b..], b"\n")
+}
+
+// An output behind a space.
+fn put_output(buf: &mut [u8], n: u64) -> usize
+    requires { ⌜ length (space ++ tenths n) ≤ length (now buf) ⌝ }
+    ensures { λ r. ⌜ (r ≡ length (space ++ tenths n)) × (now (buf .exit) ≡ over (space ++ tenths n) (now (buf .entry))) ⌝ }
+{
+    let a = text::put(buf, b" ");
+    a + text::put_tenths(&mut buf[a..], n)
+}
+
+// The word, the spaces and the line end are 11 bytes.
+fn energy_line_len(lamination: u64, from: u64, to: u64, cents: u64) -> usize
+    ensures { λ r. ⌜ r ≡ length (energyLine lamination from to cents) ⌝ }
+{
+    text::decimal_len(lamination)
+        + text::tenths_len(from)
+        + text::tenths_len(to)
+        + text::hundredths_len(cents)
+        + 11
+}
+
+fn put_energy_line(buf: &mut [u8], lamination: u64, from: u64, to: u64, cents: u64) -> usize
+    requires { ⌜ length (energyLine lamination from to cents) ≤ length (now buf) ⌝ }
+    ensures { λ r. ⌜ (r ≡ length (energyLine lamination from to cents)) × (now (buf .exit) ≡ over (energyLine lamination from to cents) (now (buf .entry))) ⌝ }
+{
+    let a = text::put_numbered(buf, b"energy ", lamination);
+    let b = a + put_output(&mut buf[a..], from);
+    let c = b + put_output(&mut buf[b..], to);
+    // the level and the line end are a line's with a space for its word
+    c + put_amount_line(&mut buf[c..], b" ", cents)
+}
+
+// All energy lines.
+fn laminations_len(lv: HourLevels) -> usize
+    requires { ⌜ lv .count ≤ 20 ⌝ }
+    ensures { λ r. ⌜ r ≡ length (laminationLines lv (lv .count)) ⌝ }
+{
+    let count = lv.count;
+    let mut len = 0;
+    let mut i = 0;
+    while i < count {
+        len += energy_line_len((i + 1) as u64, lv.from[i], lv.to[i], lv.cents[i]);
+        i += 1;
+    }
+    len
+}
+
+fn put_laminations(buf: &mut [u8], lv: HourLevels) -> usize
+    requires { ⌜ (lv .count ≤ 20) × (length (laminationLines lv (lv .count)) ≤ length (now buf)) ⌝ }
+    ensures { λ r. ⌜ (r ≡ length (laminationLines lv (lv .count))) × (now (buf .exit) ≡ over (laminationLines lv (lv .count)) (now (buf .entry))) ⌝ }
+{
+    let laminations = lv.count;
+    let mut at = 0;
+    let mut i = 0;
+    while i < laminations {
+        at += put_energy_line(
+            &mut buf[at..],
+            (i + 1) as u64,
+            lv.from[i],
+            lv.to[i],
+            lv.cents[i],
+        );
+        i += 1;
+    }
+    at
+}
+
+// The line end is one byte.
+fn amount_line_len(word: &[u8], cents: u64) -> usize
+    requires { ⌜ length (now word) ≤ 8 ⌝ }
+    ensures { λ r. ⌜ r ≡ length (amountLine (now (word .entry)) cents) ⌝ }
+{
+    word.len() + text::hundredths_len(cents) + 1
+}
+
+// A line that is there where the technology holds its level.
+fn held_line_len(technology: u8, level: u8, word: &[u8], cents: u64) -> usize
+    requires { ⌜ length (now word) ≤ 8 ⌝ }
+    ensures { λ r. ⌜ r ≡ length (heldLine (holds technology level) (now (word .entry)) cents) ⌝ }
+{
+    if level_held(technology, level) {
+        amount_line_len(word, cents)
+    } else {
+        0
+    }
+}
+
+fn put_held_line(buf: &mut [u8], technology: u8, level: u8, word: &[u8], cents: u64) -> usize
+    requires { ⌜ length (heldLine (holds technology level) (now word) cents) ≤ length (now buf) ⌝ }
+    ensures { λ r. ⌜ (r ≡ length (heldLine (holds technology level) (now (word .entry)) cents)) × (now (buf .exit) ≡ over (heldLine (holds technology level) (now (word .entry)) cents) (now (buf .entry))) ⌝ }
+{
+    if level_held(technology, level) {
+        put_amount_line(buf, word, cents)
+    } else {
+        0
+    }
+}
+
+// The other lines: start, no-load and reserve, as the technology holds them.
+fn others_len(technology: u8, start: u64, noload: u64, reserve: u64) -> usize
+    ensures { λ r. ⌜ r ≡ length (otherLines technology start noload reserve) ⌝ }
+{
+    let a = held_line_len(technology, 2, b"start ", start);
+    let b = held_line_len(technology, 3, b"no-load ", noload);
+    a + b + held_line_len(technology, 4, b"reserve ", reserve)
+}
+
+fn put_others(buf: &mut [u8], technology: u8, start: u64, noload: u64, reserve: u64) -> usize
+    requires { ⌜ length (otherLines technology start noload reserve) ≤ length (now buf) ⌝ }
+    ensures { λ r. ⌜ (r ≡ length (otherLines technology start noload reserve)) × (now (buf .exit) ≡ over (otherLines technology start noload reserve) (now (buf .entry))) ⌝ }
+{
+    let a = put_held_line(buf, technology, 2, b"start ", start);
+    let b = a + put_held_line(&mut buf[a..], technology, 3, b"no-load ", noload);
+    b + put_held_line(&mut buf[b..], technology, 4, b"reserve ", reserve)
+}
+
+// The whole report.
+pub fn report_len(lv: HourLevels) -> usize
+    requires { ⌜ lv .count ≤ 20 ⌝ }
+    ensures { λ r. ⌜ r ≡ length (packedReport lv) ⌝ }
+{
+    let first = profile_line_len(lv.profile as u64);
+    first + laminations_len(lv) + others_len(lv.technology, lv.start, lv.noload, lv.reserve)
+}
+
+pub fn put_report(buf: &mut [u8], lv: HourLevels) -> usize
+    requires { ⌜ (lv .count ≤ 20) × (length (packedReport lv) ≤ length (now buf)) ⌝ }
+    ensures { λ r. ⌜ (r ≡ length (packedReport lv)) × (now (buf .exit) ≡ over (packedReport lv) (now (buf .entry))) ⌝ }
+{
+    let a = put_profile_line(buf, lv.profile as u64);
+    let b = a + put_laminations(&mut buf[a..], lv);
+    b
+        + put_others(
+            &mut buf[b..],
+            lv.technology,
+            lv.start,
+            lv.noload,
+            lv.reserve,
+        )
+}

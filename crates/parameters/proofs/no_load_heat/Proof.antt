@@ -1,0 +1,24 @@
+use borrow.Author.Needs.{needs}
+use Rattle.records.specs.Table.{table, rowOf, fieldOf, RS}
+use Rattle.station.proofs.Fields.{noLoadHeat-at}
+use Rattle.parameters.proofs.Bounds.{says-read}
+use Rattle.parameters.proofs.no_load_heat.Statement.{statement}
+use Rattle.parameters.proofs.no_load_heat.Tie as tie
+
+rs-requires : tie.Need-rs-requires
+rs-requires c κs = search needs
+
+u32-at-requires : tie.Need-u32-at-requires
+u32-at-requires c κs = search needs
+
+cast-result : tie.Need-cast-result
+cast-result c = search needs
+
+returns : tie.Need-returns
+unfolding fieldOf rowOf table
+returns c =
+    let a = c .before .before .before .before in
+    says-read (a .pre) RS 0 4 15 4 (noLoadHeat-at _) (c .u32-at .ensures) (c .before .rs .ensures)
+
+pub no-load-heat-spec : {M : Type 1} → statement M
+no-load-heat-spec = tie.close (tie.spec rs-requires u32-at-requires cast-result returns)

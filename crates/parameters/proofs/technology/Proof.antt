@@ -1,0 +1,21 @@
+use borrow.Author.Needs.{needs}
+use Rattle.records.specs.Table.{table, rowOf, fieldOf, RS}
+use Rattle.station.proofs.Fields.{technology-at}
+use Rattle.parameters.proofs.Bounds.{says-read}
+use Rattle.parameters.proofs.technology.Statement.{statement}
+use Rattle.parameters.proofs.technology.Tie as tie
+
+rs-requires : tie.Need-rs-requires
+rs-requires c κs = search needs
+
+u8-at-requires : tie.Need-u8-at-requires
+u8-at-requires c κs = search needs
+
+returns : tie.Need-returns
+unfolding fieldOf rowOf table
+returns c =
+    let a = c .before .before .before .before in
+    says-read (a .pre) RS 0 0 6 1 (technology-at _) (c .u8-at .ensures) (c .before .rs .ensures)
+
+pub technology-spec : {M : Type 1} → statement M
+technology-spec = tie.close (tie.spec rs-requires u8-at-requires returns)
