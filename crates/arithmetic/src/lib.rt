@@ -18,7 +18,7 @@ pub fn heat_cost(heat: u64, fuel: u64, emission: u64, factor: u64) -> u64
     requires { ⌜ (heat ≤ 20000000) × (fuel ≤ 400000000) × (emission ≤ 400000000) × (factor ≤ 2000) ⌝ }
     ensures { λ r. ⌜ (r ≡ quotient (heat * fuel * factor) 1000000 + quotient (heat * emission) 1000) × (r ≤ 24000000000000) ⌝ }
 {
-    heat * fuel * factor / 1000000 + heat * emission / 1000
+    share(heat * fuel * factor, 1000000) + share(heat * emission, 1000)
 }
 
 // What a rise of heat costs over a rise of output.

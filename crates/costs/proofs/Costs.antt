@@ -1,36 +1,36 @@
 -- The formulas over numbers that were read are the paper's.
 use mathlib.Core.Path.{_≡_, refl}
-use Prim.Native.Nat.{ℕ, _+_, _*_, _/_}
+use Prim.Native.Nat.{ℕ, _+_, _*_}
 use native.Mathlib.Omega.{arith}
 use Rattle.station.specs.Parameters.{Parameters, Amounts, factor, startHeat, noLoadHeat, incrementalFuel, output, heat, fuel, emission}
 use Rattle.rules.specs.Fit.{energy, start, noLoad}
 use Rattle.rules.specs.Curve.{rise}
-use Rattle.formulas.specs.Exact.{quotient, dropped}
+use Rattle.formulas.specs.Exact.{quotient, microDollars}
 use Rattle.formulas.specs.Levels.{adders, maintenance, startMaintenance, thermalEnergy, heatCost, startCost, noLoadCost, nuclearEnergy, forecastPrice, hydroEnergy}
 
 module _ (s : Parameters) (m : Amounts) (p : ℕ) {f e k : ℕ} (fuel-is : f ≡ fuel m p) (emission-is : e ≡ emission m p) (factor-is : k ≡ factor s) where
-  pub heat-costs : (h : ℕ) {r : ℕ} → r ≡ quotient (h * f * k) 1000000 + quotient (h * e) 1000 → r ≡ dropped (heatCost s m p h)
-  unfolding dropped heatCost
+  pub heat-costs : (h : ℕ) {r : ℕ} → r ≡ quotient (h * f * k) 1000000 + quotient (h * e) 1000 → r ≡ microDollars (heatCost s m p h)
+  unfolding microDollars heatCost
   heat-costs h g = rw (g, fuel-is, emission-is, factor-is) refl
 
   pub thermal-costs : (i : ℕ) {h o r more : ℕ} → h ≡ rise (heat s) i → o ≡ rise (output s) i → r ≡ quotient (h * f * k) (100000 * o) + quotient (h * e) (100 * o)
-      → more ≡ dropped (adders m p 1) + dropped (maintenance s m p) → r + more ≡ dropped (thermalEnergy s m p i)
-  unfolding dropped thermalEnergy
+      → more ≡ microDollars (adders m p 1) + microDollars (maintenance s m p) → r + more ≡ microDollars (thermalEnergy s m p i)
+  unfolding microDollars thermalEnergy
   thermal-costs i a b g t = rw (g, t, a, b, fuel-is, emission-is, factor-is) (omega arith)
 
 module _ (s : Parameters) (m : Amounts) (p : ℕ) where
-  pub start-costs : {h x a t : ℕ} → h ≡ startHeat s → x ≡ dropped (heatCost s m p h) → a ≡ dropped (adders m p start) → t ≡ dropped (startMaintenance s m p) → x + a + t ≡ dropped (startCost s m p)
-  unfolding dropped startCost
+  pub start-costs : {h x a t : ℕ} → h ≡ startHeat s → x ≡ microDollars (heatCost s m p h) → a ≡ microDollars (adders m p start) → t ≡ microDollars (startMaintenance s m p) → x + a + t ≡ microDollars (startCost s m p)
+  unfolding microDollars startCost
   start-costs e f g k = rw (f, g, k, e) refl
 
-  pub noLoad-costs : {h x a : ℕ} → h ≡ noLoadHeat s → x ≡ dropped (heatCost s m p h) → a ≡ dropped (adders m p noLoad) → x + a ≡ dropped (noLoadCost s m p)
-  unfolding dropped noLoadCost
+  pub noLoad-costs : {h x a : ℕ} → h ≡ noLoadHeat s → x ≡ microDollars (heatCost s m p h) → a ≡ microDollars (adders m p noLoad) → x + a ≡ microDollars (noLoadCost s m p)
+  unfolding microDollars noLoadCost
   noLoad-costs e f g = rw (f, g, e) refl
 
-  pub nuclear-costs : {u f k a t : ℕ} → u ≡ incrementalFuel s → f ≡ fuel m p → k ≡ factor s → a ≡ dropped (adders m p energy) → t ≡ dropped (maintenance s m p) → u * f * k / 1000000000 + a + t ≡ dropped (nuclearEnergy s m p)
-  unfolding dropped quotient nuclearEnergy
-  nuclear-costs e f g a t = rw (e, f, g, a, t) refl
+  pub nuclear-costs : {u f k q a t : ℕ} → u ≡ incrementalFuel s → f ≡ fuel m p → k ≡ factor s → q ≡ quotient (u * f * k) 1000000000 → a ≡ microDollars (adders m p energy) → t ≡ microDollars (maintenance s m p) → q + a + t ≡ microDollars (nuclearEnergy s m p)
+  unfolding microDollars nuclearEnergy
+  nuclear-costs e f g q a t = rw (q, e, f, g, a, t) refl
 
-  pub hydro-costs : {x a t : ℕ} → x ≡ forecastPrice s m → a ≡ dropped (adders m p energy) → t ≡ dropped (maintenance s m p) → x * 10000 + a + t ≡ dropped (hydroEnergy s m p)
-  unfolding dropped hydroEnergy
+  pub hydro-costs : {x a t : ℕ} → x ≡ forecastPrice s m → a ≡ microDollars (adders m p energy) → t ≡ microDollars (maintenance s m p) → x * 10000 + a + t ≡ microDollars (hydroEnergy s m p)
+  unfolding microDollars hydroEnergy
   hydro-costs e a t = rw (e, a, t) refl

@@ -3,13 +3,13 @@ ghost use mathlib.Core.Path.{_≡_};
 ghost use Prim.Native.Nat.{_*_, _≤_};
 ghost use Rattle.station.specs.Parameters.{costC, outputW, intervalT, hoursPerStartS};
 ghost use Rattle.lookup.specs.Parts.{Indexed};
-ghost use Rattle.formulas.specs.Exact.{quotient, dropped};
+ghost use Rattle.formulas.specs.Exact.{quotient, microDollars};
 ghost use Rattle.formulas.specs.Levels.{parametersIn, amountsIn, adders, maintenance, startMaintenance};
 
 // The adders of a level.
 pub fn adders(d: &[u8], index: &[u16], p: usize, v: usize) -> u64
     requires { ⌜ Indexed (now d) (now index) × (1 ≤ p) × (p ≤ 4) × (1 ≤ v) × (v ≤ 4) ⌝ }
-    ensures { λ r. ⌜ (r ≡ dropped (adders (amountsIn (now (d .entry))) p v)) × (r ≤ 5000000000000) ⌝ }
+    ensures { λ r. ⌜ (r ≡ microDollars (adders (amountsIn (now (d .entry))) p v)) × (r ≤ 5000000000000) ⌝ }
 {
     let mut sum = 0;
     let mut c = 0;
@@ -47,7 +47,7 @@ fn start_item(d: &[u8], index: &[u16], p: usize, j: usize) -> u64
 // Maintenance in an energy level.
 pub fn maintenance(d: &[u8], index: &[u16], p: usize) -> u64
     requires { ⌜ Indexed (now d) (now index) × (1 ≤ p) × (p ≤ 4) ⌝ }
-    ensures { λ r. ⌜ (r ≡ dropped (maintenance (parametersIn (now (d .entry))) (amountsIn (now (d .entry))) p)) × (r ≤ 80000000000000000) ⌝ }
+    ensures { λ r. ⌜ (r ≡ microDollars (maintenance (parametersIn (now (d .entry))) (amountsIn (now (d .entry))) p)) × (r ≤ 80000000000000000) ⌝ }
 {
     let mut sum = 0;
     let mut j = 0;
@@ -61,7 +61,7 @@ pub fn maintenance(d: &[u8], index: &[u16], p: usize) -> u64
 // Maintenance in a start level.
 pub fn start_maintenance(d: &[u8], index: &[u16], p: usize) -> u64
     requires { ⌜ Indexed (now d) (now index) × (1 ≤ p) × (p ≤ 4) ⌝ }
-    ensures { λ r. ⌜ (r ≡ dropped (startMaintenance (parametersIn (now (d .entry))) (amountsIn (now (d .entry))) p)) × (r ≤ 8000000000000000000) ⌝ }
+    ensures { λ r. ⌜ (r ≡ microDollars (startMaintenance (parametersIn (now (d .entry))) (amountsIn (now (d .entry))) p)) × (r ≤ 8000000000000000000) ⌝ }
 {
     let mut sum = 0;
     let mut j = 0;

@@ -2,7 +2,7 @@
 ghost use mathlib.Core.Path.{_≡_};
 ghost use Prim.Native.Nat.{_≤_};
 ghost use Rattle.lookup.specs.Parts.{Indexed};
-ghost use Rattle.formulas.specs.Exact.{dropped};
+ghost use Rattle.formulas.specs.Exact.{microDollars};
 ghost use Rattle.formulas.specs.Levels.{parametersIn, amountsIn, nuclearEnergy};
 use crate::maintenance::adders;
 use crate::maintenance::maintenance;
@@ -10,10 +10,12 @@ use crate::maintenance::maintenance;
 // The sum of its one lamination.
 pub fn nuclear_energy(d: &[u8], index: &[u16], p: usize) -> u64
     requires { ⌜ Indexed (now d) (now index) × (1 ≤ p) × (p ≤ 4) ⌝ }
-    ensures { λ r. ⌜ r ≡ dropped (nuclearEnergy (parametersIn (now (d .entry))) (amountsIn (now (d .entry))) p) ⌝ }
+    ensures { λ r. ⌜ r ≡ microDollars (nuclearEnergy (parametersIn (now (d .entry))) (amountsIn (now (d .entry))) p) ⌝ }
 {
     let uranium = parameters::incremental_fuel(d, index);
     let fuel = parameters::fuel(d, index, p);
     let factor = parameters::factor(d, index);
-    uranium * fuel * factor / 1000000000 + adders(d, index, p, 1) + maintenance(d, index, p)
+    arithmetic::share(uranium * fuel * factor, 1000000000)
+        + adders(d, index, p, 1)
+        + maintenance(d, index, p)
 }

@@ -6,7 +6,7 @@ ghost use Rattle.station.specs.Parameters.{window, hourPrice, chargePrice, char
 ghost use Rattle.lookup.specs.Parts.{Indexed};
 ghost use Rattle.rules.specs.Curve.{fullHours};
 ghost use Rattle.formulas.specs.Sums.{sumTo, listTo, sumHighest};
-ghost use Rattle.formulas.specs.Exact.{dropped};
+ghost use Rattle.formulas.specs.Exact.{microDollars};
 ghost use Rattle.formulas.specs.Levels.{parametersIn, amountsIn, totalEnergy, chargingCost, shortRunCost, opportunityCost, storageEnergy};
 ghost use Rattle.costs.specs.Intervals.{Summed};
 use crate::maintenance::adders;
@@ -77,7 +77,7 @@ fn intervals(d: &[u8], index: &[u16]) -> Charging
 // The charging cost; where no energy was charged, the last one.
 fn charging_cost(d: &[u8], index: &[u16]) -> u64
     requires { ⌜ Indexed (now d) (now index) ⌝ }
-    ensures { λ r. ⌜ (r ≡ dropped (chargingCost (parametersIn (now (d .entry))) (amountsIn (now (d .entry))))) × (r ≤ 2000000000) ⌝ }
+    ensures { λ r. ⌜ (r ≡ microDollars (chargingCost (parametersIn (now (d .entry))) (amountsIn (now (d .entry))))) × (r ≤ 2000000000) ⌝ }
 {
     let c = intervals(d, index);
     if c.energy == 0 {
@@ -90,7 +90,7 @@ fn charging_cost(d: &[u8], index: &[u16]) -> u64
 // The short-run cost.
 fn short_run_cost(d: &[u8], index: &[u16], p: usize) -> u64
     requires { ⌜ Indexed (now d) (now index) × (1 ≤ p) × (p ≤ 4) ⌝ }
-    ensures { λ r. ⌜ r ≡ dropped (shortRunCost (parametersIn (now (d .entry))) (amountsIn (now (d .entry))) p) ⌝ }
+    ensures { λ r. ⌜ r ≡ microDollars (shortRunCost (parametersIn (now (d .entry))) (amountsIn (now (d .entry))) p) ⌝ }
 {
     let charge = charging_cost(d, index) + parameters::fuel(d, index, p);
     let efficiency = parameters::efficiency(d, index);
@@ -123,9 +123,9 @@ fn highest_sum(d: &[u8], index: &[u16], hours: usize, window: usize) -> u64
 // The opportunity cost.
 fn opportunity_cost(d: &[u8], index: &[u16]) -> u64
     requires { ⌜ Indexed (now d) (now index) × (fullHours (parametersIn (now d)) ≤ window (parametersIn (now d))) × (window (parametersIn (now d)) ≤ 168) ⌝ }
-    ensures { λ r. ⌜ r ≡ dropped (opportunityCost (parametersIn (now (d .entry))) (amountsIn (now (d .entry)))) ⌝ }
+    ensures { λ r. ⌜ r ≡ microDollars (opportunityCost (parametersIn (now (d .entry))) (amountsIn (now (d .entry)))) ⌝ }
 {
-    let hours = arithmetic::share(parameters::charge(d, index), parameters::capacity(d, index));
+    let hours = support::full_hours(d, index) as u64;
     let window = parameters::window(d, index);
     let sum = arithmetic::less(
         highest_sum(d, index, hours as usize, window),
@@ -137,7 +137,7 @@ fn opportunity_cost(d: &[u8], index: &[u16]) -> u64
 // The greater is taken.
 pub fn storage_energy(d: &[u8], index: &[u16], p: usize) -> u64
     requires { ⌜ Indexed (now d) (now index) × (1 ≤ p) × (p ≤ 4) × (fullHours (parametersIn (now d)) ≤ window (parametersIn (now d))) × (window (parametersIn (now d)) ≤ 168) ⌝ }
-    ensures { λ r. ⌜ r ≡ dropped (storageEnergy (parametersIn (now (d .entry))) (amountsIn (now (d .entry))) p) ⌝ }
+    ensures { λ r. ⌜ r ≡ microDollars (storageEnergy (parametersIn (now (d .entry))) (amountsIn (now (d .entry))) p) ⌝ }
 {
     arithmetic::greater(short_run_cost(d, index, p), opportunity_cost(d, index))
 }

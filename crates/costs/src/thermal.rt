@@ -6,7 +6,7 @@ ghost use lib.Dec.{eqb};
 ghost use Rattle.station.specs.Parameters.{output, heat};
 ghost use Rattle.lookup.specs.Parts.{Indexed};
 ghost use Rattle.rules.specs.Curve.{points, rise};
-ghost use Rattle.formulas.specs.Exact.{dropped, cents};
+ghost use Rattle.formulas.specs.Exact.{microDollars, cents};
 ghost use Rattle.formulas.specs.Levels.{parametersIn, amountsIn, adders, maintenance, thermalEnergy, heatCost, startCost, noLoadCost};
 use crate::maintenance::adders;
 use crate::maintenance::maintenance;
@@ -58,8 +58,8 @@ fn output_rise(d: &[u8], index: &[u16], i: usize) -> u64
 
 // The level of lamination i in cents, given its adders and maintenance together.
 pub fn lamination(d: &[u8], index: &[u16], p: usize, i: usize, more: u64) -> u64
-    requires { ⌜ Indexed (now d) (now index) × (1 ≤ p) × (p ≤ 4) × (1 ≤ i) × (i ≤ 20) × (more ≡ dropped (adders (amountsIn (now d)) p 1) + dropped (maintenance (parametersIn (now d)) (amountsIn (now d)) p)) × (more ≤ 80005000000000000) ⌝ }
-    ensures { λ r. ⌜ r ≡ cents (dropped (thermalEnergy (parametersIn (now (d .entry))) (amountsIn (now (d .entry))) p i)) ⌝ }
+    requires { ⌜ Indexed (now d) (now index) × (1 ≤ p) × (p ≤ 4) × (1 ≤ i) × (i ≤ 20) × (more ≡ microDollars (adders (amountsIn (now d)) p 1) + microDollars (maintenance (parametersIn (now d)) (amountsIn (now d)) p)) × (more ≤ 80005000000000000) ⌝ }
+    ensures { λ r. ⌜ r ≡ cents (microDollars (thermalEnergy (parametersIn (now (d .entry))) (amountsIn (now (d .entry))) p i)) ⌝ }
 {
     let heat = heat_rise(d, index, i);
     let output = output_rise(d, index, i);
@@ -73,7 +73,7 @@ pub fn lamination(d: &[u8], index: &[u16], p: usize, i: usize, more: u64) -> u64
 // What a heat costs.
 fn heat_sum(d: &[u8], index: &[u16], p: usize, heat: u64) -> u64
     requires { ⌜ Indexed (now d) (now index) × (1 ≤ p) × (p ≤ 4) × (heat ≤ 20000000) ⌝ }
-    ensures { λ r. ⌜ (r ≡ dropped (heatCost (parametersIn (now (d .entry))) (amountsIn (now (d .entry))) p heat)) × (r ≤ 24000000000000) ⌝ }
+    ensures { λ r. ⌜ (r ≡ microDollars (heatCost (parametersIn (now (d .entry))) (amountsIn (now (d .entry))) p heat)) × (r ≤ 24000000000000) ⌝ }
 {
     let fuel = parameters::fuel(d, index, p);
     let emission = parameters::emission(d, index, p);
@@ -83,7 +83,7 @@ fn heat_sum(d: &[u8], index: &[u16], p: usize, heat: u64) -> u64
 // A start.
 pub fn start_cost(d: &[u8], index: &[u16], p: usize) -> u64
     requires { ⌜ Indexed (now d) (now index) × (1 ≤ p) × (p ≤ 4) ⌝ }
-    ensures { λ r. ⌜ r ≡ dropped (startCost (parametersIn (now (d .entry))) (amountsIn (now (d .entry))) p) ⌝ }
+    ensures { λ r. ⌜ r ≡ microDollars (startCost (parametersIn (now (d .entry))) (amountsIn (now (d .entry))) p) ⌝ }
 {
     heat_sum(d, index, p, parameters::start_heat(d, index))
         + adders(d, index, p, 2)
@@ -93,7 +93,7 @@ pub fn start_cost(d: &[u8], index: &[u16], p: usize) -> u64
 // An hour without load.
 pub fn no_load_cost(d: &[u8], index: &[u16], p: usize) -> u64
     requires { ⌜ Indexed (now d) (now index) × (1 ≤ p) × (p ≤ 4) ⌝ }
-    ensures { λ r. ⌜ r ≡ dropped (noLoadCost (parametersIn (now (d .entry))) (amountsIn (now (d .entry))) p) ⌝ }
+    ensures { λ r. ⌜ r ≡ microDollars (noLoadCost (parametersIn (now (d .entry))) (amountsIn (now (d .entry))) p) ⌝ }
 {
     heat_sum(d, index, p, parameters::no_load_heat(d, index)) + adders(d, index, p, 3)
 }

@@ -9,7 +9,7 @@ use Rattle.records.specs.Table.{RS, HP, FU, AD, MM, RQ, HR, CH, FP, LC}
 use Rattle.station.specs.Parameters.{Parameters, Amounts, adderKey, itemKey}
 use Rattle.rules.specs.Curve.{rise, fullHours}
 use Rattle.formulas.specs.Sums.{sumTo, listTo, insert, falling, sumFirst, sumHighest, fromTop}
-use Rattle.formulas.specs.Exact.{quotient, dropped, cents}
+use Rattle.formulas.specs.Exact.{quotient, microDollars, cents}
 use Rattle.formulas.specs.Levels.{covers, profileOf, profile, adders, maintenance, startMaintenance, thermalEnergy, heatCost, startCost, noLoadCost, nuclearEnergy, totalEnergy, chargingSum, chargingCost, shortRunCost, highestSum, opportunityCost, storageEnergy, forecastPlace, forecastPrice, hydroEnergy}
 
 -- what a field of a current record says
@@ -52,27 +52,27 @@ r1 =
     ∷ []
 
 -- 400,000 MJ over 50.0 MW: fuel 32.00, emission 8.00; consumables 1.50; maintenance 0.80
-r1-energy : dropped (thermalEnergy (asParameters r1) (asAmounts r1) 1 1) ≡ 42300000
-unfolding thermalEnergy adders maintenance rise dropped quotient sumTo find
+r1-energy : microDollars (thermalEnergy (asParameters r1) (asAmounts r1) 1 1) ≡ 42300000
+unfolding thermalEnergy adders maintenance rise microDollars quotient sumTo find
 r1-energy = refl
 
 -- fuel and emission a micro-dollar dearer: no term rounds to cents by itself
-dearer : dropped (thermalEnergy (asParameters r1) (asAmounts (says FU 1 1 4000001 ∷ says FU 1 2 1000001 ∷ r1)) 1 1) ≡ 42300016
-unfolding thermalEnergy adders maintenance rise dropped quotient sumTo find
+dearer : microDollars (thermalEnergy (asParameters r1) (asAmounts (says FU 1 1 4000001 ∷ says FU 1 2 1000001 ∷ r1)) 1 1) ≡ 42300016
+unfolding thermalEnergy adders maintenance rise microDollars quotient sumTo find
 dearer = refl
 
 -- fuel 2,000.00, emission 500.00, maintenance 800.00
-r1-start : dropped (startCost (asParameters r1) (asAmounts r1) 1) ≡ 3300000000
-unfolding startCost heatCost adders startMaintenance dropped quotient sumTo find
+r1-start : microDollars (startCost (asParameters r1) (asAmounts r1) 1) ≡ 3300000000
+unfolding startCost heatCost adders startMaintenance microDollars quotient sumTo find
 r1-start = refl
 
 -- fuel 400.00, emission 100.00
-r1-no-load : dropped (noLoadCost (asParameters r1) (asAmounts r1) 1) ≡ 500000000
-unfolding noLoadCost heatCost adders dropped quotient sumTo find
+r1-no-load : microDollars (noLoadCost (asParameters r1) (asAmounts r1) 1) ≡ 500000000
+unfolding noLoadCost heatCost adders microDollars quotient sumTo find
 r1-no-load = refl
 
-r1-reserve : dropped (adders (asAmounts r1) 1 4) ≡ 250000
-unfolding adders dropped sumTo find
+r1-reserve : microDollars (adders (asAmounts r1) 1 4) ≡ 250000
+unfolding adders microDollars sumTo find
 r1-reserve = refl
 
 -- half a cent goes up (M2)
@@ -84,8 +84,8 @@ half-up = (refl, refl)
 nuclear : List Entry
 nuclear = says RS 0 2 1500 ∷ says RS 0 5 20000 ∷ says FU 1 1 100000000 ∷ says AD (adderKey 1 5 1) 3 250000 ∷ []
 
-nuclear-sum : dropped (nuclearEnergy (asParameters nuclear) (asAmounts nuclear) 1) ≡ 3250000
-unfolding nuclear nuclearEnergy adders maintenance dropped quotient sumTo find
+nuclear-sum : microDollars (nuclearEnergy (asParameters nuclear) (asAmounts nuclear) 1) ≡ 3250000
+unfolding nuclear nuclearEnergy adders maintenance microDollars quotient sumTo find
 nuclear-sum = refl
 
 -- 1,000 kWh at 20.00 and 3,000 at -5.00, fuel 750,000, efficiency 800 (M8); three hours of 205.50, 106.40 and 302.50 (M6)
@@ -97,48 +97,48 @@ storage =
     ∷ says HR 1 1 (price 20550) ∷ says HR 2 1 (price 10640) ∷ says HR 3 1 (price 30250)
     ∷ []
 
-charging : dropped (chargingCost (asParameters storage) (asAmounts storage)) ≡ 1250000
-unfolding storage chargingCost chargingSum totalEnergy dropped quotient sumTo find
+charging : microDollars (chargingCost (asParameters storage) (asAmounts storage)) ≡ 1250000
+unfolding storage chargingCost chargingSum totalEnergy microDollars quotient sumTo find
 charging = refl
 
-short-run : dropped (shortRunCost (asParameters storage) (asAmounts storage) 1) ≡ 2500000
-unfolding storage shortRunCost chargingCost chargingSum totalEnergy adders maintenance dropped quotient sumTo find
+short-run : microDollars (shortRunCost (asParameters storage) (asAmounts storage) 1) ≡ 2500000
+unfolding storage shortRunCost chargingCost chargingSum totalEnergy adders maintenance microDollars quotient sumTo find
 short-run = refl
 
 -- a battery that didn't charge: energies of 0, fuel 750,000, efficiency 800, and an LC of 2.00
 idle : List Entry
 idle = says CH 1 2 0 ∷ says CH 2 2 0 ∷ says LC 0 0 2000000 ∷ storage
 
-idle-charging : dropped (chargingCost (asParameters idle) (asAmounts idle)) ≡ 2000000
-unfolding idle storage chargingCost chargingSum totalEnergy dropped quotient sumTo find
+idle-charging : microDollars (chargingCost (asParameters idle) (asAmounts idle)) ≡ 2000000
+unfolding idle storage chargingCost chargingSum totalEnergy microDollars quotient sumTo find
 idle-charging = refl
 
 -- it joins before fuel is added and the efficiency step: (2,000,000 + 750,000) × 1,000 / 800
-idle-short-run : dropped (shortRunCost (asParameters idle) (asAmounts idle) 1) ≡ 3437500
-unfolding idle storage shortRunCost chargingCost chargingSum totalEnergy adders maintenance dropped quotient sumTo find
+idle-short-run : microDollars (shortRunCost (asParameters idle) (asAmounts idle) 1) ≡ 3437500
+unfolding idle storage shortRunCost chargingCost chargingSum totalEnergy adders maintenance microDollars quotient sumTo find
 idle-short-run = refl
 
 -- without LC the cost stays 0
-idle-without : dropped (chargingCost (asParameters idle) (asAmounts storage)) ≡ 0
-unfolding idle storage chargingCost chargingSum totalEnergy dropped quotient sumTo find
+idle-without : microDollars (chargingCost (asParameters idle) (asAmounts storage)) ≡ 0
+unfolding idle storage chargingCost chargingSum totalEnergy microDollars quotient sumTo find
 idle-without = refl
 
 -- where energy was charged, LC is not used, even where the cost of charging is 0
-charged-with-last : dropped (chargingCost (asParameters storage) (asAmounts (says LC 0 0 2000000 ∷ storage))) ≡ 1250000
-unfolding storage chargingCost chargingSum totalEnergy dropped quotient sumTo find
+charged-with-last : microDollars (chargingCost (asParameters storage) (asAmounts (says LC 0 0 2000000 ∷ storage))) ≡ 1250000
+unfolding storage chargingCost chargingSum totalEnergy microDollars quotient sumTo find
 charged-with-last = refl
 
-charged-for-nothing : dropped (chargingCost (asParameters storage) (asAmounts (says LC 0 0 2000000 ∷ says CH 1 1 (owed 2000) ∷ storage))) ≡ 0
-unfolding storage chargingCost chargingSum totalEnergy dropped quotient sumTo find
+charged-for-nothing : microDollars (chargingCost (asParameters storage) (asAmounts (says LC 0 0 2000000 ∷ says CH 1 1 (owed 2000) ∷ storage))) ≡ 0
+unfolding storage chargingCost chargingSum totalEnergy microDollars quotient sumTo find
 charged-for-nothing = refl
 
-opportunity : dropped (opportunityCost (asParameters storage) (asAmounts storage)) ≡ 204800000
-unfolding storage opportunityCost highestSum fullHours sumHighest sumFirst falling insert listTo dropped quotient find
+opportunity : microDollars (opportunityCost (asParameters storage) (asAmounts storage)) ≡ 204800000
+unfolding storage opportunityCost highestSum fullHours sumHighest sumFirst falling insert listTo microDollars quotient find
 opportunity = refl
 
 -- the greater of the two
-storage-sum : dropped (storageEnergy (asParameters storage) (asAmounts storage) 1) ≡ 204800000
-unfolding storage storageEnergy shortRunCost chargingCost chargingSum totalEnergy adders maintenance opportunityCost highestSum fullHours sumHighest sumFirst falling insert listTo dropped quotient sumTo find
+storage-sum : microDollars (storageEnergy (asParameters storage) (asAmounts storage) 1) ≡ 204800000
+unfolding storage storageEnergy shortRunCost chargingCost chargingSum totalEnergy adders maintenance opportunityCost highestSum fullHours sumHighest sumFirst falling insert listTo microDollars quotient sumTo find
 storage-sum = refl
 
 -- equal prices count each: the two highest of 10.00, 30.00, 30.00 and -5.00
@@ -155,18 +155,18 @@ places = (refl, refl, refl, refl)
 hydro : List Entry
 hydro = says RS 0 8 149 ∷ says FP 3 1 (price 3000) ∷ says FP 7 1 (price 3500) ∷ says FP 9 1 (price 4000) ∷ says AD (adderKey 1 3 1) 3 250000 ∷ []
 
-hydro-sum : dropped (hydroEnergy (asParameters hydro) (asAmounts hydro) 1) ≡ 35250000
-unfolding hydro hydroEnergy forecastPrice forecastPlace fromTop falling insert listTo adders maintenance dropped quotient sumTo find
+hydro-sum : microDollars (hydroEnergy (asParameters hydro) (asAmounts hydro) 1) ≡ 35250000
+unfolding hydro hydroEnergy forecastPrice forecastPlace fromTop falling insert listTo adders maintenance microDollars quotient sumTo find
 hydro-sum = refl
 
 -- place 3 of 40.00 twice and 30.00: each counts
-hydro-equal : dropped (hydroEnergy (asParameters (says RS 0 8 150 ∷ hydro)) (asAmounts (says FP 7 1 (price 4000) ∷ hydro)) 1) ≡ 30250000
-unfolding hydro hydroEnergy forecastPrice forecastPlace fromTop falling insert listTo adders maintenance dropped quotient sumTo find
+hydro-equal : microDollars (hydroEnergy (asParameters (says RS 0 8 150 ∷ hydro)) (asAmounts (says FP 7 1 (price 4000) ∷ hydro)) 1) ≡ 30250000
+unfolding hydro hydroEnergy forecastPrice forecastPlace fromTop falling insert listTo adders maintenance microDollars quotient sumTo find
 hydro-equal = refl
 
 -- a price below 0 counts as 0
-hydro-owed : dropped (hydroEnergy (asParameters hydro) (asAmounts (says FP 3 1 (owed 100) ∷ says FP 7 1 (owed 500) ∷ hydro)) 1) ≡ 250000
-unfolding hydro hydroEnergy forecastPrice forecastPlace fromTop falling insert listTo adders maintenance dropped quotient sumTo find
+hydro-owed : microDollars (hydroEnergy (asParameters hydro) (asAmounts (says FP 3 1 (owed 100) ∷ says FP 7 1 (owed 500) ∷ hydro)) 1) ≡ 250000
+unfolding hydro hydroEnergy forecastPrice forecastPlace fromTop falling insert listTo adders maintenance microDollars quotient sumTo find
 hydro-owed = refl
 
 -- request 2 asks for profile 3 from hour 5 to 9, request 7 for profile 4 from hour 9 to 12, request 9 is withdrawn

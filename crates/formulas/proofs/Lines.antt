@@ -16,7 +16,7 @@ use Rattle.formulas.specs.Sums.{sumTo}
 use Rattle.formulas.specs.Exact.{Sum, whole, share}
 use Rattle.formulas.specs.Levels.{profile, adders, maintenance, startMaintenance, thermalEnergy, heatCost, startCost, noLoadCost, nuclearEnergy, totalEnergy, chargingSum, chargingCost, shortRunCost, highestSum, opportunityCost, storageEnergy, forecastPlace, forecastPrice, hydroEnergy, Line, line, amount, NoLower, CloseLine, laminations, oneLamination, single, linesOf, lines}
 use Rattle.formulas.proofs.Sums.{sumTo-mono, listTo-mono, sumHighest-mono, fromTop-mono}
-use Rattle.formulas.proofs.Exact.{Below, wholes, shares, both, totals, perThousands, greaters, dropped-mono, cents-mono, divisions, Efficient, close}
+use Rattle.formulas.proofs.Exact.{Below, wholes, shares, both, totals, perThousands, greaters, microDollars-mono, cents-mono, divisions, Efficient, close}
 
 -- ---- each formula, part by part
 
@@ -86,7 +86,7 @@ module _ (s : Parameters) {m n : Amounts} (h : Higher m n) (p : ℕ) where
 -- ---- the lines: the same levels, laminations and ends, none lower
 
 upper : (v i a b : ℕ) {x y : Sum} → Below x y → NoLower (line v i a b x) (line v i a b y)
-upper v i a b h = record { level = refl; lamination = refl; from = refl; to = refl; amount = cents-mono (dropped-mono h) }
+upper v i a b h = record { level = refl; lamination = refl; from = refl; to = refl; amount = cents-mono (microDollars-mono h) }
 
 module _ (s : Parameters) {m n : Amounts} (h : Higher m n) (p : ℕ) where
   laminations-upper : (k i : ℕ) {l l′ : List Line} → Pairwise NoLower l l′ → Pairwise NoLower (laminations s m p i k l) (laminations s n p i k l′)

@@ -6,15 +6,15 @@ use lib.Dec.{eqb}
 use borrow.Author.Tests.{eqb-true}
 use Rattle.lists.proofs.Tests.{cond-holds, cond-relates}
 use Rattle.station.specs.Parameters.{lastCost}
-use Rattle.formulas.specs.Exact.{whole, dropped}
+use Rattle.formulas.specs.Exact.{whole, microDollars}
 use Rattle.formulas.specs.Levels.{totalEnergy, chargingCost}
 use Rattle.formulas.proofs.Exact.{quotient-none}
 use Rattle.formulas.specs.Memo.{Week, calculated, lastNonZero, memoCost, costOf, toSend, Sent, first, next}
 
 module _ (w : Week) (before : List Week) (carried : lastCost (w .amounts) ≡ lastNonZero before) where
   pub memo-charging : costOf w ≡ memoCost w before
-  unfolding chargingCost memoCost calculated dropped
-  memo-charging = cond-relates (λ x n. dropped x ≡ n) (eqb (totalEnergy (w .parameters)) 0) (whole (lastCost (w .amounts))) _ _ _ carried refl
+  unfolding chargingCost memoCost calculated microDollars
+  memo-charging = cond-relates (λ x n. microDollars x ≡ n) (eqb (totalEnergy (w .parameters)) 0) (whole (lastCost (w .amounts))) _ _ _ carried refl
 
   nothing-calculated : eqb (totalEnergy (w .parameters)) 0 ≡ true → calculated w ≡ 0
   unfolding calculated

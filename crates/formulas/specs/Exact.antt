@@ -22,13 +22,13 @@ unfoldable pub quotient : ℕ → ℕ → ℕ
 quotient n d = n / d
 
 -- a sum in whole micro-dollars
-unfoldable pub dropped : Sum → ℕ
-dropped (whole n) = n
-dropped (share n d) = quotient n d
-dropped (a ⊕ b) = dropped a + dropped b
-dropped (total n f) = sumTo n (λ k. dropped (f k))
-dropped (perThousand a e) = quotient (dropped a * 1000) e
-dropped (greater a b) = max (dropped a) (dropped b)
+unfoldable pub microDollars : Sum → ℕ
+microDollars (whole n) = n
+microDollars (share n d) = quotient n d
+microDollars (a ⊕ b) = microDollars a + microDollars b
+microDollars (total n f) = sumTo n (λ k. microDollars (f k))
+microDollars (perThousand a e) = quotient (microDollars a * 1000) e
+microDollars (greater a b) = max (microDollars a) (microDollars b)
 
 -- "Each finished sum rounds to cents, half up."
 unfoldable pub cents : ℕ → ℕ

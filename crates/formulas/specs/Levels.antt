@@ -10,7 +10,7 @@ use Rattle.station.specs.Parameters.{Parameters, Amounts, parameters, amounts, 
 use Rattle.rules.specs.Fit.{energy, start, noLoad, reserve}
 use Rattle.rules.specs.Curve.{points, rise, fullHours}
 use Rattle.formulas.specs.Sums.{sumTo, listTo, sumHighest, fromTop}
-use Rattle.formulas.specs.Exact.{Sum, whole, share, _⊕_, total, perThousand, greater, dropped, exact, cents, Close}
+use Rattle.formulas.specs.Exact.{Sum, whole, share, _⊕_, total, perThousand, greater, microDollars, exact, cents, Close}
 
 -- ---- what a dossier's current records say
 
@@ -131,7 +131,7 @@ line v i a b x = record { level = v; lamination = i; from = a; to = b; sum = x }
 
 -- the level itself, in cents
 abbrev pub amount : Line → ℕ
-amount x = cents (dropped (x .sum))
+amount x = cents (microDollars (x .sum))
 
 -- lamination i, points i to i+1; "The first lamination reaches down to 0 MW"
 abbrev pub lamination : Parameters → Amounts → ℕ → ℕ → Line

@@ -5,7 +5,7 @@ use mathlib.Core.List.{List, [], _∷_}
 use Prim.Native.Nat.{ℕ, _*_}
 use lib.Dec.{eqb}
 use Rattle.station.specs.Parameters.{Parameters, Amounts, lastCost}
-use Rattle.formulas.specs.Exact.{quotient, dropped}
+use Rattle.formulas.specs.Exact.{quotient, microDollars}
 use Rattle.formulas.specs.Levels.{totalEnergy, chargingSum, chargingCost}
 
 -- what a battery's current records say in a week
@@ -30,7 +30,7 @@ memoCost w before = cond (eqb (totalEnergy (w .parameters)) 0) (lastNonZero befo
 
 -- the charging cost of a week in whole micro-dollars
 abbrev pub costOf : Week → ℕ
-costOf w = dropped (chargingCost (w .parameters) (w .amounts))
+costOf w = microDollars (chargingCost (w .parameters) (w .amounts))
 
 -- the LC to send after some weeks: the latest one's charging cost, or where that is 0 its LC; none before the first
 unfoldable pub toSend : List Week → ℕ

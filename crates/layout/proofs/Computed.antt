@@ -15,7 +15,7 @@ use Rattle.station.specs.Parameters.{parameters, amounts}
 use Rattle.rules.specs.Answer.{unsupported, answer}
 use Rattle.rules.specs.Curve.{points, rise, curveHolds, curveFits, fuelHolds, fullHours, hoursHold, windowFits, placesHold, forecastFits}
 use Rattle.rules.specs.Fit.{levelsOf, holds, fieldFits, ruleFits, fits, isCurrent, unfit}
-use Rattle.formulas.specs.Exact.{quotient, dropped, cents, plus, sumOver, greaterOf, exact}
+use Rattle.formulas.specs.Exact.{quotient, microDollars, cents, plus, sumOver, greaterOf, exact}
 use Rattle.formulas.specs.Levels.{covers, profileOf, profile, adders, maintenance, startMaintenance, thermalEnergy, heatCost, startCost, noLoadCost, nuclearEnergy, totalEnergy, chargingSum, chargingCost, shortRunCost, highestSum, opportunityCost, storageEnergy, forecastPlace, forecastPrice, hydroEnergy, laminations, oneLamination, single, linesOf, lines, levels}
 use Rattle.formulas.specs.Sums.{sumTo, sumOf, listTo, insert, falling, sumFirst, sumHighest, fromTop}
 use Rattle.verdicts.specs.Refusals.{levelRefusal, conditionRefusal, priceBefore, pairHolds, malformed, aboveCapacity, lengthRefusal, offerRefusal, priceRefusal}
@@ -25,5 +25,5 @@ use Rattle.layout.specs.Report.{profileLine, energyLine, amountLine, lev
 
 -- how many definitions there are to open
 unfoldable pub computed : ℕ
-unfolding joined allBelow allTo countTo every everyOf among between number bytesOnto bytesOf signed biased biasedOf decimalIn decimal tenths hundredths refusalLine orElse refuseIf drawn isAccepted answerNumbers numberOf placeOf firstOf restOf recordsIn records moneyAtIn moneyAt firstDrawn scan limitOf markIn mark issue widths size offsetIn offset keyIn keyWidth keyOf moneyIn moneyByte read value inRange agrees rangesHold fault shape shapes shapeOf keyField keyFits keyTest table rowOf fieldOf matches better currentFrom current startFrom startOf present twin anyTwin twins readable lookup lookupBytes parameters amounts unsupported answer points rise curveHolds curveFits fuelHolds fullHours hoursHold windowFits placesHold forecastFits levelsOf holds fieldFits ruleFits fits isCurrent unfit quotient dropped cents plus sumOver greaterOf exact covers profileOf profile adders maintenance startMaintenance thermalEnergy heatCost startCost noLoadCost nuclearEnergy totalEnergy chargingSum chargingCost shortRunCost highestSum opportunityCost storageEnergy forecastPlace forecastPrice hydroEnergy laminations oneLamination single linesOf lines levels sumTo sumOf listTo insert falling sumFirst sumHighest fromTop levelRefusal conditionRefusal priceBefore pairHolds malformed aboveCapacity lengthRefusal offerRefusal priceRefusal limit fails failsUnder failing quantity priceAt before overlap offerFrom priceTest settle numbers offerVerdict priceVerdict onOffer onPrice profileLine energyLine amountLine levelLine levelLines reportText report shortFor bufferWith written reportAnswer bufferAfter printed prints
+unfolding joined allBelow allTo countTo every everyOf among between number bytesOnto bytesOf signed biased biasedOf decimalIn decimal tenths hundredths refusalLine orElse refuseIf drawn isAccepted answerNumbers numberOf placeOf firstOf restOf recordsIn records moneyAtIn moneyAt firstDrawn scan limitOf markIn mark issue widths size offsetIn offset keyIn keyWidth keyOf moneyIn moneyByte read value inRange agrees rangesHold fault shape shapes shapeOf keyField keyFits keyTest table rowOf fieldOf matches better currentFrom current startFrom startOf present twin anyTwin twins readable lookup lookupBytes parameters amounts unsupported answer points rise curveHolds curveFits fuelHolds fullHours hoursHold windowFits placesHold forecastFits levelsOf holds fieldFits ruleFits fits isCurrent unfit quotient microDollars cents plus sumOver greaterOf exact covers profileOf profile adders maintenance startMaintenance thermalEnergy heatCost startCost noLoadCost nuclearEnergy totalEnergy chargingSum chargingCost shortRunCost highestSum opportunityCost storageEnergy forecastPlace forecastPrice hydroEnergy laminations oneLamination single linesOf lines levels sumTo sumOf listTo insert falling sumFirst sumHighest fromTop levelRefusal conditionRefusal priceBefore pairHolds malformed aboveCapacity lengthRefusal offerRefusal priceRefusal limit fails failsUnder failing quantity priceAt before overlap offerFrom priceTest settle numbers offerVerdict priceVerdict onOffer onPrice profileLine energyLine amountLine levelLine levelLines reportText report shortFor bufferWith written reportAnswer bufferAfter printed prints
 computed = 177

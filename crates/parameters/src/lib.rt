@@ -2,7 +2,7 @@
 // sums in 64 bits rest. The laws are in proofs/.
 ghost use mathlib.Core.Path.{_≡_};
 ghost use Prim.Native.Nat.{_≤_};
-ghost use Rattle.station.specs.Parameters.{technology, capacity, factor, startHeat, noLoadHeat, incrementalFuel, charge, efficiency, window, output, heat, fuel, emission, adder, hourPrice, placePrice, lastCost};
+ghost use Rattle.station.specs.Parameters.{technology, capacity, factor, startHeat, noLoadHeat, incrementalFuel, efficiency, window, output, heat, fuel, emission, adder, hourPrice, placePrice, lastCost};
 ghost use Rattle.lookup.specs.Parts.{Indexed, Complete};
 ghost use Rattle.formulas.specs.Levels.{parametersIn, amountsIn};
 
@@ -46,13 +46,6 @@ pub fn incremental_fuel(d: &[u8], index: &[u16]) -> u64
     ensures { λ r. ⌜ (r ≡ incrementalFuel (parametersIn (now (d .entry)))) × (r ≤ 1000000) ⌝ }
 {
     fields::u32_at(lookup::rs(d, index), 19) as u64
-}
-
-pub fn charge(d: &[u8], index: &[u16]) -> u64
-    requires { ⌜ Indexed (now d) (now index) ⌝ }
-    ensures { λ r. ⌜ (r ≡ charge (parametersIn (now (d .entry)))) × (r ≤ 1000000) ⌝ }
-{
-    fields::u32_at(lookup::rs(d, index), 23) as u64
 }
 
 pub fn efficiency(d: &[u8], index: &[u16]) -> u64

@@ -10,7 +10,7 @@ use Rattle.records.specs.Dossier.{records}
 use Rattle.station.specs.Parameters.{Parameters, Amounts, parameters, amounts, hourPrice}
 use Rattle.rules.specs.Curve.{fullHours}
 use Rattle.rules.specs.Answer.{answer}
-use Rattle.formulas.specs.Exact.{Sum, dropped, cents}
+use Rattle.formulas.specs.Exact.{Sum, microDollars, cents}
 use Rattle.formulas.specs.Levels.{chargingCost, shortRunCost, opportunityCost}
 use Rattle.verdicts.specs.Test.{fails}
 use Rattle.verdicts.specs.Verdict.{numbers, onOffer}
@@ -32,7 +32,7 @@ yes b = cond b 1 0 ∷ []
 
 -- a sum of a station's, in cents
 abbrev pub inCents : (Parameters → Amounts → Sum) → List (List ℕ) → List ℕ
-inCents f l = let r = records (joined l) in cents (dropped (f (parameters r) (amounts r))) ∷ []
+inCents f l = let r = records (joined l) in cents (microDollars (f (parameters r) (amounts r))) ∷ []
 
 -- M1 to M9
 unfoldable pub marked : List Case

@@ -20,7 +20,7 @@ use Rattle.rules.specs.Fit.{energy, start, noLoad, reserve, levelsOf, holds}
 use Rattle.rules.specs.Curve.{points}
 use Rattle.rules.specs.Answer.{answer}
 use Rattle.reference.specs.declared.HourLevels.{HourLevels}
-use Rattle.formulas.specs.Exact.{Sum, dropped, cents}
+use Rattle.formulas.specs.Exact.{Sum, microDollars, cents}
 use Rattle.formulas.specs.Levels.{parametersIn, amountsIn, Line, amount, adders, startCost, noLoadCost, nuclearEnergy, storageEnergy, hydroEnergy, lamination, laminations, oneLamination, single, profile, linesOf, lines, levels, Shown, row, shown}
 use Rattle.reference.specs.Packed.{laminationsFrom, singleOf, unpacked, energyLines, amountOf, padded, hourLevels, packed, noLevels, levelsAnswer}
 
@@ -91,7 +91,7 @@ filled s m t p n a b c =
     (padded 20 (map (λ x. x .from) (laminations s m p 1 n [])))
     (padded 20 (map (λ x. x .to) (laminations s m p 1 n [])))
     (padded 20 (map (λ x. amount x) (laminations s m p 1 n [])))
-    (cents (dropped a)) (cents (dropped b)) (cents (dropped c))
+    (cents (microDollars a)) (cents (microDollars b)) (cents (microDollars c))
 
 packed-laminations : (s : Parameters) (m : Amounts) (t p n : ℕ) (a b c : Sum) → packed t p (laminations s m p 1 n (others a b c)) ≡ filled s m t p n a b c
 unfolding packed energyLines single amountOf
@@ -103,23 +103,23 @@ packed-laminations s m t p n a b c =
 module _ (s : Parameters) (m : Amounts) (p : ℕ) where
   pub thermal-packed : technology s ≡ 1 → {t n x y z : ℕ} {a b c : List ℕ} → t ≡ 1 → n ≡ points s - 1
       → a ≡ padded 20 (map (λ l. l .from) (laminations s m p 1 n [])) → b ≡ padded 20 (map (λ l. l .to) (laminations s m p 1 n [])) → c ≡ padded 20 (map (λ l. amount l) (laminations s m p 1 n []))
-      → x ≡ cents (dropped (startCost s m p)) → y ≡ cents (dropped (noLoadCost s m p)) → z ≡ cents (dropped (adders m p reserve))
+      → x ≡ cents (microDollars (startCost s m p)) → y ≡ cents (microDollars (noLoadCost s m p)) → z ≡ cents (microDollars (adders m p reserve))
       → hourLevels t p n a b c x y z ≡ packed (technology s) p (linesOf s m p)
   unfolding linesOf
   thermal-packed e r n a b c x y z =
       rw (e, r, a, b, c, x, y, z, n) (sym (packed-laminations s m 1 p (points s - 1) (startCost s m p) (noLoadCost s m p) (adders m p reserve)))
 
-  pub nuclear-packed : technology s ≡ 2 → {w x : ℕ} {r : HourLevels} → w ≡ capacity s → x ≡ cents (dropped (nuclearEnergy s m p))
+  pub nuclear-packed : technology s ≡ 2 → {w x : ℕ} {r : HourLevels} → w ≡ capacity s → x ≡ cents (microDollars (nuclearEnergy s m p))
       → r ≡ hourLevels 2 p 1 (padded 20 (0 ∷ [])) (padded 20 (w ∷ [])) (padded 20 (x ∷ [])) 0 0 0 → r ≡ packed (technology s) p (linesOf s m p)
   unfolding linesOf packed energyLines amountOf oneLamination
   nuclear-packed e w x r = rw (r, e, w, x) refl
 
-  pub storage-packed : technology s ≡ 3 → {w x z : ℕ} {r : HourLevels} → w ≡ capacity s → x ≡ cents (dropped (storageEnergy s m p)) → z ≡ cents (dropped (adders m p reserve))
+  pub storage-packed : technology s ≡ 3 → {w x z : ℕ} {r : HourLevels} → w ≡ capacity s → x ≡ cents (microDollars (storageEnergy s m p)) → z ≡ cents (microDollars (adders m p reserve))
       → r ≡ hourLevels 3 p 1 (padded 20 (0 ∷ [])) (padded 20 (w ∷ [])) (padded 20 (x ∷ [])) 0 0 z → r ≡ packed (technology s) p (linesOf s m p)
   unfolding linesOf packed energyLines amountOf oneLamination single
   storage-packed e w x z r = rw (r, e, w, x, z) refl
 
-  pub hydro-packed : technology s ≡ 4 → {w x z : ℕ} {r : HourLevels} → w ≡ capacity s → x ≡ cents (dropped (hydroEnergy s m p)) → z ≡ cents (dropped (adders m p reserve))
+  pub hydro-packed : technology s ≡ 4 → {w x z : ℕ} {r : HourLevels} → w ≡ capacity s → x ≡ cents (microDollars (hydroEnergy s m p)) → z ≡ cents (microDollars (adders m p reserve))
       → r ≡ hourLevels 4 p 1 (padded 20 (0 ∷ [])) (padded 20 (w ∷ [])) (padded 20 (x ∷ [])) 0 0 z → r ≡ packed (technology s) p (linesOf s m p)
   unfolding linesOf packed energyLines amountOf oneLamination single
   hydro-packed e w x z r = rw (r, e, w, x, z) refl

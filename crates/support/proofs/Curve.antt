@@ -3,7 +3,7 @@ use mathlib.Core.Path.{_≡_, refl, ap, sym, subst, _∙_}
 use mathlib.Core.Bool.{Bool, true, false, cond, _&&_, _||_, not, false≢true}
 use mathlib.Core.List.{List, [], _∷_}
 use Prim.Native.Nat.{ℕ, zero, suc, _+_, _*_, _-_, _/_, _≤_, _<_}
-use native.Mathlib.Nat.{le-refl}
+use native.Mathlib.Nat.{le-refl, div-zero}
 use native.Mathlib.Decide.{ℕ-discrete}
 use native.Mathlib.Numerals.{add-one}
 use native.Mathlib.Omega.{arith}
@@ -20,9 +20,9 @@ use Rattle.records.specs.Record.{value, inRange, agrees}
 use Rattle.records.specs.Dossier.{records}
 use Rattle.records.proofs.Dossier.{scan-each}
 use Rattle.station.specs.Current.{current, present}
-use Rattle.station.specs.Parameters.{Parameters, parameters, technology, capacity, charge, window, output, heat, requested}
+use Rattle.station.specs.Parameters.{Parameters, parameters, technology, capacity, window, output, heat, requested}
 use Rattle.station.proofs.Parameters.{says-high}
-use Rattle.station.proofs.Fields.{technology-at, output-at, heat-at, requested-at}
+use Rattle.station.proofs.Fields.{technology-at, capacity-at, charge-at, output-at, heat-at, requested-at}
 use Rattle.index.specs.Slots.{slot, slotsEmpty}
 use Rattle.lookup.specs.Parts.{Indexed}
 use Rattle.lookup.proofs.Parts.{request-key, current-none, fits}
@@ -217,6 +217,20 @@ module _ (l : List (List ℕ)) where
       let m : i ≡ n = omega arith in
       rw (z .legs, z .output-is, e, m) (legs-curve (parameters l) n a refl refl refl)
 
+-- ---- X, of the charge and the capacity that are read of RS
+
+module _ (l : List (List ℕ)) {k : ℕ} {part : List ℕ} (e : part ≡ current RS 0 l) (ek : k ≡ number 7 2 part) where
+  capacity-is : k ≡ capacity (parameters l)
+  capacity-is = ek ∙ ap (number 7 2) e ∙ sym (capacity-at l)
+
+  pub hours-full : {c : ℕ} → c ≡ number 23 4 part → c / k ≡ fullHours (parameters l)
+  unfolding fullHours
+  hours-full f = rw (f ∙ ap (number 23 4) e ∙ sym (charge-at l), capacity-is) refl
+
+  pub hours-none : k ≡ 0 → 0 ≡ fullHours (parameters l)
+  unfolding fullHours
+  hours-none z = rw (sym capacity-is ∙ z, div-zero) refl
+
 -- ---- 7
 
 module _ (s : Parameters) (t : ℕ) (et : t ≡ technology s) where
@@ -238,9 +252,9 @@ module _ (s : Parameters) (t : ℕ) (et : t ≡ technology s) where
   unfolding windowFits
   window-none z = rw (← et, ne-eqb t 3 z) refl
 
-  pub window-whole : t ≡ 3 → {c k x w : ℕ} {b : Bool} → c ≡ charge s → k ≡ capacity s → x ≡ c / k → w ≡ window s → b ≡ allTo w (s .has HR) → ltb 0 x && leb x w && b ≡ windowFits s
-  unfolding windowFits hoursHold fullHours
-  window-whole e ec ek ex ew eb = rw (← et, eq-eqb t 3 e, eb, ex, ew, ec, ek) refl
+  pub window-whole : t ≡ 3 → {x w : ℕ} {b : Bool} → x ≡ fullHours s → w ≡ window s → b ≡ allTo w (s .has HR) → ltb 0 x && leb x w && b ≡ windowFits s
+  unfolding windowFits hoursHold
+  window-whole e ex ew eb = rw (← et, eq-eqb t 3 e, eb, ex, ew) refl
 
   pub forecast-none : (t ≡ 4 → ⊥) → true ≡ forecastFits s
   unfolding forecastFits
@@ -324,10 +338,6 @@ module _ (d ix : List ℕ) (h : Indexed d ix) where
       (rw e at (clean-agrees (scan-each 0 (records d) (h .clean)) RS 0 (station-there 2 e)))
 
   module _ (there : parameters (records d) .has RS 0 ≡ true) where
-    pub capacity-ge : 1 ≤ capacity (parameters (records d))
-    unfolding parameters inRange fieldOf rowOf table
-    capacity-ge = between-low 1 20000 (value RS 1 (current RS 0 (records d))) (clean-range (scan-each 0 (records d) (h .clean)) RS 0 there 1 (lit≤ tt))
-
     pub technology-known : Known (technology (parameters (records d)))
     unfolding parameters inRange fieldOf rowOf table
     technology-known =

@@ -4,12 +4,12 @@ ghost use mathlib.Core.Bool.{true};
 ghost use Prim.Native.Nat.{_*_, _-_, _≤_};
 ghost use lib.ListN.{length};
 ghost use Rattle.lists.specs.Tests.{allTo};
-ghost use Rattle.records.specs.Table.{RS, HR, FP};
+ghost use Rattle.records.specs.Table.{HR, FP};
 ghost use Rattle.records.specs.Dossier.{records};
 ghost use Rattle.station.specs.Parameters.{parameters};
 ghost use Rattle.lookup.specs.Parts.{Indexed, Complete};
 ghost use Rattle.support.specs.Legs.{fuelled};
-ghost use Rattle.rules.specs.Curve.{points, curveHolds, curveFits, fuelHolds, windowFits, forecastFits};
+ghost use Rattle.rules.specs.Curve.{points, curveHolds, curveFits, fuelHolds, fullHours, windowFits, forecastFits};
 ghost use Rattle.rules.specs.Answer.{unsupported};
 use index::slots_empty;
 use lists::choose;
@@ -144,16 +144,29 @@ fn hours_there(d: &[u8], index: &[u16], n: usize) -> bool
     ok
 }
 
+// X: the hours that the charge lasts at capacity, without fraction.
+pub fn full_hours(d: &[u8], index: &[u16]) -> u32
+    requires { ⌜ Indexed (now d) (now index) ⌝ }
+    ensures { λ r. ⌜ r ≡ fullHours (parameters (records (now (d .entry)))) ⌝ }
+{
+    let rs = lookup::rs(d, index);
+    let capacity = fields::u16_at(rs, 7) as u32;
+    if capacity == 0 {
+        return 0;
+    }
+    fields::u32_at(rs, 23) / capacity
+}
+
 // What 9 asks.
 fn window_fits(d: &[u8], index: &[u16]) -> bool
-    requires { ⌜ Indexed (now d) (now index) × (parameters (records (now d)) .has RS 0 ≡ true) ⌝ }
+    requires { ⌜ Indexed (now d) (now index) ⌝ }
     ensures { λ r. ⌜ r ≡ windowFits (parameters (records (now (d .entry)))) ⌝ }
 {
     let rs = lookup::rs(d, index);
     if fields::u8_at(rs, 6) != 3 {
         return true;
     }
-    let hours = fields::u32_at(rs, 23) / (fields::u16_at(rs, 7) as u32);
+    let hours = full_hours(d, index);
     let window = fields::u16_at(rs, 29);
     (0 < hours) & (hours <= (window as u32)) & hours_there(d, index, window as usize)
 }
@@ -187,7 +200,7 @@ fn forecast_fits(d: &[u8], index: &[u16]) -> bool
 
 // 7, 8, 9 and 17.
 pub fn unsupported_of(d: &[u8], index: &[u16]) -> Answer
-    requires { ⌜ Indexed (now d) (now index) × Complete (now d) (now index) × (parameters (records (now d)) .has RS 0 ≡ true) ⌝ }
+    requires { ⌜ Indexed (now d) (now index) × Complete (now d) (now index) ⌝ }
     ensures { λ r. ⌜ r ≡ unsupported (parameters (records (now (d .entry)))) (length (now (d .entry))) ⌝ }
 {
     let place = d.len();

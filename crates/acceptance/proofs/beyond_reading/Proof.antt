@@ -27,7 +27,7 @@ enum-told : tie.Need-enum-told
 enum-told c = search needs
 
 unsupported-of-requires : tie.Need-unsupported-of-requires
-unsupported-of-requires c κs = (c .before .before .before .before .before .before .before .before .pre .0, c .before .before .before .before .before .before .before .before .pre .1, (one-there (records (c .before .before .before .before .before .before .before .before .args .d .now)) RS 0 (c .before .before .before .before .before .rs .ensures) (c .before .before .before .before .if1 .left)))
+unsupported-of-requires c κs = (c .before .before .before .before .before .before .before .before .pre .0, c .before .before .before .before .before .before .before .before .pre .1)
 
 enum-known-number : tie.Need-enum-known-number
 enum-known-number c = search needs

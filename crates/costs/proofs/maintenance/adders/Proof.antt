@@ -5,7 +5,7 @@ use native.Mathlib.Omega.{arith}
 use Rattle.records.specs.Dossier.{records}
 use Rattle.station.specs.Parameters.{amounts, adder}
 use Rattle.formulas.specs.Sums.{sumTo}
-use Rattle.formulas.specs.Exact.{dropped}
+use Rattle.formulas.specs.Exact.{microDollars}
 use Rattle.formulas.specs.Levels.{adders}
 use Rattle.formulas.proofs.Sums.{sum-more, sum-ends}
 use Rattle.costs.proofs.maintenance.adders.Statement.{statement}
@@ -40,7 +40,7 @@ loop-again : tie.Need-loop-again Inv-loop μ-loop
 loop-again c = (omega arith, omega arith, sum-more _ _ _ _ (c .before .before .loop .inv .2) (c .adder .ensures .0))
 
 returns : tie.Need-returns Inv-loop μ-loop
-unfolding dropped adders
+unfolding microDollars adders
 returns c =
     let l = c .before .loop in
     (sum-ends _ (l .c) 5 _ (c .loop-test .left) (l .inv .0) (l .inv .2), omega arith)

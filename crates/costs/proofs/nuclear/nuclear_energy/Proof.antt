@@ -15,31 +15,34 @@ fuel-requires c κs = search needs
 factor-requires : tie.Need-factor-requires
 factor-requires c κs = search needs
 
-mul-result : tie.Need-mul-result
-mul-result c = omega (arith, mul-le-mul (c .before .before .incremental-fuel .ensures .1) (c .before .fuel .ensures .1))
+mul-share : tie.Need-mul-share
+mul-share c = omega (arith, mul-le-mul (c .before .before .incremental-fuel .ensures .1) (c .before .fuel .ensures .1))
 
 product : (c : tie.After-factor) → c .before .before .incremental-fuel .result * c .before .fuel .result * c .factor .result ≤ 1000000 * 400000000 * 2000
 product c = mul-le-mul (mul-le-mul (c .before .before .incremental-fuel .ensures .1) (c .before .fuel .ensures .1)) (c .factor .ensures .1)
 
-mul-result-2 : tie.Need-mul-result-2
-mul-result-2 c = omega (arith, product c)
+mul-share-2 : tie.Need-mul-share-2
+mul-share-2 c = omega (arith, product c)
+
+share-requires : tie.Need-share-requires
+share-requires c κs = search needs
 
 adders-requires : tie.Need-adders-requires
 adders-requires c κs = search needs
 
 add-result : tie.Need-add-result
-add-result c = omega (arith, product (c .before))
+add-result c = omega (arith, c .before .share .ensures .1, product (c .before .before))
 
 maintenance-requires : tie.Need-maintenance-requires
 maintenance-requires c κs = search needs
 
 add-result-2 : tie.Need-add-result-2
-add-result-2 c = omega (arith, product (c .before .before))
+add-result-2 c = omega (arith, c .before .before .share .ensures .1, product (c .before .before .before))
 
 returns : tie.Need-returns
 returns c =
-    let f = c .before .before in
-    nuclear-costs _ _ _ (f .before .before .incremental-fuel .ensures .0) (f .before .fuel .ensures .0) (f .factor .ensures .0) (c .before .adders .ensures .0) (c .maintenance .ensures .0)
+    let f = c .before .before .before in
+    nuclear-costs _ _ _ (f .before .before .incremental-fuel .ensures .0) (f .before .fuel .ensures .0) (f .factor .ensures .0) (c .before .before .share .ensures .0) (c .before .adders .ensures .0) (c .maintenance .ensures .0)
 
 pub nuclear-energy-spec : {M : Type 1} → statement M
 nuclear-energy-spec =
@@ -48,8 +51,9 @@ nuclear-energy-spec =
     incremental-fuel-requires
     fuel-requires
     factor-requires
-    mul-result
-    mul-result-2
+    mul-share
+    mul-share-2
+    share-requires
     adders-requires
     add-result
     maintenance-requires

@@ -3,7 +3,7 @@ use borrow.Author.Tests.{eq-eqb, ne-eqb}
 use mathlib.Core.Path.{ap, ap₂, sym, _∙_}
 use Prim.Native.Nat.{ℕ, _*_, _-_}
 use native.Mathlib.Omega.{arith}
-use Rattle.formulas.specs.Exact.{quotient, dropped}
+use Rattle.formulas.specs.Exact.{quotient, microDollars}
 use Rattle.formulas.specs.Levels.{totalEnergy, chargingSum, chargingCost}
 use Rattle.formulas.proofs.Exact.{quotient-le}
 use Rattle.costs.proofs.storage.charging_cost.Statement.{statement}
@@ -16,7 +16,7 @@ last-cost-requires : tie.Need-last-cost-requires
 last-cost-requires c κs = search needs
 
 returns : tie.Need-returns
-unfolding dropped chargingCost
+unfolding microDollars chargingCost
 returns c =
     let e = c .before .before .before .intervals .ensures in
     (rw (eq-eqb (totalEnergy _) 0 (sym (e .1) ∙ c .before .if1 .taken)) (c .last-cost .ensures .0), c .last-cost .ensures .1)
@@ -34,7 +34,7 @@ share-requires : tie.Need-share-requires
 share-requires c κs = search needs
 
 returns-2 : tie.Need-returns-2
-unfolding dropped chargingCost chargingSum
+unfolding microDollars chargingCost chargingSum
 returns-2 c =
     let c1 = c .before .before .before in
     let e = c1 .before .before .intervals .ensures in

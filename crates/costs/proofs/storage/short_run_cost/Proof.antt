@@ -2,7 +2,7 @@ use borrow.Author.Needs.{needs}
 use mathlib.Core.Path.{ap₂, _∙_}
 use Prim.Native.Nat.{ℕ, _+_, _*_}
 use native.Mathlib.Omega.{arith}
-use Rattle.formulas.specs.Exact.{quotient, dropped}
+use Rattle.formulas.specs.Exact.{quotient, microDollars}
 use Rattle.formulas.specs.Levels.{shortRunCost}
 use Rattle.costs.proofs.storage.short_run_cost.Statement.{statement}
 use Rattle.costs.proofs.storage.short_run_cost.Tie as tie
@@ -38,7 +38,7 @@ add-result-2 : tie.Need-add-result-2
 add-result-2 c = omega arith
 
 returns : tie.Need-returns
-unfolding dropped shortRunCost
+unfolding microDollars shortRunCost
 returns c =
     let b = c .before .before in
     let q = b .share .ensures .0 ∙ ap₂ quotient (ap₂ (λ (x y : ℕ). (x + y) * 1000) (b .before .before .before .charging-cost .ensures .0) (b .before .before .fuel .ensures .0)) (b .before .efficiency .ensures .0) in

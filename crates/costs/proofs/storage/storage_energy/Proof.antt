@@ -1,7 +1,7 @@
 use borrow.Author.Needs.{needs}
 use mathlib.Core.Path.{ap₂, _∙_}
 use Prim.Native.Nat.{ℕ, max}
-use Rattle.formulas.specs.Exact.{dropped}
+use Rattle.formulas.specs.Exact.{microDollars}
 use Rattle.formulas.specs.Levels.{storageEnergy}
 use Rattle.costs.proofs.storage.storage_energy.Statement.{statement}
 use Rattle.costs.proofs.storage.storage_energy.Tie as tie
@@ -16,7 +16,7 @@ greater-requires : tie.Need-greater-requires
 greater-requires c κs = search needs
 
 returns : tie.Need-returns
-unfolding dropped storageEnergy
+unfolding microDollars storageEnergy
 returns c = c .greater .ensures ∙ ap₂ (λ (x y : ℕ). max x y) (c .before .before .short-run-cost .ensures) (c .before .opportunity-cost .ensures)
 
 pub storage-energy-spec : {M : Type 1} → statement M
