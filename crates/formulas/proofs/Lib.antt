@@ -1,5 +1,6 @@
 pub mod Cases
 pub mod Sums
+pub mod Rounding
 pub mod Exact
 pub mod Lines
 pub mod Profile

@@ -8,8 +8,8 @@ use Rattle.lists.proofs.Tests.{cond-holds, cond-relates}
 use Rattle.station.specs.Parameters.{lastCost}
 use Rattle.formulas.specs.Exact.{whole, microDollars}
 use Rattle.formulas.specs.Levels.{totalEnergy, chargingCost}
-use Rattle.formulas.proofs.Exact.{quotient-none}
-use Rattle.formulas.specs.Memo.{Week, calculated, lastNonZero, memoCost, costOf, toSend, Sent, first, next}
+use Rattle.formulas.proofs.Rounding.{quotient-none}
+use Rattle.formulas.specs.Memo.{Week, calculated, lastNonZero, memoCost, costOf, toSend, Sent, next}
 
 module _ (w : Week) (before : List Week) (carried : lastCost (w .amounts) ≡ lastNonZero before) where
   pub memo-charging : costOf w ≡ memoCost w before

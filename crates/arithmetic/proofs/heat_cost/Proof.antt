@@ -3,7 +3,7 @@ use mathlib.Core.Path.{ap₂}
 use Prim.Native.Nat.{ℕ, _+_, _≤_}
 use native.Mathlib.Nat.{mul-le-mul}
 use native.Mathlib.Omega.{arith}
-use Rattle.formulas.proofs.Exact.{quotient-le}
+use Rattle.formulas.proofs.Rounding.{quotient-le}
 use Rattle.arithmetic.proofs.heat_cost.Statement.{statement}
 use Rattle.arithmetic.proofs.heat_cost.Tie as tie
 

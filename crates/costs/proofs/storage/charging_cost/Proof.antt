@@ -5,7 +5,7 @@ use Prim.Native.Nat.{ℕ, _*_, _-_}
 use native.Mathlib.Omega.{arith}
 use Rattle.formulas.specs.Exact.{quotient, microDollars}
 use Rattle.formulas.specs.Levels.{totalEnergy, chargingSum, chargingCost}
-use Rattle.formulas.proofs.Exact.{quotient-le}
+use Rattle.formulas.proofs.Rounding.{quotient-le}
 use Rattle.costs.proofs.storage.charging_cost.Statement.{statement}
 use Rattle.costs.proofs.storage.charging_cost.Tie as tie
 
