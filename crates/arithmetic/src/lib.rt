@@ -1,4 +1,4 @@
-// The paper's formulas over plain numbers; each division drops its fraction.
+// The papers' formulas over plain numbers; each division goes to the nearest, half up.
 pub mod highest;
 
 ghost use mathlib.Core.Path.{_≡_};
@@ -6,11 +6,17 @@ ghost use Prim.Native.Nat.{_+_, _*_, _-_, _≤_, max};
 ghost use Rattle.fields.specs.Numbers.{biased};
 ghost use Rattle.formulas.specs.Exact.{quotient, cents};
 
-// One number over another; 0 where the divisor is 0.
+// One number over another, to the nearest, half up; 0 where the divisor is 0. Twice the number might not fit, so the
+// remainder decides.
 pub fn share(n: u64, by: u64) -> u64
     ensures { λ r. ⌜ (r ≡ quotient n by) × (r ≤ n) ⌝ }
 {
-    if by == 0 { 0 } else { n / by }
+    if by == 0 {
+        return 0;
+    }
+    let whole = n / by;
+    let left = n % by;
+    if by - left <= left { whole + 1 } else { whole }
 }
 
 // What a heat costs, in a start or without load.
@@ -59,16 +65,12 @@ impl Money {
     // Micro-dollars in a cent.
     pub const PER_CENT: u64 = 10000;
 
-    // A finished sum of micro-dollars, rounded to cents, half up. The sum plus half a cent might not fit, so the
-    // remainder decides.
+    // A finished sum of micro-dollars, rounded to cents, half up.
     pub fn from_sum(sum: u64) -> Self
         ensures { λ r. ⌜ r .cents ≡ cents sum ⌝ }
     {
-        let whole = sum / Self::PER_CENT;
-        if sum % Self::PER_CENT < Self::PER_CENT / 2 {
-            Self { cents: whole }
-        } else {
-            Self { cents: whole + 1 }
+        Self {
+            cents: share(sum, Self::PER_CENT),
         }
     }
 }

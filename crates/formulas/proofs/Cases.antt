@@ -1,16 +1,22 @@
 -- Worked values of the formulas, in micro-dollars before they round to cents: the paper's case R1 and its storage cases, a
--- nuclear case, an idle battery, a forecast, and the profile of an hour that two requests cover.
+-- nuclear case, an idle battery, a forecast, terms with a fraction, a level as far from its exact level as one can lie, and the
+-- profile of an hour that two requests cover.
 use mathlib.Core.Path.{_≡_, refl}
 use mathlib.Core.Bool.{cond, _&&_, not}
 use mathlib.Core.List.{List, [], _∷_}
 use Prim.Native.Nat.{ℕ, _+_, _-_}
-use lib.Dec.{eqb}
+use lib.Dec.{eqb, ltb, lit≤, lit<}
 use Rattle.records.specs.Table.{RS, HP, FU, AD, MM, RQ, HR, CH, FP, LC}
 use Rattle.station.specs.Parameters.{Parameters, Amounts, adderKey, itemKey}
 use Rattle.rules.specs.Curve.{rise, fullHours}
 use Rattle.formulas.specs.Sums.{sumTo, listTo, insert, falling, sumFirst, sumHighest, fromTop}
-use Rattle.formulas.specs.Exact.{quotient, microDollars, cents}
+use Rattle.formulas.specs.Exact.{quotient, microDollars, cents, plus, sumOver, greaterOf, exact, Close}
 use Rattle.formulas.specs.Levels.{covers, profileOf, profile, adders, maintenance, startMaintenance, thermalEnergy, heatCost, startCost, noLoadCost, nuclearEnergy, totalEnergy, chargingSum, chargingCost, shortRunCost, highestSum, opportunityCost, storageEnergy, forecastPlace, forecastPrice, hydroEnergy}
+
+-- a half goes up, as of half a cent (M2), less than a half down, and nothing is divided by 0
+pub half-up : (quotient 5 2 ≡ 3) × (quotient 7 5 ≡ 1) × (quotient 8 5 ≡ 2) × (quotient 8 0 ≡ 0) × (cents 42304999 ≡ 4230) × (cents 42305000 ≡ 4231)
+unfolding quotient cents
+half-up = (refl, refl, refl, refl, refl, refl)
 
 -- what a field of a current record says
 record Entry : Type 0 where
@@ -35,11 +41,15 @@ find : List Entry → ℕ → ℕ → ℕ → ℕ
 find [] k n i = 0
 find (x ∷ l) k n i = cond (eqb (x .mark) k && eqb (x .key) n && eqb (x .field) i) (x .value) (find l k n i)
 
+-- the same where no battery charges after the second interval, so that the other 2,014 are soon told
+abbrev told : List Entry → ℕ → ℕ → ℕ → ℕ
+told l k n i = cond (eqb k CH && ltb 2 n) 0 (find l k n i)
+
 abbrev asParameters : List Entry → Parameters
-asParameters l = record { has = λ k n. not (eqb (find l k n 0) 0); says = find l }
+asParameters l = record { has = λ k n. not (eqb (told l k n 0) 0); says = told l }
 
 abbrev asAmounts : List Entry → Amounts
-asAmounts l = record { of = find l }
+asAmounts l = record { of = told l }
 
 -- case R1
 abbrev r1 : List Entry
@@ -53,40 +63,40 @@ r1 =
 
 -- 400,000 MJ over 50.0 MW: fuel 32.00, emission 8.00; consumables 1.50; maintenance 0.80
 r1-energy : microDollars (thermalEnergy (asParameters r1) (asAmounts r1) 1 1) ≡ 42300000
-unfolding thermalEnergy adders maintenance rise microDollars quotient sumTo find
+unfolding thermalEnergy adders maintenance rise quotient microDollars sumTo find
 r1-energy = refl
 
 -- fuel and emission a micro-dollar dearer: no term rounds to cents by itself
 dearer : microDollars (thermalEnergy (asParameters r1) (asAmounts (says FU 1 1 4000001 ∷ says FU 1 2 1000001 ∷ r1)) 1 1) ≡ 42300016
-unfolding thermalEnergy adders maintenance rise microDollars quotient sumTo find
+unfolding thermalEnergy adders maintenance rise quotient microDollars sumTo find
 dearer = refl
 
 -- fuel 2,000.00, emission 500.00, maintenance 800.00
 r1-start : microDollars (startCost (asParameters r1) (asAmounts r1) 1) ≡ 3300000000
-unfolding startCost heatCost adders startMaintenance microDollars quotient sumTo find
+unfolding startCost heatCost adders startMaintenance quotient microDollars sumTo find
 r1-start = refl
 
 -- fuel 400.00, emission 100.00
 r1-no-load : microDollars (noLoadCost (asParameters r1) (asAmounts r1) 1) ≡ 500000000
-unfolding noLoadCost heatCost adders microDollars quotient sumTo find
+unfolding noLoadCost heatCost adders quotient microDollars sumTo find
 r1-no-load = refl
 
 r1-reserve : microDollars (adders (asAmounts r1) 1 4) ≡ 250000
 unfolding adders microDollars sumTo find
 r1-reserve = refl
 
--- half a cent goes up (M2)
-pub half-up : (cents 42304999 ≡ 4230) × (cents 42305000 ≡ 4231)
-unfolding cents
-half-up = (refl, refl)
-
 -- 20,000 mg at 100.00 per kg and factor 1.5: 3.00; prorated start-up 0.25
 nuclear : List Entry
 nuclear = says RS 0 2 1500 ∷ says RS 0 5 20000 ∷ says FU 1 1 100000000 ∷ says AD (adderKey 1 5 1) 3 250000 ∷ []
 
 nuclear-sum : microDollars (nuclearEnergy (asParameters nuclear) (asAmounts nuclear) 1) ≡ 3250000
-unfolding nuclear nuclearEnergy adders maintenance microDollars quotient sumTo find
+unfolding nuclear nuclearEnergy adders maintenance quotient microDollars sumTo find
 nuclear-sum = refl
+
+-- fuel 0.00005 dearer: 3,000,001.5 go up
+nuclear-half : microDollars (nuclearEnergy (asParameters nuclear) (asAmounts (says FU 1 1 100000050 ∷ nuclear)) 1) ≡ 3250002
+unfolding nuclear nuclearEnergy adders maintenance quotient microDollars sumTo find
+nuclear-half = refl
 
 -- 1,000 kWh at 20.00 and 3,000 at -5.00, fuel 750,000, efficiency 800 (M8); three hours of 205.50, 106.40 and 302.50 (M6)
 storage : List Entry
@@ -98,11 +108,11 @@ storage =
     ∷ []
 
 charging : microDollars (chargingCost (asParameters storage) (asAmounts storage)) ≡ 1250000
-unfolding storage chargingCost chargingSum totalEnergy microDollars quotient sumTo find
+unfolding storage chargingCost chargingSum totalEnergy quotient microDollars sumTo find
 charging = refl
 
 short-run : microDollars (shortRunCost (asParameters storage) (asAmounts storage) 1) ≡ 2500000
-unfolding storage shortRunCost chargingCost chargingSum totalEnergy adders maintenance microDollars quotient sumTo find
+unfolding storage shortRunCost chargingCost chargingSum totalEnergy adders maintenance quotient microDollars sumTo find
 short-run = refl
 
 -- a battery that didn't charge: energies of 0, fuel 750,000, efficiency 800, and an LC of 2.00
@@ -110,35 +120,35 @@ idle : List Entry
 idle = says CH 1 2 0 ∷ says CH 2 2 0 ∷ says LC 0 0 2000000 ∷ storage
 
 idle-charging : microDollars (chargingCost (asParameters idle) (asAmounts idle)) ≡ 2000000
-unfolding idle storage chargingCost chargingSum totalEnergy microDollars quotient sumTo find
+unfolding idle storage chargingCost chargingSum totalEnergy quotient microDollars sumTo find
 idle-charging = refl
 
 -- it joins before fuel is added and the efficiency step: (2,000,000 + 750,000) × 1,000 / 800
 idle-short-run : microDollars (shortRunCost (asParameters idle) (asAmounts idle) 1) ≡ 3437500
-unfolding idle storage shortRunCost chargingCost chargingSum totalEnergy adders maintenance microDollars quotient sumTo find
+unfolding idle storage shortRunCost chargingCost chargingSum totalEnergy adders maintenance quotient microDollars sumTo find
 idle-short-run = refl
 
 -- without LC the cost stays 0
 idle-without : microDollars (chargingCost (asParameters idle) (asAmounts storage)) ≡ 0
-unfolding idle storage chargingCost chargingSum totalEnergy microDollars quotient sumTo find
+unfolding idle storage chargingCost chargingSum totalEnergy quotient microDollars sumTo find
 idle-without = refl
 
 -- where energy was charged, LC is not used, even where the cost of charging is 0
 charged-with-last : microDollars (chargingCost (asParameters storage) (asAmounts (says LC 0 0 2000000 ∷ storage))) ≡ 1250000
-unfolding storage chargingCost chargingSum totalEnergy microDollars quotient sumTo find
+unfolding storage chargingCost chargingSum totalEnergy quotient microDollars sumTo find
 charged-with-last = refl
 
 charged-for-nothing : microDollars (chargingCost (asParameters storage) (asAmounts (says LC 0 0 2000000 ∷ says CH 1 1 (owed 2000) ∷ storage))) ≡ 0
-unfolding storage chargingCost chargingSum totalEnergy microDollars quotient sumTo find
+unfolding storage chargingCost chargingSum totalEnergy quotient microDollars sumTo find
 charged-for-nothing = refl
 
 opportunity : microDollars (opportunityCost (asParameters storage) (asAmounts storage)) ≡ 204800000
-unfolding storage opportunityCost highestSum fullHours sumHighest sumFirst falling insert listTo microDollars quotient find
+unfolding storage opportunityCost highestSum fullHours sumHighest sumFirst falling insert listTo quotient microDollars find
 opportunity = refl
 
 -- the greater of the two
 storage-sum : microDollars (storageEnergy (asParameters storage) (asAmounts storage) 1) ≡ 204800000
-unfolding storage storageEnergy shortRunCost chargingCost chargingSum totalEnergy adders maintenance opportunityCost highestSum fullHours sumHighest sumFirst falling insert listTo microDollars quotient sumTo find
+unfolding storage storageEnergy shortRunCost chargingCost chargingSum totalEnergy adders maintenance opportunityCost highestSum fullHours sumHighest sumFirst falling insert listTo quotient microDollars sumTo find
 storage-sum = refl
 
 -- equal prices count each: the two highest of 10.00, 30.00, 30.00 and -5.00
@@ -156,18 +166,91 @@ hydro : List Entry
 hydro = says RS 0 8 149 ∷ says FP 3 1 (price 3000) ∷ says FP 7 1 (price 3500) ∷ says FP 9 1 (price 4000) ∷ says AD (adderKey 1 3 1) 3 250000 ∷ []
 
 hydro-sum : microDollars (hydroEnergy (asParameters hydro) (asAmounts hydro) 1) ≡ 35250000
-unfolding hydro hydroEnergy forecastPrice forecastPlace fromTop falling insert listTo adders maintenance microDollars quotient sumTo find
+unfolding hydro hydroEnergy forecastPrice forecastPlace fromTop falling insert listTo adders maintenance quotient microDollars sumTo find
 hydro-sum = refl
 
 -- place 3 of 40.00 twice and 30.00: each counts
 hydro-equal : microDollars (hydroEnergy (asParameters (says RS 0 8 150 ∷ hydro)) (asAmounts (says FP 7 1 (price 4000) ∷ hydro)) 1) ≡ 30250000
-unfolding hydro hydroEnergy forecastPrice forecastPlace fromTop falling insert listTo adders maintenance microDollars quotient sumTo find
+unfolding hydro hydroEnergy forecastPrice forecastPlace fromTop falling insert listTo adders maintenance quotient microDollars sumTo find
 hydro-equal = refl
 
 -- a price below 0 counts as 0
 hydro-owed : microDollars (hydroEnergy (asParameters hydro) (asAmounts (says FP 3 1 (owed 100) ∷ says FP 7 1 (owed 500) ∷ hydro)) 1) ≡ 250000
-unfolding hydro hydroEnergy forecastPrice forecastPlace fromTop falling insert listTo adders maintenance microDollars quotient sumTo find
+unfolding hydro hydroEnergy forecastPrice forecastPlace fromTop falling insert listTo adders maintenance quotient microDollars sumTo find
 hydro-owed = refl
+
+-- ---- terms with a fraction
+
+-- a unit whose every term is half a micro-dollar: a rise of 1 MJ/h over 0.2 MW, heats of 5 MJ, fuel and emission 100, two items at a cent
+halves : List Entry
+halves =
+    says RS 0 2 1000 ∷ says RS 0 3 5 ∷ says RS 0 4 5 ∷ says HP 2 1 2 ∷ says HP 2 2 1 ∷ says FU 1 1 100 ∷ says FU 1 2 100
+    ∷ says MM (itemKey 1 1) 2 1 ∷ says MM (itemKey 1 1) 3 2 ∷ says MM (itemKey 1 1) 4 100000 ∷ says MM (itemKey 1 1) 5 50
+    ∷ says MM (itemKey 1 2) 2 1 ∷ says MM (itemKey 1 2) 3 2 ∷ says MM (itemKey 1 2) 4 100000 ∷ says MM (itemKey 1 2) 5 50
+    ∷ []
+
+-- fuel, emission and both items go up, each by itself
+halves-energy : microDollars (thermalEnergy (asParameters halves) (asAmounts halves) 1 1) ≡ 4
+unfolding halves thermalEnergy adders maintenance rise quotient microDollars sumTo find
+halves-energy = refl
+
+halves-start : microDollars (startCost (asParameters halves) (asAmounts halves) 1) ≡ 4
+unfolding halves startCost heatCost adders startMaintenance quotient microDollars sumTo find
+halves-start = refl
+
+halves-no-load : microDollars (noLoadCost (asParameters halves) (asAmounts halves) 1) ≡ 2
+unfolding halves noLoadCost heatCost adders quotient microDollars sumTo find
+halves-no-load = refl
+
+-- fuel and emission at 99 are less than a half, and go down
+less-than-halves : microDollars (thermalEnergy (asParameters halves) (asAmounts (says FU 1 1 99 ∷ says FU 1 2 99 ∷ halves)) 1 1) ≡ 2
+unfolding halves thermalEnergy adders maintenance rise quotient microDollars sumTo find
+less-than-halves = refl
+
+-- a battery whose terms have thirds and quarters: 1 kWh at 20.00 and 2 kWh at 20.01; three hours of 315.20, 205.50 and 106.41
+thirds : List Entry
+thirds =
+    says CH 1 1 (price 2000) ∷ says CH 1 2 1 ∷ says CH 2 1 (price 2001) ∷ says CH 2 2 2
+    ∷ says HR 1 1 (price 31520) ∷ says HR 2 1 (price 20550) ∷ says HR 3 1 (price 10641)
+    ∷ storage
+
+-- 60,020,000 / 3 is 20,006,667; (20,006,667 + 750,000) × 1,000 / 800 = 25,945,833.75
+short-run-quarters : microDollars (shortRunCost (asParameters thirds) (asAmounts thirds) 1) ≡ 25945834
+unfolding thirds storage shortRunCost chargingCost chargingSum totalEnergy adders maintenance quotient microDollars sumTo find
+short-run-quarters = refl
+
+-- 627,110,000 / 3
+opportunity-thirds : microDollars (opportunityCost (asParameters thirds) (asAmounts thirds)) ≡ 209036667
+unfolding thirds storage opportunityCost highestSum fullHours sumHighest sumFirst falling insert listTo quotient microDollars find
+opportunity-thirds = refl
+
+-- ---- how far a level may lie from its exact level
+
+-- maintenance of half a micro-dollar
+abbrev halfItem : ℕ → List Entry → List Entry
+halfItem j l = says MM (itemKey 1 j) 2 1 ∷ says MM (itemKey 1 j) 3 2 ∷ says MM (itemKey 1 j) 4 100000 ∷ l
+
+-- a battery with eight such items, a charging cost of half a micro-dollar, fuel 124 and efficiency 501: 5,000 instead of 4,994.503 micro-dollars, which makes a cent
+far : List Entry
+far =
+    halfItem 1 (halfItem 2 (halfItem 3 (halfItem 4 (halfItem 5 (halfItem 6 (halfItem 7 (halfItem 8 (
+    says RS 0 1 800 ∷ says RS 0 6 800 ∷ says RS 0 7 501 ∷ says RS 0 8 1
+    ∷ says FU 1 1 124 ∷ says AD (adderKey 1 3 1) 3 4742
+    ∷ says CH 1 1 (price 1) ∷ says CH 1 2 1 ∷ says CH 2 1 (price 0) ∷ says CH 2 2 19999
+    ∷ says HR 1 1 (price 0)
+    ∷ []
+    ))))))))
+
+far-level : cents (microDollars (storageEnergy (asParameters far) (asAmounts far) 1)) ≡ 1
+unfolding far storageEnergy shortRunCost chargingCost chargingSum totalEnergy adders maintenance opportunityCost highestSum fullHours sumHighest sumFirst falling insert listTo quotient microDollars cents sumTo find
+far-level = refl
+
+-- it lies 0.0050055 dollar above, so that no shorter distance in whole micro-dollars holds
+far-close : Close 1 (exact (storageEnergy (asParameters far) (asAmounts far) 1))
+unfolding far storageEnergy shortRunCost chargingCost chargingSum totalEnergy adders maintenance opportunityCost highestSum fullHours sumHighest sumFirst falling insert listTo plus sumOver greaterOf exact sumTo find
+far-close = record { real = lit< tt; above = lit≤ tt; below = lit≤ tt }
+
+-- ---- the profile
 
 -- request 2 asks for profile 3 from hour 5 to 9, request 7 for profile 4 from hour 9 to 12, request 9 is withdrawn
 requests : List Entry

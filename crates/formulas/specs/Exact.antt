@@ -1,4 +1,4 @@
--- A formula is written once, as a `Sum`, and read twice: with each division's fraction dropped (the level), and exactly
+-- A formula is written once, as a `Sum`, and read twice: with each division to the nearest micro-dollar (the level), and exactly
 -- (the exact level). So "the exact level takes the same formulas" is true because there is one set of formulas.
 use mathlib.Core.Bool.{cond}
 use Prim.Native.Nat.{ℕ, zero, suc, _+_, _*_, _/_, _≤_, _<_, max}
@@ -15,11 +15,11 @@ pub data Sum : Type 0 where
   perThousand : Sum → ℕ → Sum  -- "× 1,000 / efficiency"
   greater : Sum → Sum → Sum  -- "The greater is taken."
 
--- ---- the level: "Each division drops its fraction, in micro-dollars."
+-- ---- the level: "Each division now goes to nearest, half up", in micro-dollars
 
--- one division
+-- one division, n over d
 unfoldable pub quotient : ℕ → ℕ → ℕ
-quotient n d = n / d
+quotient n d = (2 * n + d) / (2 * d)
 
 -- a sum in whole micro-dollars
 unfoldable pub microDollars : Sum → ℕ
@@ -32,7 +32,7 @@ microDollars (greater a b) = max (microDollars a) (microDollars b)
 
 -- "Each finished sum rounds to cents, half up."
 unfoldable pub cents : ℕ → ℕ
-cents s = (s + 5000) / 10000
+cents s = quotient s 10000
 
 -- ---- the exact level: "It is one whole number over another, and distances to it are compared by multiplying across."
 
@@ -67,10 +67,14 @@ exact (total n f) = sumOver n (λ k. exact (f k))
 exact (perThousand a e) = over (exact a .num * 1000) (exact a .den * e)
 exact (greater a b) = greaterOf (exact a) (exact b)
 
--- ---- "at most 0.005 dollar above its exact level and less than 0.005011 dollar below it"
+-- ---- "may then differ by at most 0.005006 dollar on either side"
+
+-- that distance in micro-dollars
+abbrev pub distance : ℕ
+distance = 5006
 
 -- a level in cents beside an exact one in micro-dollars, multiplied across
 pub record Close (level : ℕ) (e : Fraction) : Type 0 where
   pub real : 0 < e .den
-  pub above : level * 10000 * e .den ≤ e .num + 5000 * e .den
-  pub below : e .num < (level * 10000 + 5011) * e .den
+  pub above : level * 10000 * e .den ≤ e .num + distance * e .den
+  pub below : e .num ≤ (level * 10000 + distance) * e .den

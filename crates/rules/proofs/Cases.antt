@@ -1,4 +1,4 @@
--- Worked answers: what a hydroelectric station with a window of 50 and no forecast draws.
+-- Worked answers: X, and what a hydroelectric station with a window of 50 and no forecast draws.
 use mathlib.Core.Path.{_≡_, refl}
 use mathlib.Core.Bool.{Bool, true, false, cond, _&&_}
 use lib.Dec.{eqb}
@@ -7,8 +7,17 @@ use Rattle.records.specs.declared.Answer.the-variants.{Refused}
 use Rattle.records.specs.Table.{RS, FU}
 use Rattle.records.specs.Answers.{orElse, refuseIf}
 use Rattle.station.specs.Parameters.{Parameters}
-use Rattle.rules.specs.Curve.{curveFits, fuelHolds, windowFits, placesHold, forecastFits}
+use Rattle.rules.specs.Curve.{curveFits, fuelHolds, fullHours, windowFits, placesHold, forecastFits}
 use Rattle.rules.specs.Answer.{unsupported}
+
+-- charge 300.0, capacity 80.0 (M5)
+abbrev battery : Parameters
+battery = record { has = λ k n. true; says = λ k n i. cond (eqb i 6) 3000 (cond (eqb i 1) 800 0) }
+
+-- 3.75 hours are 3
+pub three-hours : fullHours battery ≡ 3
+unfolding fullHours
+three-hours = refl
 
 -- with or without fuel
 abbrev river : Bool → Parameters

@@ -13,7 +13,7 @@ use Rattle.records.specs.Record.{inRange}
 use Rattle.records.specs.Answers.{orElse, refuseIf}
 use Rattle.station.specs.Parameters.{Parameters}
 use Rattle.rules.specs.Fit.{energy, holds, levelsOf}
-use Rattle.formulas.specs.Exact.{whole, microDollars, cents}
+use Rattle.formulas.specs.Exact.{whole, quotient, microDollars, cents}
 use Rattle.formulas.specs.Levels.{Line, line}
 use Rattle.verdicts.specs.declared.Verdict.the-variants.{Fails}
 use Rattle.verdicts.specs.Test.{noMargin, limit, fails, failsUnder, failing, quantity, priceAt, before, overlap, offerFrom}
@@ -103,10 +103,10 @@ halfAbove = record { has = λ k n. true; says = λ k n i. cond (eqb i 2) 50 (con
 
 -- 100.0 MW at 16.00: within the limit at its top, above that of the lamination below
 below-its-top : offerFrom halfAbove 1 curve (3 ∷ 232 ∷ 0 ∷ 0 ∷ 6 ∷ 64 ∷ []) 0 1 ≡ Fails 1 1
-unfolding curve halfAbove offerFrom failing failsUnder fails limit overlap quantity priceAt before number biased microDollars cents
+unfolding curve halfAbove offerFrom failing failsUnder fails limit overlap quantity priceAt before number biased quotient microDollars cents
 below-its-top = refl
 
 -- 50.0 MW at 15.00, then to 100.0 MW at 30.01: pair 2 only touches the first lamination
 second-lamination : offerFrom halfAbove 1 curve (1 ∷ 244 ∷ 0 ∷ 0 ∷ 5 ∷ 220 ∷ 3 ∷ 232 ∷ 0 ∷ 0 ∷ 11 ∷ 185 ∷ []) 0 2 ≡ Fails 2 2
-unfolding curve halfAbove offerFrom failing failsUnder fails limit overlap quantity priceAt before number biased microDollars cents
+unfolding curve halfAbove offerFrom failing failsUnder fails limit overlap quantity priceAt before number biased quotient microDollars cents
 second-lamination = refl

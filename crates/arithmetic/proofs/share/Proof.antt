@@ -1,21 +1,41 @@
 use borrow.Author.Needs.{needs}
-use mathlib.Core.Path.{refl}
-use native.Mathlib.Nat.{div-le-self, div-zero}
+use mathlib.Core.Path.{_≡_, sym}
+use Prim.Native.Nat.{_+_, _/_, _<_}
+use native.Mathlib.Nat.{mod-lt, pos-of-ne-zero}
 use native.Mathlib.Omega.{arith}
 use Rattle.formulas.specs.Exact.{quotient}
+use Rattle.formulas.proofs.Rounding.{quotient-none, quotient-self, remainder-up, remainder-down}
 use Rattle.arithmetic.proofs.share.Statement.{statement}
 use Rattle.arithmetic.proofs.share.Tie as tie
 
-div-result : tie.Need-div-result
-div-result c = search needs
-
 returns : tie.Need-returns
-unfolding quotient
-returns c = (rw (c .if1 .taken, div-zero) refl, omega arith)
+returns c = (rw (c .if1 .taken) (sym (quotient-none _)), omega arith)
+
+div-whole : tie.Need-div-whole
+div-whole c = search needs
+
+rem-left : tie.Need-rem-left
+rem-left c = search needs
+
+some : (c : tie.Else1) → 0 < c .before .args .by
+some c = pos-of-ne-zero (c .if1 .left)
+
+sub-if2 : tie.Need-sub-if2
+sub-if2 c = omega (arith, mod-lt (c .before .args .n) (some c))
+
+up : (c : tie.Then2) → c .before .before .args .n / c .before .before .args .by + 1 ≡ quotient (c .before .before .args .n) (c .before .before .args .by)
+up c = remainder-up (c .before .before .args .n) (c .before .before .args .by) (some (c .before)) (omega arith)
+
+add-result : tie.Need-add-result
+add-result c = omega (arith, up c, quotient-self (c .before .before .args .n) (c .before .before .args .by))
 
 returns-2 : tie.Need-returns-2
-unfolding quotient
-returns-2 c = (refl, div-le-self _ _)
+returns-2 c = (up c, omega (arith, up c, quotient-self (c .before .before .args .n) (c .before .before .args .by)))
+
+returns-3 : tie.Need-returns-3
+returns-3 c =
+    let e = remainder-down (c .before .before .args .n) (c .before .before .args .by) (some (c .before)) (omega arith) in
+    (e, omega (arith, e, quotient-self (c .before .before .args .n) (c .before .before .args .by)))
 
 pub share-spec : {M : Type 1} → statement M
-share-spec = tie.close (tie.spec div-result returns returns-2)
+share-spec = tie.close (tie.spec returns div-whole rem-left sub-if2 add-result returns-2 returns-3)
