@@ -3,9 +3,17 @@ use mathlib.Core.Path.{refl}
 use Rattle.layout.proofs.Computed.{computed}
 use Rattle.vectors.specs.Cases as cases
 
-line7 : cases.Line7
+line1 : cases.Line1
 unfolding computed
-line7 = refl
+line1 = refl
+
+line5 : cases.Line5
+unfolding computed
+line5 = refl
+
+line6 : cases.Line6
+unfolding computed
+line6 = refl
 
 line9 : cases.Line9
 unfolding computed
@@ -15,6 +23,18 @@ line10 : cases.Line10
 unfolding computed
 line10 = refl
 
+line11 : cases.Line11
+unfolding computed
+line11 = refl
+
+line13 : cases.Line13
+unfolding computed
+line13 = refl
+
+line19 : cases.Line19
+unfolding computed
+line19 = refl
+
 line20 : cases.Line20
 unfolding computed
 line20 = refl
@@ -23,45 +43,49 @@ line21 : cases.Line21
 unfolding computed
 line21 = refl
 
-line22 : cases.Line22
+line24 : cases.Line24
 unfolding computed
-line22 = refl
-
-line23 : cases.Line23
-unfolding computed
-line23 = refl
+line24 = refl
 
 line28 : cases.Line28
 unfolding computed
 line28 = refl
 
-line31 : cases.Line31
+line37 : cases.Line37
 unfolding computed
-line31 = refl
+line37 = refl
 
-line34 : cases.Line34
+line38 : cases.Line38
 unfolding computed
-line34 = refl
+line38 = refl
+
+line42 : cases.Line42
+unfolding computed
+line42 = refl
+
+line43 : cases.Line43
+unfolding computed
+line43 = refl
 
 line51 : cases.Line51
 unfolding computed
 line51 = refl
 
-line55 : cases.Line55
+line52 : cases.Line52
 unfolding computed
-line55 = refl
-
-line57 : cases.Line57
-unfolding computed
-line57 = refl
+line52 = refl
 
 line58 : cases.Line58
 unfolding computed
 line58 = refl
 
-line59 : cases.Line59
+line61 : cases.Line61
 unfolding computed
-line59 = refl
+line61 = refl
+
+line62 : cases.Line62
+unfolding computed
+line62 = refl
 
 line63 : cases.Line63
 unfolding computed
@@ -75,29 +99,9 @@ line65 : cases.Line65
 unfolding computed
 line65 = refl
 
-line67 : cases.Line67
-unfolding computed
-line67 = refl
-
-line70 : cases.Line70
-unfolding computed
-line70 = refl
-
-line71 : cases.Line71
-unfolding computed
-line71 = refl
-
-line72 : cases.Line72
-unfolding computed
-line72 = refl
-
 line73 : cases.Line73
 unfolding computed
 line73 = refl
-
-line74 : cases.Line74
-unfolding computed
-line74 = refl
 
 line75 : cases.Line75
 unfolding computed
@@ -107,37 +111,45 @@ line76 : cases.Line76
 unfolding computed
 line76 = refl
 
-line78 : cases.Line78
+line77 : cases.Line77
 unfolding computed
-line78 = refl
+line77 = refl
 
-line79 : cases.Line79
+line85 : cases.Line85
 unfolding computed
-line79 = refl
+line85 = refl
 
-line81 : cases.Line81
+line86 : cases.Line86
 unfolding computed
-line81 = refl
+line86 = refl
+
+line87 : cases.Line87
+unfolding computed
+line87 = refl
+
+line88 : cases.Line88
+unfolding computed
+line88 = refl
+
+line89 : cases.Line89
+unfolding computed
+line89 = refl
 
 line90 : cases.Line90
 unfolding computed
 line90 = refl
 
-line94 : cases.Line94
+line91 : cases.Line91
 unfolding computed
-line94 = refl
+line91 = refl
 
-line98 : cases.Line98
+line95 : cases.Line95
 unfolding computed
-line98 = refl
+line95 = refl
 
-line104 : cases.Line104
+line99 : cases.Line99
 unfolding computed
-line104 = refl
-
-line105 : cases.Line105
-unfolding computed
-line105 = refl
+line99 = refl
 
 line106 : cases.Line106
 unfolding computed
@@ -146,10 +158,6 @@ line106 = refl
 line107 : cases.Line107
 unfolding computed
 line107 = refl
-
-line108 : cases.Line108
-unfolding computed
-line108 = refl
 
 line109 : cases.Line109
 unfolding computed
@@ -163,69 +171,85 @@ line113 : cases.Line113
 unfolding computed
 line113 = refl
 
-line119 : cases.Line119
+line121 : cases.Line121
 unfolding computed
-line119 = refl
+line121 = refl
 
 line123 : cases.Line123
 unfolding computed
 line123 = refl
 
-line126 : cases.Line126
+line124 : cases.Line124
 unfolding computed
-line126 = refl
+line124 = refl
 
-line128 : cases.Line128
+line127 : cases.Line127
 unfolding computed
-line128 = refl
-
-line129 : cases.Line129
-unfolding computed
-line129 = refl
+line127 = refl
 
 line131 : cases.Line131
 unfolding computed
 line131 = refl
 
-line138 : cases.Line138
+line134 : cases.Line134
 unfolding computed
-line138 = refl
+line134 = refl
 
-line141 : cases.Line141
+line135 : cases.Line135
 unfolding computed
-line141 = refl
+line135 = refl
+
+line140 : cases.Line140
+unfolding computed
+line140 = refl
 
 line142 : cases.Line142
 unfolding computed
 line142 = refl
 
+line143 : cases.Line143
+unfolding computed
+line143 = refl
+
+line146 : cases.Line146
+unfolding computed
+line146 = refl
+
+line147 : cases.Line147
+unfolding computed
+line147 = refl
+
+line148 : cases.Line148
+unfolding computed
+line148 = refl
+
 line149 : cases.Line149
 unfolding computed
 line149 = refl
 
-line153 : cases.Line153
+line150 : cases.Line150
 unfolding computed
-line153 = refl
+line150 = refl
 
-line157 : cases.Line157
+line156 : cases.Line156
 unfolding computed
-line157 = refl
-
-line160 : cases.Line160
-unfolding computed
-line160 = refl
-
-line161 : cases.Line161
-unfolding computed
-line161 = refl
-
-line162 : cases.Line162
-unfolding computed
-line162 = refl
+line156 = refl
 
 line163 : cases.Line163
 unfolding computed
 line163 = refl
+
+line164 : cases.Line164
+unfolding computed
+line164 = refl
+
+line165 : cases.Line165
+unfolding computed
+line165 = refl
+
+line169 : cases.Line169
+unfolding computed
+line169 = refl
 
 line170 : cases.Line170
 unfolding computed
@@ -235,61 +259,45 @@ line171 : cases.Line171
 unfolding computed
 line171 = refl
 
-line172 : cases.Line172
+line175 : cases.Line175
 unfolding computed
-line172 = refl
+line175 = refl
 
-line173 : cases.Line173
+line178 : cases.Line178
 unfolding computed
-line173 = refl
+line178 = refl
 
-line181 : cases.Line181
+line182 : cases.Line182
 unfolding computed
-line181 = refl
+line182 = refl
 
 line185 : cases.Line185
 unfolding computed
 line185 = refl
 
-line190 : cases.Line190
+line186 : cases.Line186
 unfolding computed
-line190 = refl
+line186 = refl
+
+line187 : cases.Line187
+unfolding computed
+line187 = refl
+
+line191 : cases.Line191
+unfolding computed
+line191 = refl
 
 line192 : cases.Line192
 unfolding computed
 line192 = refl
 
-line193 : cases.Line193
-unfolding computed
-line193 = refl
-
 line194 : cases.Line194
 unfolding computed
 line194 = refl
 
-line201 : cases.Line201
+line212 : cases.Line212
 unfolding computed
-line201 = refl
-
-line207 : cases.Line207
-unfolding computed
-line207 = refl
-
-line208 : cases.Line208
-unfolding computed
-line208 = refl
-
-line209 : cases.Line209
-unfolding computed
-line209 = refl
-
-line211 : cases.Line211
-unfolding computed
-line211 = refl
-
-line214 : cases.Line214
-unfolding computed
-line214 = refl
+line212 = refl
 
 line215 : cases.Line215
 unfolding computed
@@ -299,41 +307,37 @@ line216 : cases.Line216
 unfolding computed
 line216 = refl
 
+line217 : cases.Line217
+unfolding computed
+line217 = refl
+
+line225 : cases.Line225
+unfolding computed
+line225 = refl
+
+line228 : cases.Line228
+unfolding computed
+line228 = refl
+
+line229 : cases.Line229
+unfolding computed
+line229 = refl
+
 line230 : cases.Line230
 unfolding computed
 line230 = refl
 
-line234 : cases.Line234
+line231 : cases.Line231
 unfolding computed
-line234 = refl
+line231 = refl
 
-line241 : cases.Line241
+line239 : cases.Line239
 unfolding computed
-line241 = refl
-
-line242 : cases.Line242
-unfolding computed
-line242 = refl
-
-line245 : cases.Line245
-unfolding computed
-line245 = refl
-
-line248 : cases.Line248
-unfolding computed
-line248 = refl
+line239 = refl
 
 line249 : cases.Line249
 unfolding computed
 line249 = refl
-
-line250 : cases.Line250
-unfolding computed
-line250 = refl
-
-line252 : cases.Line252
-unfolding computed
-line252 = refl
 
 line255 : cases.Line255
 unfolding computed
@@ -347,45 +351,97 @@ line257 : cases.Line257
 unfolding computed
 line257 = refl
 
-line272 : cases.Line272
+line259 : cases.Line259
 unfolding computed
-line272 = refl
+line259 = refl
+
+line263 : cases.Line263
+unfolding computed
+line263 = refl
+
+line266 : cases.Line266
+unfolding computed
+line266 = refl
+
+line267 : cases.Line267
+unfolding computed
+line267 = refl
+
+line268 : cases.Line268
+unfolding computed
+line268 = refl
+
+line270 : cases.Line270
+unfolding computed
+line270 = refl
+
+line274 : cases.Line274
+unfolding computed
+line274 = refl
 
 line275 : cases.Line275
 unfolding computed
 line275 = refl
 
-line276 : cases.Line276
+line283 : cases.Line283
 unfolding computed
-line276 = refl
+line283 = refl
 
-line277 : cases.Line277
+line284 : cases.Line284
 unfolding computed
-line277 = refl
+line284 = refl
 
-line281 : cases.Line281
+line292 : cases.Line292
 unfolding computed
-line281 = refl
+line292 = refl
+
+line293 : cases.Line293
+unfolding computed
+line293 = refl
+
+line294 : cases.Line294
+unfolding computed
+line294 = refl
+
+line299 : cases.Line299
+unfolding computed
+line299 = refl
+
+line303 : cases.Line303
+unfolding computed
+line303 = refl
 
 line304 : cases.Line304
 unfolding computed
 line304 = refl
 
-line308 : cases.Line308
+line305 : cases.Line305
 unfolding computed
-line308 = refl
+line305 = refl
 
-line319 : cases.Line319
+line309 : cases.Line309
 unfolding computed
-line319 = refl
+line309 = refl
 
-line323 : cases.Line323
+line315 : cases.Line315
 unfolding computed
-line323 = refl
+line315 = refl
 
-line324 : cases.Line324
+line316 : cases.Line316
 unfolding computed
-line324 = refl
+line316 = refl
+
+line317 : cases.Line317
+unfolding computed
+line317 = refl
+
+line320 : cases.Line320
+unfolding computed
+line320 = refl
+
+line329 : cases.Line329
+unfolding computed
+line329 = refl
 
 line330 : cases.Line330
 unfolding computed
@@ -395,21 +451,9 @@ line333 : cases.Line333
 unfolding computed
 line333 = refl
 
-line338 : cases.Line338
+line349 : cases.Line349
 unfolding computed
-line338 = refl
-
-line339 : cases.Line339
-unfolding computed
-line339 = refl
-
-line340 : cases.Line340
-unfolding computed
-line340 = refl
-
-line341 : cases.Line341
-unfolding computed
-line341 = refl
+line349 = refl
 
 line350 : cases.Line350
 unfolding computed
@@ -419,65 +463,69 @@ line351 : cases.Line351
 unfolding computed
 line351 = refl
 
-line352 : cases.Line352
+line355 : cases.Line355
 unfolding computed
-line352 = refl
-
-line356 : cases.Line356
-unfolding computed
-line356 = refl
+line355 = refl
 
 line357 : cases.Line357
 unfolding computed
 line357 = refl
 
-line358 : cases.Line358
-unfolding computed
-line358 = refl
-
 line359 : cases.Line359
 unfolding computed
 line359 = refl
-
-line360 : cases.Line360
-unfolding computed
-line360 = refl
-
-line361 : cases.Line361
-unfolding computed
-line361 = refl
-
-line362 : cases.Line362
-unfolding computed
-line362 = refl
 
 line363 : cases.Line363
 unfolding computed
 line363 = refl
 
-line366 : cases.Line366
+line367 : cases.Line367
 unfolding computed
-line366 = refl
+line367 = refl
 
-line373 : cases.Line373
+line368 : cases.Line368
 unfolding computed
-line373 = refl
+line368 = refl
 
-line374 : cases.Line374
+line369 : cases.Line369
 unfolding computed
-line374 = refl
-
-line375 : cases.Line375
-unfolding computed
-line375 = refl
+line369 = refl
 
 line376 : cases.Line376
 unfolding computed
 line376 = refl
 
+line378 : cases.Line378
+unfolding computed
+line378 = refl
+
+line380 : cases.Line380
+unfolding computed
+line380 = refl
+
+line383 : cases.Line383
+unfolding computed
+line383 = refl
+
+line384 : cases.Line384
+unfolding computed
+line384 = refl
+
 line387 : cases.Line387
 unfolding computed
 line387 = refl
+
+line391 : cases.Line391
+unfolding computed
+line391 = refl
+
+line392 : cases.Line392
+unfolding computed
+line392 = refl
+
+line393 : cases.Line393
+unfolding computed
+line393 = refl
 
 line395 : cases.Line395
 unfolding computed
@@ -495,41 +543,109 @@ line403 : cases.Line403
 unfolding computed
 line403 = refl
 
-line405 : cases.Line405
+line404 : cases.Line404
 unfolding computed
-line405 = refl
+line404 = refl
+
+line413 : cases.Line413
+unfolding computed
+line413 = refl
 
 line414 : cases.Line414
 unfolding computed
 line414 = refl
 
+line415 : cases.Line415
+unfolding computed
+line415 = refl
+
 line419 : cases.Line419
 unfolding computed
 line419 = refl
 
-line434 : cases.Line434
+line420 : cases.Line420
 unfolding computed
-line434 = refl
+line420 = refl
+
+line421 : cases.Line421
+unfolding computed
+line421 = refl
+
+line422 : cases.Line422
+unfolding computed
+line422 = refl
+
+line424 : cases.Line424
+unfolding computed
+line424 = refl
+
+line425 : cases.Line425
+unfolding computed
+line425 = refl
+
+line426 : cases.Line426
+unfolding computed
+line426 = refl
+
+line429 : cases.Line429
+unfolding computed
+line429 = refl
+
+line433 : cases.Line433
+unfolding computed
+line433 = refl
+
+line436 : cases.Line436
+unfolding computed
+line436 = refl
+
+line437 : cases.Line437
+unfolding computed
+line437 = refl
 
 line438 : cases.Line438
 unfolding computed
 line438 = refl
 
+line439 : cases.Line439
+unfolding computed
+line439 = refl
+
 line440 : cases.Line440
 unfolding computed
 line440 = refl
 
-line450 : cases.Line450
+line441 : cases.Line441
 unfolding computed
-line450 = refl
+line441 = refl
 
-line451 : cases.Line451
+line442 : cases.Line442
 unfolding computed
-line451 = refl
+line442 = refl
 
-line453 : cases.Line453
+line443 : cases.Line443
 unfolding computed
-line453 = refl
+line443 = refl
+
+line444 : cases.Line444
+unfolding computed
+line444 = refl
+
+line445 : cases.Line445
+unfolding computed
+line445 = refl
+
+line446 : cases.Line446
+unfolding computed
+line446 = refl
+
+line447 : cases.Line447
+unfolding computed
+line447 = refl
+
+line448 : cases.Line448
+unfolding computed
+line448 = refl
 
 line454 : cases.Line454
 unfolding computed
@@ -543,9 +659,21 @@ line456 : cases.Line456
 unfolding computed
 line456 = refl
 
-line457 : cases.Line457
+line467 : cases.Line467
 unfolding computed
-line457 = refl
+line467 = refl
+
+line470 : cases.Line470
+unfolding computed
+line470 = refl
+
+line471 : cases.Line471
+unfolding computed
+line471 = refl
+
+line472 : cases.Line472
+unfolding computed
+line472 = refl
 
 line473 : cases.Line473
 unfolding computed
@@ -555,25 +683,13 @@ line474 : cases.Line474
 unfolding computed
 line474 = refl
 
-line475 : cases.Line475
+line481 : cases.Line481
 unfolding computed
-line475 = refl
+line481 = refl
 
-line476 : cases.Line476
+line484 : cases.Line484
 unfolding computed
-line476 = refl
-
-line477 : cases.Line477
-unfolding computed
-line477 = refl
-
-line486 : cases.Line486
-unfolding computed
-line486 = refl
-
-line487 : cases.Line487
-unfolding computed
-line487 = refl
+line484 = refl
 
 line491 : cases.Line491
 unfolding computed
@@ -591,77 +707,69 @@ line496 : cases.Line496
 unfolding computed
 line496 = refl
 
-line504 : cases.Line504
-unfolding computed
-line504 = refl
-
 line505 : cases.Line505
 unfolding computed
 line505 = refl
 
-line506 : cases.Line506
+line508 : cases.Line508
 unfolding computed
-line506 = refl
+line508 = refl
 
-line507 : cases.Line507
+line509 : cases.Line509
 unfolding computed
-line507 = refl
+line509 = refl
 
-line511 : cases.Line511
+line512 : cases.Line512
 unfolding computed
-line511 = refl
+line512 = refl
 
-line520 : cases.Line520
+line519 : cases.Line519
 unfolding computed
-line520 = refl
+line519 = refl
 
-line521 : cases.Line521
+line523 : cases.Line523
 unfolding computed
-line521 = refl
+line523 = refl
 
-line522 : cases.Line522
+line525 : cases.Line525
 unfolding computed
-line522 = refl
+line525 = refl
 
-line528 : cases.Line528
+line529 : cases.Line529
 unfolding computed
-line528 = refl
-
-line530 : cases.Line530
-unfolding computed
-line530 = refl
-
-line531 : cases.Line531
-unfolding computed
-line531 = refl
+line529 = refl
 
 line532 : cases.Line532
 unfolding computed
 line532 = refl
 
+line533 : cases.Line533
+unfolding computed
+line533 = refl
+
 line534 : cases.Line534
 unfolding computed
 line534 = refl
 
-line537 : cases.Line537
+line538 : cases.Line538
 unfolding computed
-line537 = refl
+line538 = refl
 
-line543 : cases.Line543
+line540 : cases.Line540
 unfolding computed
-line543 = refl
+line540 = refl
 
 line544 : cases.Line544
 unfolding computed
 line544 = refl
 
-line545 : cases.Line545
-unfolding computed
-line545 = refl
-
 line547 : cases.Line547
 unfolding computed
 line547 = refl
+
+line548 : cases.Line548
+unfolding computed
+line548 = refl
 
 line549 : cases.Line549
 unfolding computed
@@ -671,61 +779,41 @@ line550 : cases.Line550
 unfolding computed
 line550 = refl
 
-line551 : cases.Line551
-unfolding computed
-line551 = refl
-
 line552 : cases.Line552
 unfolding computed
 line552 = refl
 
-line553 : cases.Line553
+line565 : cases.Line565
 unfolding computed
-line553 = refl
+line565 = refl
 
-line554 : cases.Line554
+line574 : cases.Line574
 unfolding computed
-line554 = refl
+line574 = refl
 
-line556 : cases.Line556
+line575 : cases.Line575
 unfolding computed
-line556 = refl
+line575 = refl
 
-line563 : cases.Line563
+line578 : cases.Line578
 unfolding computed
-line563 = refl
-
-line564 : cases.Line564
-unfolding computed
-line564 = refl
-
-line576 : cases.Line576
-unfolding computed
-line576 = refl
-
-line579 : cases.Line579
-unfolding computed
-line579 = refl
+line578 = refl
 
 line580 : cases.Line580
 unfolding computed
 line580 = refl
 
-line581 : cases.Line581
+line590 : cases.Line590
 unfolding computed
-line581 = refl
+line590 = refl
 
-line582 : cases.Line582
+line591 : cases.Line591
 unfolding computed
-line582 = refl
+line591 = refl
 
-line584 : cases.Line584
+line593 : cases.Line593
 unfolding computed
-line584 = refl
-
-line588 : cases.Line588
-unfolding computed
-line588 = refl
+line593 = refl
 
 line594 : cases.Line594
 unfolding computed
@@ -735,85 +823,69 @@ line595 : cases.Line595
 unfolding computed
 line595 = refl
 
+line596 : cases.Line596
+unfolding computed
+line596 = refl
+
 line604 : cases.Line604
 unfolding computed
 line604 = refl
-
-line605 : cases.Line605
-unfolding computed
-line605 = refl
-
-line606 : cases.Line606
-unfolding computed
-line606 = refl
-
-line607 : cases.Line607
-unfolding computed
-line607 = refl
-
-line608 : cases.Line608
-unfolding computed
-line608 = refl
-
-line609 : cases.Line609
-unfolding computed
-line609 = refl
-
-line610 : cases.Line610
-unfolding computed
-line610 = refl
 
 line611 : cases.Line611
 unfolding computed
 line611 = refl
 
-line616 : cases.Line616
-unfolding computed
-line616 = refl
-
 line621 : cases.Line621
 unfolding computed
 line621 = refl
+
+line622 : cases.Line622
+unfolding computed
+line622 = refl
 
 line625 : cases.Line625
 unfolding computed
 line625 = refl
 
-line626 : cases.Line626
+line629 : cases.Line629
 unfolding computed
-line626 = refl
+line629 = refl
 
-line630 : cases.Line630
+line631 : cases.Line631
 unfolding computed
-line630 = refl
+line631 = refl
 
-line632 : cases.Line632
+line634 : cases.Line634
 unfolding computed
-line632 = refl
+line634 = refl
 
-line636 : cases.Line636
+line635 : cases.Line635
 unfolding computed
-line636 = refl
+line635 = refl
 
-line639 : cases.Line639
+line642 : cases.Line642
 unfolding computed
-line639 = refl
+line642 = refl
 
-line641 : cases.Line641
+line645 : cases.Line645
 unfolding computed
-line641 = refl
+line645 = refl
 
-line650 : cases.Line650
+line646 : cases.Line646
 unfolding computed
-line650 = refl
+line646 = refl
 
-line656 : cases.Line656
+line647 : cases.Line647
 unfolding computed
-line656 = refl
+line647 = refl
 
-line660 : cases.Line660
+line648 : cases.Line648
 unfolding computed
-line660 = refl
+line648 = refl
+
+line659 : cases.Line659
+unfolding computed
+line659 = refl
 
 line661 : cases.Line661
 unfolding computed
@@ -823,145 +895,101 @@ line662 : cases.Line662
 unfolding computed
 line662 = refl
 
-line671 : cases.Line671
+line665 : cases.Line665
 unfolding computed
-line671 = refl
+line665 = refl
+
+line667 : cases.Line667
+unfolding computed
+line667 = refl
+
+line669 : cases.Line669
+unfolding computed
+line669 = refl
+
+line670 : cases.Line670
+unfolding computed
+line670 = refl
+
+line675 : cases.Line675
+unfolding computed
+line675 = refl
 
 line676 : cases.Line676
 unfolding computed
 line676 = refl
 
+line677 : cases.Line677
+unfolding computed
+line677 = refl
+
 line678 : cases.Line678
 unfolding computed
 line678 = refl
 
-line689 : cases.Line689
+line679 : cases.Line679
 unfolding computed
-line689 = refl
+line679 = refl
+
+line680 : cases.Line680
+unfolding computed
+line680 = refl
+
+line682 : cases.Line682
+unfolding computed
+line682 = refl
+
+line687 : cases.Line687
+unfolding computed
+line687 = refl
 
 line690 : cases.Line690
 unfolding computed
 line690 = refl
 
-line693 : cases.Line693
+line691 : cases.Line691
 unfolding computed
-line693 = refl
+line691 = refl
 
-line694 : cases.Line694
+line692 : cases.Line692
 unfolding computed
-line694 = refl
+line692 = refl
 
-line695 : cases.Line695
+line712 : cases.Line712
 unfolding computed
-line695 = refl
+line712 = refl
 
-line696 : cases.Line696
+line713 : cases.Line713
 unfolding computed
-line696 = refl
+line713 = refl
 
-line697 : cases.Line697
+line717 : cases.Line717
 unfolding computed
-line697 = refl
-
-line698 : cases.Line698
-unfolding computed
-line698 = refl
-
-line699 : cases.Line699
-unfolding computed
-line699 = refl
-
-line700 : cases.Line700
-unfolding computed
-line700 = refl
-
-line702 : cases.Line702
-unfolding computed
-line702 = refl
-
-line704 : cases.Line704
-unfolding computed
-line704 = refl
-
-line705 : cases.Line705
-unfolding computed
-line705 = refl
-
-line708 : cases.Line708
-unfolding computed
-line708 = refl
-
-line709 : cases.Line709
-unfolding computed
-line709 = refl
-
-line710 : cases.Line710
-unfolding computed
-line710 = refl
-
-line711 : cases.Line711
-unfolding computed
-line711 = refl
-
-line715 : cases.Line715
-unfolding computed
-line715 = refl
-
-line718 : cases.Line718
-unfolding computed
-line718 = refl
-
-line719 : cases.Line719
-unfolding computed
-line719 = refl
-
-line720 : cases.Line720
-unfolding computed
-line720 = refl
+line717 = refl
 
 line721 : cases.Line721
 unfolding computed
 line721 = refl
 
-line722 : cases.Line722
-unfolding computed
-line722 = refl
-
-line728 : cases.Line728
-unfolding computed
-line728 = refl
-
 line729 : cases.Line729
 unfolding computed
 line729 = refl
-
-line730 : cases.Line730
-unfolding computed
-line730 = refl
 
 line732 : cases.Line732
 unfolding computed
 line732 = refl
 
+line736 : cases.Line736
+unfolding computed
+line736 = refl
+
 line742 : cases.Line742
 unfolding computed
 line742 = refl
 
-line743 : cases.Line743
-unfolding computed
-line743 = refl
-
-line744 : cases.Line744
-unfolding computed
-line744 = refl
-
 line745 : cases.Line745
 unfolding computed
 line745 = refl
-
-line746 : cases.Line746
-unfolding computed
-line746 = refl
 
 line747 : cases.Line747
 unfolding computed
@@ -971,113 +999,121 @@ line748 : cases.Line748
 unfolding computed
 line748 = refl
 
-line750 : cases.Line750
+line751 : cases.Line751
 unfolding computed
-line750 = refl
+line751 = refl
+
+line752 : cases.Line752
+unfolding computed
+line752 = refl
+
+line753 : cases.Line753
+unfolding computed
+line753 = refl
+
+line754 : cases.Line754
+unfolding computed
+line754 = refl
+
+line758 : cases.Line758
+unfolding computed
+line758 = refl
+
+line759 : cases.Line759
+unfolding computed
+line759 = refl
+
+line760 : cases.Line760
+unfolding computed
+line760 = refl
+
+line761 : cases.Line761
+unfolding computed
+line761 = refl
 
 line762 : cases.Line762
 unfolding computed
 line762 = refl
 
-line763 : cases.Line763
+line769 : cases.Line769
 unfolding computed
-line763 = refl
-
-line764 : cases.Line764
-unfolding computed
-line764 = refl
-
-line765 : cases.Line765
-unfolding computed
-line765 = refl
-
-line767 : cases.Line767
-unfolding computed
-line767 = refl
-
-line768 : cases.Line768
-unfolding computed
-line768 = refl
+line769 = refl
 
 line770 : cases.Line770
 unfolding computed
 line770 = refl
 
-line771 : cases.Line771
-unfolding computed
-line771 = refl
-
-line772 : cases.Line772
-unfolding computed
-line772 = refl
-
 line773 : cases.Line773
 unfolding computed
 line773 = refl
+
+line774 : cases.Line774
+unfolding computed
+line774 = refl
 
 line775 : cases.Line775
 unfolding computed
 line775 = refl
 
+line776 : cases.Line776
+unfolding computed
+line776 = refl
+
+line777 : cases.Line777
+unfolding computed
+line777 = refl
+
 line778 : cases.Line778
 unfolding computed
 line778 = refl
 
-line781 : cases.Line781
+line782 : cases.Line782
 unfolding computed
-line781 = refl
+line782 = refl
 
-line791 : cases.Line791
+line786 : cases.Line786
 unfolding computed
-line791 = refl
-
-line792 : cases.Line792
-unfolding computed
-line792 = refl
+line786 = refl
 
 line793 : cases.Line793
 unfolding computed
 line793 = refl
 
-line795 : cases.Line795
+line796 : cases.Line796
 unfolding computed
-line795 = refl
+line796 = refl
 
 line798 : cases.Line798
 unfolding computed
 line798 = refl
 
-line810 : cases.Line810
+line801 : cases.Line801
 unfolding computed
-line810 = refl
+line801 = refl
+
+line802 : cases.Line802
+unfolding computed
+line802 = refl
+
+line803 : cases.Line803
+unfolding computed
+line803 = refl
+
+line808 : cases.Line808
+unfolding computed
+line808 = refl
+
+line811 : cases.Line811
+unfolding computed
+line811 = refl
 
 line814 : cases.Line814
 unfolding computed
 line814 = refl
 
-line815 : cases.Line815
+line824 : cases.Line824
 unfolding computed
-line815 = refl
-
-line817 : cases.Line817
-unfolding computed
-line817 = refl
-
-line818 : cases.Line818
-unfolding computed
-line818 = refl
-
-line819 : cases.Line819
-unfolding computed
-line819 = refl
-
-line820 : cases.Line820
-unfolding computed
-line820 = refl
-
-line821 : cases.Line821
-unfolding computed
-line821 = refl
+line824 = refl
 
 line825 : cases.Line825
 unfolding computed
@@ -1099,41 +1135,49 @@ line829 : cases.Line829
 unfolding computed
 line829 = refl
 
-line836 : cases.Line836
+line830 : cases.Line830
 unfolding computed
-line836 = refl
+line830 = refl
+
+line831 : cases.Line831
+unfolding computed
+line831 = refl
+
+line832 : cases.Line832
+unfolding computed
+line832 = refl
+
+line833 : cases.Line833
+unfolding computed
+line833 = refl
+
+line842 : cases.Line842
+unfolding computed
+line842 = refl
+
+line843 : cases.Line843
+unfolding computed
+line843 = refl
+
+line844 : cases.Line844
+unfolding computed
+line844 = refl
 
 line846 : cases.Line846
 unfolding computed
 line846 = refl
 
-line847 : cases.Line847
+line849 : cases.Line849
 unfolding computed
-line847 = refl
+line849 = refl
 
-line848 : cases.Line848
+line850 : cases.Line850
 unfolding computed
-line848 = refl
+line850 = refl
 
 line851 : cases.Line851
 unfolding computed
 line851 = refl
-
-line852 : cases.Line852
-unfolding computed
-line852 = refl
-
-line853 : cases.Line853
-unfolding computed
-line853 = refl
-
-line854 : cases.Line854
-unfolding computed
-line854 = refl
-
-line856 : cases.Line856
-unfolding computed
-line856 = refl
 
 line862 : cases.Line862
 unfolding computed
@@ -1155,21 +1199,29 @@ line868 : cases.Line868
 unfolding computed
 line868 = refl
 
-line869 : cases.Line869
+line870 : cases.Line870
 unfolding computed
-line869 = refl
+line870 = refl
 
 line872 : cases.Line872
 unfolding computed
 line872 = refl
 
-line875 : cases.Line875
+line873 : cases.Line873
 unfolding computed
-line875 = refl
+line873 = refl
 
-line881 : cases.Line881
+line874 : cases.Line874
 unfolding computed
-line881 = refl
+line874 = refl
+
+line879 : cases.Line879
+unfolding computed
+line879 = refl
+
+line880 : cases.Line880
+unfolding computed
+line880 = refl
 
 line882 : cases.Line882
 unfolding computed
@@ -1195,41 +1247,21 @@ line887 : cases.Line887
 unfolding computed
 line887 = refl
 
-line900 : cases.Line900
+line888 : cases.Line888
 unfolding computed
-line900 = refl
+line888 = refl
 
-line901 : cases.Line901
+line896 : cases.Line896
 unfolding computed
-line901 = refl
-
-line905 : cases.Line905
-unfolding computed
-line905 = refl
+line896 = refl
 
 line911 : cases.Line911
 unfolding computed
 line911 = refl
 
-line912 : cases.Line912
-unfolding computed
-line912 = refl
-
 line913 : cases.Line913
 unfolding computed
 line913 = refl
-
-line915 : cases.Line915
-unfolding computed
-line915 = refl
-
-line918 : cases.Line918
-unfolding computed
-line918 = refl
-
-line919 : cases.Line919
-unfolding computed
-line919 = refl
 
 line920 : cases.Line920
 unfolding computed
@@ -1239,97 +1271,109 @@ line921 : cases.Line921
 unfolding computed
 line921 = refl
 
-line923 : cases.Line923
+line922 : cases.Line922
 unfolding computed
-line923 = refl
-
-line924 : cases.Line924
-unfolding computed
-line924 = refl
-
-line925 : cases.Line925
-unfolding computed
-line925 = refl
+line922 = refl
 
 line929 : cases.Line929
 unfolding computed
 line929 = refl
 
-line932 : cases.Line932
+line930 : cases.Line930
 unfolding computed
-line932 = refl
+line930 = refl
 
-line934 : cases.Line934
+line931 : cases.Line931
 unfolding computed
-line934 = refl
+line931 = refl
 
-line935 : cases.Line935
+line939 : cases.Line939
 unfolding computed
-line935 = refl
+line939 = refl
 
-line937 : cases.Line937
+line943 : cases.Line943
 unfolding computed
-line937 = refl
-
-line947 : cases.Line947
-unfolding computed
-line947 = refl
+line943 = refl
 
 line956 : cases.Line956
 unfolding computed
 line956 = refl
 
-line958 : cases.Line958
+line960 : cases.Line960
 unfolding computed
-line958 = refl
+line960 = refl
 
-line959 : cases.Line959
+line964 : cases.Line964
 unfolding computed
-line959 = refl
+line964 = refl
 
 line967 : cases.Line967
 unfolding computed
 line967 = refl
 
+line969 : cases.Line969
+unfolding computed
+line969 = refl
+
 line970 : cases.Line970
 unfolding computed
 line970 = refl
 
-line971 : cases.Line971
+line974 : cases.Line974
 unfolding computed
-line971 = refl
+line974 = refl
 
-line972 : cases.Line972
+line975 : cases.Line975
 unfolding computed
-line972 = refl
+line975 = refl
+
+line976 : cases.Line976
+unfolding computed
+line976 = refl
+
+line977 : cases.Line977
+unfolding computed
+line977 = refl
 
 line981 : cases.Line981
 unfolding computed
 line981 = refl
 
-line987 : cases.Line987
+line982 : cases.Line982
 unfolding computed
-line987 = refl
+line982 = refl
 
-line990 : cases.Line990
+line983 : cases.Line983
 unfolding computed
-line990 = refl
+line983 = refl
 
-line995 : cases.Line995
+line989 : cases.Line989
 unfolding computed
-line995 = refl
+line989 = refl
 
-line1007 : cases.Line1007
+line997 : cases.Line997
 unfolding computed
-line1007 = refl
+line997 = refl
+
+line998 : cases.Line998
+unfolding computed
+line998 = refl
+
+line999 : cases.Line999
+unfolding computed
+line999 = refl
+
+line1000 : cases.Line1000
+unfolding computed
+line1000 = refl
+
+line1004 : cases.Line1004
+unfolding computed
+line1004 = refl
 
 line1008 : cases.Line1008
 unfolding computed
 line1008 = refl
-
-line1009 : cases.Line1009
-unfolding computed
-line1009 = refl
 
 line1010 : cases.Line1010
 unfolding computed
@@ -1343,142 +1387,114 @@ line1012 : cases.Line1012
 unfolding computed
 line1012 = refl
 
-line1013 : cases.Line1013
+line1019 : cases.Line1019
 unfolding computed
-line1013 = refl
+line1019 = refl
 
-line1014 : cases.Line1014
+line1021 : cases.Line1021
 unfolding computed
-line1014 = refl
+line1021 = refl
 
-line1015 : cases.Line1015
+line1022 : cases.Line1022
 unfolding computed
-line1015 = refl
+line1022 = refl
 
-line1016 : cases.Line1016
+line1024 : cases.Line1024
 unfolding computed
-line1016 = refl
-
-line1018 : cases.Line1018
-unfolding computed
-line1018 = refl
-
-line1027 : cases.Line1027
-unfolding computed
-line1027 = refl
+line1024 = refl
 
 line1035 : cases.Line1035
 unfolding computed
 line1035 = refl
 
-line1055 : cases.Line1055
+line1059 : cases.Line1059
 unfolding computed
-line1055 = refl
+line1059 = refl
 
-line1062 : cases.Line1062
+line1060 : cases.Line1060
 unfolding computed
-line1062 = refl
+line1060 = refl
 
-line1063 : cases.Line1063
+line1061 : cases.Line1061
 unfolding computed
-line1063 = refl
+line1061 = refl
 
-line1064 : cases.Line1064
+line1067 : cases.Line1067
 unfolding computed
-line1064 = refl
+line1067 = refl
 
-line1066 : cases.Line1066
+line1077 : cases.Line1077
 unfolding computed
-line1066 = refl
+line1077 = refl
 
-line1069 : cases.Line1069
+line1095 : cases.Line1095
 unfolding computed
-line1069 = refl
+line1095 = refl
 
-line1070 : cases.Line1070
+line1101 : cases.Line1101
 unfolding computed
-line1070 = refl
+line1101 = refl
 
-line1071 : cases.Line1071
+line1102 : cases.Line1102
 unfolding computed
-line1071 = refl
+line1102 = refl
 
-line1072 : cases.Line1072
+line1103 : cases.Line1103
 unfolding computed
-line1072 = refl
+line1103 = refl
 
-line1074 : cases.Line1074
+line1107 : cases.Line1107
 unfolding computed
-line1074 = refl
+line1107 = refl
 
-line1075 : cases.Line1075
+line1108 : cases.Line1108
 unfolding computed
-line1075 = refl
+line1108 = refl
 
-line1079 : cases.Line1079
+line1109 : cases.Line1109
 unfolding computed
-line1079 = refl
+line1109 = refl
 
-line1080 : cases.Line1080
+line1110 : cases.Line1110
 unfolding computed
-line1080 = refl
+line1110 = refl
 
-line1081 : cases.Line1081
+line1112 : cases.Line1112
 unfolding computed
-line1081 = refl
+line1112 = refl
 
-line1082 : cases.Line1082
+line1118 : cases.Line1118
 unfolding computed
-line1082 = refl
+line1118 = refl
 
-line1087 : cases.Line1087
+line1119 : cases.Line1119
 unfolding computed
-line1087 = refl
+line1119 = refl
 
-line1097 : cases.Line1097
+line1120 : cases.Line1120
 unfolding computed
-line1097 = refl
+line1120 = refl
 
-line1098 : cases.Line1098
+line1125 : cases.Line1125
 unfolding computed
-line1098 = refl
+line1125 = refl
 
-line1099 : cases.Line1099
+line1129 : cases.Line1129
 unfolding computed
-line1099 = refl
+line1129 = refl
 
-line1105 : cases.Line1105
+line1136 : cases.Line1136
 unfolding computed
-line1105 = refl
+line1136 = refl
 
-line1115 : cases.Line1115
+line1144 : cases.Line1144
 unfolding computed
-line1115 = refl
+line1144 = refl
 
-line1123 : cases.Line1123
+line1147 : cases.Line1147
 unfolding computed
-line1123 = refl
+line1147 = refl
 
-line1127 : cases.Line1127
+line1148 : cases.Line1148
 unfolding computed
-line1127 = refl
-
-line1133 : cases.Line1133
-unfolding computed
-line1133 = refl
-
-line1139 : cases.Line1139
-unfolding computed
-line1139 = refl
-
-line1140 : cases.Line1140
-unfolding computed
-line1140 = refl
-
-line1141 : cases.Line1141
-unfolding computed
-line1141 = refl
-
-line1159 : cases.Line1159
-unfolding computed
-line1159 = refl
+line1148 = refl

@@ -1,5 +1,5 @@
-//! The exact level: the formulas of `levels.rs` with no division dropped and no cent rounded, and
-//! the distance that demand 3 promises between it and the level.
+//! The exact level: the formulas of `costs.rs` with no division and no cent rounded, and the distance
+//! that demand 3 promises between it and the level.
 
 use crate::accept::accepted;
 use crate::levels::{reckon, Levels, Micro, Money};
@@ -30,17 +30,21 @@ pub fn exact_levels_of(station: &Station, hour: u32) -> Levels<Ratio> {
     reckon(station, hour)
 }
 
-/// At most 0.005 dollar above the exact level, and less than 0.005011 dollar below it.
-pub fn is_near(cents: u64, exact: &Ratio) -> bool {
+/// 0.005006 dollar, in micro-dollars.
+pub const DISTANCE: u128 = 5_006;
+
+/// At most so many micro-dollars from the exact level, on either side.
+pub fn is_within(distance: u128, cents: u64, exact: &Ratio) -> bool {
     let level = u128::from(cents) * Micro::PER_CENT;
     let units = |micro: u128| Whole::from(micro).times(&exact.under);
-    let not_above = units(level) <= exact.over.plus(&units(5_000));
-    let not_below = exact.over < units(level + 5_011);
+    let not_above = units(level) <= exact.over.plus(&units(distance));
+    let not_below = exact.over <= units(level + distance);
     not_above && not_below
 }
 
 /// Whether both are of the same kinds, and every level is near its exact level.
 pub fn all_near(levels: &Levels<u64>, exact: &Levels<Ratio>) -> bool {
     let mut pairs = levels.all().zip(exact.all());
-    levels.kinds() == exact.kinds() && pairs.all(|(cents, exact)| is_near(*cents, exact))
+    levels.kinds() == exact.kinds()
+        && pairs.all(|(cents, exact)| is_within(DISTANCE, *cents, exact))
 }

@@ -1,12 +1,13 @@
 //! "From records to levels": the levels of an hour, their profile, and their rounding.
 //!
 //! The formulas stand once, in `costs.rs`. They are written over a way of dividing, `Money`: the
-//! level drops each division's fraction, the exact level (`exact.rs`) keeps it.
+//! level takes each division to the nearest micro-dollar, the exact level (`exact.rs`) keeps its
+//! fraction.
 
 use crate::accept::accepted;
 use crate::costs::Costs;
 use crate::station::Station;
-use crate::table::{rq, Technology, NO_LOAD, RESERVE, START};
+use crate::table::{rq, Technology, ENERGY, NO_LOAD, RESERVE, START};
 use crate::Refusal;
 
 /// All levels of an hour. A level that the technology lacks is `None`.
@@ -57,6 +58,17 @@ impl<M> Levels<M> {
         energy.chain(self.single().map(|(_, level)| level))
     }
 
+    /// A level by its number; of the laminations the lowest.
+    pub fn of(&self, number: u8) -> Option<&M> {
+        match number {
+            ENERGY => self.energy.first().map(|step| &step.level),
+            START => self.start.as_ref(),
+            NO_LOAD => self.no_load.as_ref(),
+            RESERVE => self.reserve.as_ref(),
+            _ => None,
+        }
+    }
+
     /// The single-price levels that there are, by number.
     pub fn single(&self) -> impl Iterator<Item = (u8, &M)> {
         let levels = [
@@ -69,6 +81,11 @@ impl<M> Levels<M> {
     }
 }
 
+/// One whole number over another, to the nearest: one more where half the divisor or more is left.
+fn nearest(over: u128, under: u128) -> u128 {
+    over / under + u128::from(2 * (over % under) >= under)
+}
+
 /// An amount in micro-dollars, and what becomes of a division's fraction.
 pub trait Money: Clone + Ord {
     fn quotient(over: u128, under: u128) -> Self;
@@ -77,7 +94,7 @@ pub trait Money: Clone + Ord {
     fn times(self, over: u128, under: u128) -> Self;
 }
 
-/// Whole micro-dollars: each division drops its fraction.
+/// Whole micro-dollars: each division goes to the nearest, half up.
 ///
 /// No step comes near 2^128. The largest are one MM's start term, 10^11 × 10,000 × 1,000, and heat
 /// × fuel × factor, 2×10^7 × 4×10^8 × 2,000, both below 2^64.
@@ -86,7 +103,7 @@ pub struct Micro(pub u128);
 
 impl Money for Micro {
     fn quotient(over: u128, under: u128) -> Micro {
-        Micro(over / under)
+        Micro(nearest(over, under))
     }
 
     fn plus(self, other: &Micro) -> Micro {
@@ -94,7 +111,7 @@ impl Money for Micro {
     }
 
     fn times(self, over: u128, under: u128) -> Micro {
-        Micro(self.0 * over / under)
+        Micro(nearest(self.0 * over, under))
     }
 }
 
@@ -103,7 +120,7 @@ impl Micro {
 
     /// A finished sum in cents, half up.
     pub fn cents(self) -> u64 {
-        ((self.0 + Micro::PER_CENT / 2) / Micro::PER_CENT) as u64
+        nearest(self.0, Micro::PER_CENT) as u64
     }
 }
 

@@ -1,4 +1,4 @@
-//! Document 01 with requests 1 and 2 of document 02 in plain Rust: a dossier's acceptance, its
+//! Document 01 with requests 1 to 3 of document 02 in plain Rust: a dossier's acceptance, its
 //! levels, the conduct test and the report.
 //!
 //! Bench is run against this crate. It is written to be read beside the papers, goes over a dossier

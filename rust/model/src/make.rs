@@ -1,13 +1,14 @@
 //! A seeded maker of test dossiers, hours, offers and prices.
 //!
 //! Sound dossiers (`sound`) are accepted; damaged ones (`damage`) draw the number they aim at; some
-//! are written out (`written`, `forecast`, `idle`). The offers and prices (`offers`) crowd around the
-//! floors and limits of the dossier they are put to.
+//! are written out (`written`, `forecast`, `idle`, `nearest`). The offers and prices (`offers`) crowd
+//! around the floors and limits of the dossier they are put to.
 
 pub mod damage;
 pub mod forecast;
 pub mod idle;
 mod incomplete;
+pub mod nearest;
 pub mod offers;
 pub mod sound;
 mod stations;
@@ -132,9 +133,9 @@ fn reconcile(record: &mut [u8]) {
     }
 }
 
-/// Written dossiers at the edges of forecasts and of idle weeks.
+/// Written dossiers at the edges of forecasts, of idle weeks and of divisions.
 pub fn edges() -> Vec<Vec<u8>> {
-    [forecast::edges(), idle::edges()].concat()
+    [forecast::edges(), idle::edges(), nearest::edges()].concat()
 }
 
 /// A dossier of any sort: sound, damaged once or twice, or noise.

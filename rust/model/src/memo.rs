@@ -28,7 +28,9 @@ impl Memo {
             return self.last_non_zero.unwrap_or(0);
         }
         let withdrawn = week.iter().map(|(price, energy)| price * energy);
-        let cost = (withdrawn.sum::<i128>() * 10_000 / scheduled).max(0);
+        let paid = withdrawn.sum::<i128>().max(0) * 10_000;
+        // to the nearest micro-dollar, half up, by request 3
+        let cost = (2 * paid + scheduled) / (2 * scheduled);
         if cost > 0 {
             self.last_non_zero = Some(cost);
         }
@@ -36,9 +38,10 @@ impl Memo {
     }
 }
 
-/// The energy level of `battery` in cents at a charging cost in micro-dollars: 0.75 more, over 0.8.
+/// The energy level of `battery` in cents at a charging cost in micro-dollars: 0.75 more, over 0.8,
+/// to the nearest micro-dollar.
 pub fn level_at(cost: i128) -> u64 {
-    let micro = (cost + 750_000) * 5 / 4;
+    let micro = ((cost + 750_000) * 5 + 2) / 4;
     (micro as u64 + 5_000) / 10_000
 }
 
@@ -88,9 +91,14 @@ pub fn written_weeks() -> (Vec<Week>, Vec<i128>) {
         (vec![(100, 50), (-100, 50)], 0),
         (vec![(9_000, 0)], 40_000_000),
         (vec![], 40_000_000),
-        // a fraction, dropped
+        // thirds of a micro-dollar, and half of one
         (vec![(1_000, 2), (1_001, 1)], 10_003_333),
         (vec![], 10_003_333),
+        (vec![(1_000, 1), (1_001, 2)], 10_006_667),
+        (vec![(1, 1), (0, 29_999)], 0),
+        (vec![], 10_006_667),
+        (vec![(1, 1), (0, 19_999)], 1),
+        (vec![], 1),
         (vec![(200_000, 1_000_000)], 2_000_000_000),
         (vec![], 2_000_000_000),
     ];

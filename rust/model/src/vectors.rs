@@ -35,7 +35,7 @@ pub enum Vector {
 
 /// The vectors in the repository's data folder.
 pub fn read() -> Vec<Vector> {
-    let path = concat!(env!("CARGO_MANIFEST_DIR"), "/../../data/request-2.txt");
+    let path = concat!(env!("CARGO_MANIFEST_DIR"), "/../../data/request-3.txt");
     let text = std::fs::read_to_string(path).expect(path);
     text.lines().map(vector).collect()
 }

@@ -84,8 +84,10 @@ fn it_joins_before_fuel_and_the_efficiency_step() {
     };
     assert_eq!(sum(&battery(1_250_000, 750_000, 800)), 2_500_000);
     assert_eq!(sum(&battery(1_250_000, 750_000, 1_000)), 2_000_000);
-    // 2,000 / 600: one division, whose fraction is dropped once
+    // 2,000 over 600, 700 and 800: one division, which goes to the nearest once
     assert_eq!(sum(&battery(1, 1, 600)), 3);
+    assert_eq!(sum(&battery(1, 1, 700)), 3);
+    assert_eq!(sum(&battery(1, 1, 800)), 3);
     let most = battery(lc::COST.highest, 400_000_000, 500);
     assert_eq!(sum(&most), 4_800_000_000);
     assert_eq!(energy_level(&most), 480_000);

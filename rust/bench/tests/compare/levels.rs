@@ -4,6 +4,7 @@ use crate::cases::{run, same, seed, Check};
 use crate::refusal;
 use model::exact::{all_near, exact_levels};
 use model::levels::{Lamination, Levels};
+use model::make::nearest::terms;
 use model::make::written::evenly_rising;
 use model::make::{self, sound};
 use model::memo::{made_weeks, told, written_weeks};
@@ -125,6 +126,19 @@ fn weeks_by_the_memo() {
         for (dossier, level) in told(&weeks).into_iter().flat_map(|week| week.dossiers) {
             let levels = bench::levels(&dossier, 0).unwrap();
             assert_eq!(levels.energy[0].level, level, "{weeks:?}");
+        }
+    }
+}
+
+/// Each division less than half a micro-dollar past a whole one, half, and more.
+#[test]
+fn each_division_goes_half_up() {
+    for term in terms() {
+        for (dossier, cents) in term.dossiers.iter().zip([0, 1, 1]) {
+            let levels = model_levels(dossier, 0).unwrap();
+            for level in term.levels {
+                assert_eq!(levels.of(*level), Some(&cents), "{} in {level}", term.name);
+            }
         }
     }
 }

@@ -71,7 +71,7 @@ pub fn filled(random: &mut Random, length: usize) -> Draft {
 }
 
 /// A sound dossier in which an AD amount brings the sum of one level at hour 0 to the half cent or
-/// one micro-dollar below it: one division dropped too early or too late then shows.
+/// one micro-dollar below it: one division that goes another way then shows.
 pub fn at_half_cent(random: &mut Random) -> Vec<u8> {
     let mut draft = sound(random);
     let level = random.pick(draft.technology.levels());
