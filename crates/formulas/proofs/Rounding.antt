@@ -22,7 +22,7 @@ quotient-none n = div-zero (2 * n + 0)
 
 pub quotient-mono : {a b : ℕ} (d : ℕ) → a ≤ b → quotient a d ≤ quotient b d
 unfolding quotient
-quotient-mono {a} {b} zero h = rw (div-zero, div-zero) (le-refl 0)
+quotient-mono {a} {b} zero h = rw (div-zero (2 * a + 0), div-zero (2 * b + 0)) (le-refl 0)
 quotient-mono {a} {b} (suc d) h =
     le-div-iff-mul-le {k = 2 * suc d} (omega arith) .1 (le-trans (div-mul-le-self (2 * a + suc d) (2 * suc d)) (omega arith))
 

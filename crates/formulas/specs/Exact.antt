@@ -17,7 +17,7 @@ pub data Sum : Type 0 where
 
 -- ---- the level: "Each division now goes to nearest, half up", in micro-dollars
 
--- one division, n over d
+-- n over d to the nearest: n / d and a half more, whose fraction is dropped; 0 where d is 0
 unfoldable pub quotient : ℕ → ℕ → ℕ
 quotient n d = (2 * n + d) / (2 * d)
 
