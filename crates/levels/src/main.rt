@@ -1,5 +1,5 @@
 // The program `levels`: reads a big-endian 4-byte hour and then a dossier from standard input, and prints the report or the
-// refusal. What it prints for any input is `prints` of the layer report; here it is only read, called and written.
+// refusal. What it prints for any input is `prints` of the layer layout; here it is only read, called and written.
 use libc::STDIN_FILENO;
 use libc::STDOUT_FILENO;
 

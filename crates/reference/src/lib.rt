@@ -1,4 +1,4 @@
-// Reference levels at an hour. The formulas are in specs/, their laws in proofs/.
+// The reference levels at an hour, in arrays. How lines are packed into them is in specs/, its laws in proofs/.
 mod laminations;
 mod profile;
 
