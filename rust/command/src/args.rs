@@ -1,0 +1,156 @@
+//! The words of a command line: files, and options with or without a value.
+
+use crate::input::STANDARD;
+use std::ffi::{OsStr, OsString};
+
+/// The files and options of one call.
+#[derive(Debug, Default)]
+pub struct Args {
+    pub files: Vec<OsString>,
+    options: Vec<(&'static str, OsString)>,
+}
+
+/// An option: its name, and whether a value follows it.
+pub type Choice = (&'static str, bool);
+
+impl Args {
+    /// Reads the words behind the name of a command that has these options.
+    pub fn read(words: &[OsString], choices: &'static [Choice]) -> Result<Args, String> {
+        let mut args = Args::default();
+        let mut words = words.iter();
+        while let Some(word) = words.next() {
+            let shown = word.to_string_lossy();
+            if shown == "--" {
+                args.files.extend(words.by_ref().cloned());
+            } else if let Some(option) = shown.strip_prefix("--") {
+                args.option(option, &mut words, choices)?;
+            } else if shown.starts_with('-') && shown != STANDARD {
+                return Err(format!("no option is called {shown}"));
+            } else {
+                args.files.push(word.clone());
+            }
+        }
+        let standard = args.files.iter().filter(|f| *f == STANDARD).count();
+        if standard > 1 {
+            return Err("standard input is named twice".to_string());
+        }
+        Ok(args)
+    }
+
+    /// Takes one option, with its value behind `=` or as the next word.
+    fn option<'a>(
+        &mut self,
+        option: &str,
+        words: &mut impl Iterator<Item = &'a OsString>,
+        choices: &'static [Choice],
+    ) -> Result<(), String> {
+        let (name, behind) = match option.split_once('=') {
+            Some((name, value)) => (name, Some(OsString::from(value))),
+            None => (option, None),
+        };
+        let Some(&(name, valued)) = choices.iter().find(|(n, _)| *n == name) else {
+            return Err(format!("no option is called --{name}"));
+        };
+        if self.has(name) {
+            return Err(format!("--{name} stands twice"));
+        }
+        let value = match (valued, behind) {
+            (false, Some(_)) => return Err(format!("--{name} takes no value")),
+            (false, None) => Some(OsString::new()),
+            (true, behind) => behind.or_else(|| words.next().cloned()),
+        };
+        let value = value.ok_or_else(|| format!("--{name} takes a value"))?;
+        self.options.push((name, value));
+        Ok(())
+    }
+
+    pub fn has(&self, name: &str) -> bool {
+        self.value(name).is_some()
+    }
+
+    /// The value of an option, as the system hands it over: a path may be any bytes.
+    pub fn value(&self, name: &str) -> Option<&OsStr> {
+        let option = self.options.iter().find(|(n, _)| *n == name);
+        option.map(|(_, value)| value.as_os_str())
+    }
+
+    /// The value of an option, read by `read`; `None` without the option.
+    pub fn get<T>(
+        &self,
+        name: &str,
+        read: impl Fn(&str) -> Result<T, String>,
+    ) -> Result<Option<T>, String> {
+        let Some(value) = self.value(name) else {
+            return Ok(None);
+        };
+        let value = value.to_str().ok_or_else(|| format!("--{name}: no text"))?;
+        let read = read(value).map_err(|says| format!("--{name}: {says}"))?;
+        Ok(Some(read))
+    }
+
+    /// The same of an option that has to be there.
+    pub fn need<T>(
+        &self,
+        name: &str,
+        read: impl Fn(&str) -> Result<T, String>,
+    ) -> Result<T, String> {
+        let value = self.get(name, read)?;
+        value.ok_or_else(|| format!("--{name} is missing"))
+    }
+}
+
+/// A whole number from `lowest` to `highest`.
+pub fn whole(text: &str, lowest: u32, highest: u32) -> Result<u32, String> {
+    let number = text.parse().ok().filter(|n| (lowest..=highest).contains(n));
+    let digits = text.bytes().all(|b| b.is_ascii_digit());
+    let says = || format!("'{text}' is no whole number from {lowest} to {highest}");
+    number.filter(|_| digits).ok_or_else(says)
+}
+
+/// An hour.
+pub fn hour(text: &str) -> Result<u32, String> {
+    whole(text, 0, u32::MAX)
+}
+
+#[cfg(test)]
+mod tests {
+    use super::*;
+
+    const CHOICES: &[Choice] = &[("hour", true), ("json", false)];
+
+    fn read(words: &str) -> Result<Args, String> {
+        let words: Vec<OsString> = words.split(' ').map(OsString::from).collect();
+        Args::read(&words, CHOICES)
+    }
+
+    #[test]
+    fn options_and_files_in_any_order() {
+        for words in [
+            "a --hour 3 b --json",
+            "--json --hour=3 a b",
+            "--hour 3 --json -- a b",
+        ] {
+            let args = read(words).unwrap();
+            assert_eq!(args.files, ["a", "b"], "{words}");
+            assert_eq!(args.need("hour", hour), Ok(3), "{words}");
+            assert!(args.has("json"), "{words}");
+        }
+    }
+
+    #[test]
+    fn wrong_use_is_said() {
+        for words in [
+            "--hour",
+            "--what 1",
+            "-x",
+            "--json=1",
+            "--hour 1 --hour 2",
+            "- -",
+        ] {
+            assert!(read(words).is_err(), "{words}");
+        }
+        for hours in ["", "-1", "+1", "4294967296", "1.0", "one"] {
+            assert!(hour(hours).is_err(), "{hours}");
+        }
+    }
+}

@@ -1,0 +1,39 @@
+//! `bench check`: whether a dossier is accepted.
+
+use crate::answer::{each, refused, Said, Status, Stop, Streams};
+use crate::args::Args;
+use crate::explain::of_dossier;
+use crate::input::Input;
+use crate::json::{object, Json};
+use crate::lacks::current;
+use crate::record::records;
+
+pub fn run(args: &Args, streams: &mut Streams) -> Result<Status, Stop> {
+    each(args, streams, check)
+}
+
+fn check(input: &Input) -> Said {
+    let Input { dossier, lines, .. } = input;
+    if let Err(refusal) = bench::accept(dossier) {
+        return refused(&of_dossier(refusal, dossier, lines));
+    }
+    let (count, length) = (records(dossier).count(), dossier.len());
+    let station = current(dossier, "RS", 0);
+    let field = |name| station.map_or(String::new(), |rs| rs.value(name));
+    let (technology, capacity) = (field("technology"), field("capacity"));
+    let of = format!("{technology}, {capacity} MW");
+    let line = format!("accepted: {of}, {count} records, {length} bytes");
+    let accepted = object([
+        ("technology", Json::text(technology)),
+        ("capacity", Json::Number(capacity)),
+        ("records", Json::whole(count)),
+        ("bytes", Json::whole(length)),
+    ]);
+    Said {
+        status: Status::Done,
+        counts_as: "accepted",
+        words: format!("{line}\n"),
+        line,
+        json: object([("accepted", accepted)]),
+    }
+}

@@ -1,0 +1,218 @@
+//! `bench day`: the levels over hours as a table, and a picture of one hour's energy curve.
+
+use crate::answer::{one, only_file, refused, Said, Status, Stop, Streams};
+use crate::args::{hour, whole, Args};
+use crate::explain::of_offer;
+use crate::input::{name, read, Input};
+use crate::json::{object, Json};
+use crate::levels::{dollars, json, megawatts, others};
+use crate::offer::{self, highest_in, Pair};
+use crate::pack::write_file;
+use crate::picture::{self, Picture, Step};
+use crate::unit::CONDITION;
+use bench::{energy_test, Levels, Refusal, Verdict};
+
+/// The hours asked for, and the offer that is put to them.
+#[derive(Debug)]
+struct Question {
+    from: u32,
+    hours: u32,
+    /// The hour in the picture.
+    at: u32,
+    offer: Option<(u8, Vec<Pair>)>,
+}
+
+/// One hour of the answer.
+struct Hour {
+    hour: u32,
+    levels: Levels,
+    verdict: Option<Verdict>,
+}
+
+/// A year of hours: more is no table that a person reads.
+const MOST_HOURS: u32 = 8_784;
+
+pub fn run(args: &Args, streams: &mut Streams) -> Result<Status, Stop> {
+    let question = question(args)?;
+    let file = only_file(args)?;
+    let input = match read(&file) {
+        Ok(input) => input,
+        Err(error) => return Ok(one(args, streams, &name(&file), &error.said())?),
+    };
+    let hours = match hours(&input, &question) {
+        Ok(hours) => hours,
+        Err(refusal) => {
+            let pairs = question.offer.as_ref().map_or(&[][..], |(_, pairs)| pairs);
+            let said = refused(&of_offer(refusal, &input.dossier, &input.lines, pairs));
+            return Ok(one(args, streams, &input.name, &said)?);
+        }
+    };
+    if let Some(path) = args.value("svg") {
+        if let Some(hour) = hours.iter().find(|h| h.hour == question.at) {
+            write_file(path, drawn(&input, hour, &question).as_bytes())?;
+        }
+    }
+    Ok(one(args, streams, &input.name, &said(&hours))?)
+}
+
+fn question(args: &Args) -> Result<Question, Stop> {
+    let from = args.need("from", hour)?;
+    let hours = args.get("hours", |text| whole(text, 1, MOST_HOURS))?;
+    let hours = hours.unwrap_or(24);
+    let Some(last) = from.checked_add(hours - 1) else {
+        return Err(Stop::Use(format!("the last hour there is is {}", u32::MAX)));
+    };
+    let at = args.get("at", |text| whole(text, from, last))?;
+    let condition = args.get("condition", offer::read_condition)?;
+    let offer = match (condition, args.get("offer", offer::read)?) {
+        (Some(condition), Some(pairs)) => Some((condition, pairs)),
+        (None, None) => None,
+        _ => return Err(Stop::Use("--offer and --condition go together".to_string())),
+    };
+    Ok(Question {
+        from,
+        hours,
+        at: at.unwrap_or(from),
+        offer,
+    })
+}
+
+/// Every hour's levels and verdict, or the refusal of the first that is refused.
+fn hours(input: &Input, question: &Question) -> Result<Vec<Hour>, Refusal> {
+    let hour = |n: u32| {
+        let hour = question.from + n;
+        let verdict = match &question.offer {
+            Some((condition, pairs)) => Some(tested(input, hour, *condition, pairs)?),
+            None => None,
+        };
+        Ok(Hour {
+            hour,
+            levels: bench::levels(&input.dossier, hour)?,
+            verdict,
+        })
+    };
+    (0..question.hours).map(hour).collect()
+}
+
+fn tested(input: &Input, hour: u32, condition: u8, pairs: &[Pair]) -> Result<Verdict, Refusal> {
+    match energy_test(&input.dossier, hour, condition, &offer::bytes(pairs)) {
+        Verdict::Refused(refusal) => Err(refusal),
+        verdict => Ok(verdict),
+    }
+}
+
+fn said(hours: &[Hour]) -> Said {
+    let fails = |h: &Hour| matches!(h.verdict, Some(Verdict::Fails { .. }));
+    let status = match hours.iter().any(fails) {
+        true => Status::Fails,
+        false => Status::Done,
+    };
+    Said {
+        status,
+        counts_as: "with levels",
+        line: String::new(),
+        words: table(hours),
+        json: object([("hours", Json::List(hours.iter().map(Hour::json).collect()))]),
+    }
+}
+
+impl Hour {
+    fn json(&self) -> Json {
+        let json = json(self.hour, &self.levels);
+        match self.offer() {
+            Some(offer) => json.with("offer", Json::text(offer)),
+            None => json,
+        }
+    }
+
+    /// The verdict in a word or two.
+    fn offer(&self) -> Option<String> {
+        match self.verdict? {
+            Verdict::Fails { pair, lamination } => Some(format!("fails {pair} in {lamination}")),
+            _ => Some("passes".to_string()),
+        }
+    }
+
+    fn cells(&self) -> Vec<String> {
+        let mut cells = vec![self.hour.to_string(), self.levels.profile.to_string()];
+        cells.extend(self.levels.energy.iter().map(|l| dollars(l.level)));
+        cells.extend(
+            others(&self.levels)
+                .into_iter()
+                .filter_map(|(_, level)| level.map(dollars)),
+        );
+        cells.extend(self.offer());
+        cells
+    }
+
+    fn heads(&self) -> Vec<String> {
+        let mut heads = vec!["hour".to_string(), "profile".to_string()];
+        let end = |l: &bench::Lamination| format!("to {} MW", megawatts(l.to));
+        heads.extend(self.levels.energy.iter().map(end));
+        let held = others(&self.levels)
+            .into_iter()
+            .filter(|(_, level)| level.is_some());
+        heads.extend(held.map(|(name, _)| name.to_string()));
+        heads.extend(self.verdict.map(|_| "offer".to_string()));
+        heads
+    }
+}
+
+/// One row an hour, each column as wide as its widest cell.
+fn table(hours: &[Hour]) -> String {
+    let mut rows: Vec<Vec<String>> = hours.first().map(Hour::heads).into_iter().collect();
+    rows.extend(hours.iter().map(Hour::cells));
+    let widest = |column| {
+        rows.iter()
+            .filter_map(|r| r.get(column))
+            .map(String::len)
+            .max()
+    };
+    let widths: Vec<usize> = (0..).map_while(widest).collect();
+    let row = |row: &Vec<String>| {
+        let cells = row
+            .iter()
+            .zip(&widths)
+            .map(|(cell, width)| format!("{cell:>width$}"));
+        cells.collect::<Vec<String>>().join("  ") + "\n"
+    };
+    let heading = "energy in dollars per MWh by lamination; the other levels in dollars\n";
+    let rows = rows.iter().map(row);
+    [heading.to_string()].into_iter().chain(rows).collect()
+}
+
+/// The picture of an hour.
+fn drawn(input: &Input, hour: &Hour, question: &Question) -> String {
+    let title = format!(
+        "{}, hour {}, profile {}",
+        input.name, hour.hour, hour.levels.profile
+    );
+    let laminations = &hour.levels.energy;
+    let step = |l: &bench::Lamination| Step {
+        from: l.from,
+        to: l.to,
+        level: l.level,
+    };
+    let steps: Vec<Step> = laminations.iter().map(step).collect();
+    let (condition, pairs) = question.offer.clone().unwrap_or_default();
+    let name = CONDITION.write(condition.into());
+    let highest = |l| highest_in(&input.dossier, hour.hour, condition, l);
+    let highest: Vec<Option<i32>> = match question.offer {
+        Some(_) => laminations.iter().map(highest).collect(),
+        None => Vec::new(),
+    };
+    let fails = match hour.verdict {
+        Some(Verdict::Fails { pair, lamination }) => Some((pair, lamination)),
+        _ => None,
+    };
+    picture::svg(&Picture {
+        title: &title,
+        steps: &steps,
+        offer: question.offer.as_ref().map(|_| picture::Offer {
+            pairs: &pairs,
+            condition: &name,
+            highest: &highest,
+            fails,
+        }),
+    })
+}

@@ -1,0 +1,223 @@
+//! A refusal in words: what it means, which record or pair stands at its place, what the rule wants
+//! and who can mend it.
+
+use crate::json::{object, Json};
+use crate::lacks::{current, lacks};
+use crate::marks::Mark;
+use crate::offer::Pair;
+use crate::record::{records, Record};
+use crate::rules::{rule, Rule};
+use bench::Refusal;
+
+/// A refusal with all that there is to say of it.
+#[derive(Debug)]
+pub struct Explained {
+    pub refusal: Refusal,
+    pub rule: &'static Rule,
+    /// The record at the place.
+    pub record: Option<Standing>,
+    /// What is wrong there, as far as it can be told.
+    pub details: Vec<String>,
+}
+
+/// A record as it stands in a dossier.
+#[derive(Debug)]
+pub struct Standing {
+    pub number: usize,
+    pub start: usize,
+    pub mark: &'static str,
+    pub key: String,
+    pub issue: i128,
+    /// Its line, where the dossier came as text.
+    pub line: Option<usize>,
+    pub text: String,
+}
+
+/// The refusal of a dossier; `lines` are those of its records, if it came as text.
+pub fn of_dossier(refusal: Refusal, dossier: &[u8], lines: &[usize]) -> Explained {
+    let at_record = matches!(refusal.number, 1..=4 | 6);
+    let record = records(dossier).find(|r| at_record && r.start == refusal.place);
+    Explained {
+        refusal,
+        rule: rule(refusal.number),
+        details: match record {
+            Some(record) => of_record(refusal.number, dossier, &record),
+            None if at_record => vec![unread(dossier, refusal.place)],
+            None => lacks(dossier, refusal.number),
+        },
+        record: record.map(|r| standing(&r, lines)),
+    }
+}
+
+/// The refusal of an offer or a price put to a dossier.
+pub fn of_offer(refusal: Refusal, dossier: &[u8], lines: &[usize], offer: &[Pair]) -> Explained {
+    let mut explained = of_dossier(refusal, dossier, lines);
+    let place = refusal.place / Pair::BYTES;
+    let pair = offer.get(place);
+    let offered = |pair: &Pair| format!("pair {} is {}", place + 1, pair.text());
+    let station = || current(dossier, "RS", 0);
+    let detail = match (refusal.number, pair) {
+        (10 | 11, Some(pair)) => Some(offered(pair)),
+        (10, None) => Some(format!("the offer has {} pairs", offer.len())),
+        (12, _) => station().map(|rs| format!("the station is {}", rs.value("technology"))),
+        (14, _) => Some(thresholds(dossier)),
+        _ => None,
+    };
+    explained.details.extend(detail);
+    explained
+}
+
+/// The conditions and levels that have a threshold.
+fn thresholds(dossier: &[u8]) -> String {
+    let keys = (1..=3).flat_map(|condition| (1..=4).map(move |level| condition << 8 | level));
+    let there: Vec<String> = keys
+        .filter_map(|key| current(dossier, "TH", key))
+        .map(|th| format!("{} {}", th.value("condition"), th.value("level")))
+        .collect();
+    match there.is_empty() {
+        true => "the dossier has no TH".to_string(),
+        false => format!("there is a TH for {}", there.join(", ")),
+    }
+}
+
+/// What is wrong with the record at the place.
+fn of_record(number: u32, dossier: &[u8], record: &Record) -> Vec<String> {
+    match number {
+        3 => record.faults(),
+        4 => {
+            let twin = records(dossier).find(|r| r.claim() == record.claim());
+            let text = |r: Record| format!("record {} at byte {}: {}", r.number, r.start, r.text());
+            let came = |r| format!("the same mark, key and issue came before, {}", text(r));
+            twin.map(came).into_iter().collect()
+        }
+        6 => {
+            let station = current(dossier, "RS", 0);
+            let station = station.map(|r| format!("the current station record is {}", r.text()));
+            station.into_iter().chain([fitting(record)]).collect()
+        }
+        _ => Vec::new(),
+    }
+}
+
+/// What a record of this mark takes to fit a technology.
+fn fitting(record: &Record) -> String {
+    let wants = match record.mark.letters {
+        "RS" => "thermal uses factor and both heats, nuclear factor and incremental-fuel, storage charge, efficiency and window, hydro window; used ones are above 0, but for the heats, and the others are 0",
+        "HP" => "HP is for thermal stations",
+        "FU" => "emission is 0 unless the station is thermal; at a hydro station fuel is 0 too",
+        "AD" => "the level is one that the technology holds (thermal all four, nuclear energy, storage and hydro energy and reserve), and prorated-start is for nuclear energy",
+        "MM" => "start-hours is 0 unless the station is thermal",
+        "TH" => "the level is one that the technology holds: thermal all four, nuclear energy, storage and hydro energy and reserve",
+        "FP" => "FP is for hydro stations",
+        "HR" | "CH" | "LC" => "HR, CH and LC are for storage",
+        _ => "it always fits",
+    };
+    format!("to fit: {wants}")
+}
+
+/// What stands at a place where no whole record with a known mark does.
+fn unread(dossier: &[u8], place: usize) -> String {
+    let rest = dossier.get(place..).unwrap_or(&[]);
+    let number = records(dossier).count() + 1;
+    let Some(letters) = rest.first_chunk::<2>() else {
+        return format!("record {number}: one byte is left over");
+    };
+    match Mark::of(letters) {
+        Some(mark) => format!(
+            "record {number}: {}, {}, has {} bytes; {} are there",
+            mark.letters,
+            mark.holds,
+            mark.length(),
+            rest.len()
+        ),
+        None => format!("record {number} begins with {}", shown(letters)),
+    }
+}
+
+/// Two bytes as letters where they are, and as numbers.
+fn shown([a, b]: &[u8; 2]) -> String {
+    let letters: String = [*a, *b].iter().map(|b| char::from(*b)).collect();
+    let letters = match letters.bytes().all(|b| b.is_ascii_graphic()) {
+        true => format!("'{letters}', "),
+        false => String::new(),
+    };
+    format!("{letters}bytes {a} and {b}")
+}
+
+fn standing(record: &Record, lines: &[usize]) -> Standing {
+    Standing {
+        number: record.number,
+        start: record.start,
+        mark: record.mark.letters,
+        key: record.key(),
+        issue: record.get("issue"),
+        line: lines.get(record.number - 1).copied(),
+        text: record.text(),
+    }
+}
+
+impl Standing {
+    /// Which record it is, without its text.
+    fn words(&self) -> String {
+        let key = match self.key.is_empty() {
+            true => String::new(),
+            false => format!(" of {}", self.key),
+        };
+        let line = self.line.map(|n| format!(", line {n}"));
+        let (number, start, mark, issue) = (self.number, self.start, self.mark, self.issue);
+        let line = line.unwrap_or_default();
+        format!("record {number} at byte {start}{line}: {mark}{key}, issue {issue}")
+    }
+
+    fn json(&self) -> Json {
+        object([
+            ("number", Json::whole(self.number)),
+            ("place", Json::whole(self.start)),
+            ("mark", Json::text(self.mark)),
+            ("key", Json::text(&self.key)),
+            ("issue", Json::Number(self.issue.to_string())),
+            ("line", self.line.map_or(Json::Null, Json::whole)),
+            ("text", Json::text(&self.text)),
+        ])
+    }
+}
+
+impl Explained {
+    /// The refusal in one line.
+    pub fn line(&self) -> String {
+        let Refusal { number, place } = self.refusal;
+        format!("refused {number} at {place}: {}", self.rule.means)
+    }
+
+    /// The refusal in full.
+    pub fn words(&self) -> String {
+        let mut words = self.line();
+        if let Some(record) = &self.record {
+            words += &format!("\n  {}\n    {}", record.words(), record.text);
+        }
+        for detail in &self.details {
+            words += &format!("\n  {detail}");
+        }
+        words
+            + &format!(
+                "\n  wanted: {}\n  who can mend it: the {}\n",
+                self.rule.wants, self.rule.who
+            )
+    }
+
+    pub fn json(&self) -> Json {
+        let record = self.record.as_ref();
+        object([
+            ("number", Json::whole(self.refusal.number as usize)),
+            ("place", Json::whole(self.refusal.place)),
+            ("means", Json::text(self.rule.means)),
+            ("wants", Json::text(self.rule.wants)),
+            ("who", Json::text(self.rule.who)),
+            ("record", record.map_or(Json::Null, Standing::json)),
+            (
+                "details",
+                Json::List(self.details.iter().map(Json::text).collect()),
+            ),
+        ])
+    }
+}

@@ -1,0 +1,72 @@
+//! What `--help` prints.
+
+pub const ALL: &str = "\
+bench: reference levels of a station, and offers held against them
+
+  bench pack FILE          a dossier from text
+  bench unpack FILE        text from a dossier
+  bench check FILE...      whether a dossier is accepted, and if not, why
+  bench levels FILE...     the levels at an hour
+  bench test FILE...       an offer or a price held against the levels of an hour
+  bench day FILE           the levels over hours as a table, and a picture
+
+'bench COMMAND --help' says more. FILE is a dossier, as text or bytes, which are told apart; '-' or no
+FILE at all is standard input.
+
+Exit status: 0 done; 1 refused; 2 wrong use, or a file that can't be read; 3 an offer that fails.
+";
+
+pub const PACK: &str = "\
+bench pack [FILE] [--out OUT]
+
+Writes the dossier of a text, one record a line, to standard output or to OUT:
+
+  # comments and blank lines are passed over
+  FU issue=3 profile=1 fuel=4.00 emission=1.00
+
+Every field of a record is written, in any order. A wrong line is refused with its number, the field
+and its range, and nothing is written. docs/COMMAND.md lists the fields.
+";
+
+pub const UNPACK: &str = "\
+bench unpack [FILE] [--out OUT]
+
+Writes a dossier as text, one record a line, to standard output or to OUT. 'bench pack' makes the same
+bytes of it again. A dossier that draws 1, 2, 3 or 13 can't be read and is refused.
+";
+
+pub const CHECK: &str = "\
+bench check [FILE...] [--json]
+
+Says whether a dossier is accepted. A refusal is told in words: what it means, which record stands at
+the place, what the rule wants and who can mend it. Of many files each gets a line, and a count ends
+the list.
+";
+
+pub const LEVELS: &str = "\
+bench levels [FILE...] --hour H [--json]
+
+Prints the report of an hour, 0 to 4294967295: the profile, each lamination of energy with its ends in
+MW and its level, and the other levels that the station holds, in dollars. Of many files each gets a
+line.
+";
+
+pub const TEST: &str = "\
+bench test [FILE...] --hour H --condition C --offer PAIRS [--json]
+bench test [FILE...] --hour H --condition C --level L --price P [--json]
+
+Holds an offer against the levels of an hour under a condition: narrow, broad or global.
+PAIRS is an energy offer, quantity@price in MW and dollars per MWh, as in '50.0@42.30,100.0@63.46'.
+L is start, no-load or reserve, and P a price in dollars.
+The answer is passes or fails, with the first pair and lamination that fail, and the highest price
+that passes. Of many files each gets a line.
+";
+
+pub const DAY: &str = "\
+bench day [FILE] --from H [--hours N] [--json]
+          [--condition C --offer PAIRS] [--svg OUT [--at H]]
+
+Prints the levels of N hours from hour H on (24 without --hours) as a table. With an offer, each hour
+has its verdict as well. --svg writes a picture of the energy curve at hour --at (the first without
+it), with the offer's pairs and the highest prices that pass over it.
+";

@@ -1,0 +1,93 @@
+//! `bench levels`: the levels at an hour.
+
+use crate::answer::{each, refused, Said, Status, Stop, Streams};
+use crate::args::{hour, Args};
+use crate::explain::of_dossier;
+use crate::input::Input;
+use crate::json::{object, Json};
+use crate::unit::{DOLLARS, MEGAWATTS};
+use bench::{Lamination, Levels, Refusal};
+
+pub fn run(args: &Args, streams: &mut Streams) -> Result<Status, Stop> {
+    let hour = args.need("hour", hour)?;
+    each(args, streams, |input| levels(input, hour))
+}
+
+fn levels(input: &Input, hour: u32) -> Said {
+    let Input { dossier, lines, .. } = input;
+    match bench::levels(dossier, hour).and_then(|l| Ok((l, report(dossier, hour)?))) {
+        Ok((levels, report)) => Said {
+            status: Status::Done,
+            counts_as: "with levels",
+            line: line(&levels),
+            words: report,
+            json: json(hour, &levels),
+        },
+        Err(refusal) => refused(&of_dossier(refusal, dossier, lines)),
+    }
+}
+
+/// More than the longest report has.
+const ROOM: usize = 4_096;
+
+/// The report, as the library writes it.
+fn report(dossier: &[u8], hour: u32) -> Result<String, Refusal> {
+    let mut buffer = [0; ROOM];
+    let length = bench::report(dossier, hour, &mut buffer)?;
+    Ok(String::from_utf8_lossy(&buffer[..length]).into_owned())
+}
+
+/// A level in dollars.
+pub fn dollars(cents: u64) -> String {
+    DOLLARS.write(cents.into())
+}
+
+/// An output in MW.
+pub fn megawatts(tenths: u16) -> String {
+    MEGAWATTS.write(tenths.into())
+}
+
+/// The levels but energy by name, `None` where the technology lacks them.
+pub fn others(levels: &Levels) -> [(&'static str, Option<u64>); 3] {
+    [
+        ("start", levels.start),
+        ("no-load", levels.no_load),
+        ("reserve", levels.reserve),
+    ]
+}
+
+/// The levels in one line.
+fn line(levels: &Levels) -> String {
+    let energy: Vec<String> = levels.energy.iter().map(|l| dollars(l.level)).collect();
+    let mut line = format!("profile {}; energy {}", levels.profile, energy.join(", "));
+    for (name, level) in others(levels) {
+        if let Some(cents) = level {
+            line += &format!("; {name} {}", dollars(cents));
+        }
+    }
+    line
+}
+
+/// The levels of an hour as an object; a level that the technology lacks is null.
+pub fn json(hour: u32, levels: &Levels) -> Json {
+    let number = |text: String| Json::Number(text);
+    let lamination = |(i, l): (usize, &Lamination)| {
+        object([
+            ("lamination", Json::whole(i + 1)),
+            ("from", number(megawatts(l.from))),
+            ("to", number(megawatts(l.to))),
+            ("level", number(dollars(l.level))),
+        ])
+    };
+    let energy = levels.energy.iter().enumerate().map(lamination).collect();
+    let [start, no_load, reserve] =
+        others(levels).map(|(_, level)| level.map_or(Json::Null, |cents| number(dollars(cents))));
+    object([
+        ("hour", Json::whole(hour as usize)),
+        ("profile", Json::whole(levels.profile.into())),
+        ("energy", Json::List(energy)),
+        ("start", start),
+        ("no-load", no_load),
+        ("reserve", reserve),
+    ])
+}

@@ -1,0 +1,142 @@
+//! The command `bench`: dossiers as text, answers in words and JSON, tables and pictures.
+//!
+//! It computes no level and takes no verdict: each comes from the proved library, through the crate
+//! `bench`. What is said beside them, in words, is read from the dossier's records.
+
+pub mod answer;
+pub mod args;
+mod check;
+mod conduct;
+mod day;
+pub mod explain;
+mod help;
+pub mod input;
+pub mod json;
+mod lacks;
+mod levels;
+pub mod marks;
+pub mod offer;
+mod pack;
+pub mod picture;
+pub mod record;
+pub mod rules;
+pub mod text;
+pub mod unit;
+
+use answer::{Status, Stop, Streams};
+use args::{Args, Choice};
+use std::ffi::OsString;
+use std::io::ErrorKind;
+
+/// One subcommand.
+struct Command {
+    name: &'static str,
+    choices: &'static [Choice],
+    help: &'static str,
+    run: fn(&Args, &mut Streams) -> Result<Status, Stop>,
+}
+
+const COMMANDS: [Command; 6] = [
+    Command {
+        name: "pack",
+        choices: &[("out", true)],
+        help: help::PACK,
+        run: pack::pack,
+    },
+    Command {
+        name: "unpack",
+        choices: &[("out", true)],
+        help: help::UNPACK,
+        run: pack::unpack,
+    },
+    Command {
+        name: "check",
+        choices: &[("json", false)],
+        help: help::CHECK,
+        run: check::run,
+    },
+    Command {
+        name: "levels",
+        choices: &[("hour", true), ("json", false)],
+        help: help::LEVELS,
+        run: levels::run,
+    },
+    Command {
+        name: "test",
+        choices: &[
+            ("hour", true),
+            ("condition", true),
+            ("offer", true),
+            ("level", true),
+            ("price", true),
+            ("json", false),
+        ],
+        help: help::TEST,
+        run: conduct::run,
+    },
+    Command {
+        name: "day",
+        choices: &[
+            ("from", true),
+            ("hours", true),
+            ("svg", true),
+            ("at", true),
+            ("condition", true),
+            ("offer", true),
+            ("json", false),
+        ],
+        help: help::DAY,
+        run: day::run,
+    },
+];
+
+/// Carries out a call, given the words behind the program's name.
+pub fn run(words: &[OsString], streams: &mut Streams) -> Status {
+    let done = called(words, streams).and_then(|status| {
+        streams.out.flush()?;
+        Ok(status)
+    });
+    let says = match done {
+        Ok(status) => return status,
+        // Whoever reads the answers has enough of them.
+        Err(Stop::Io(error)) if error.kind() == ErrorKind::BrokenPipe => return Status::Done,
+        Err(Stop::Io(error)) => format!("the answer can't be written: {error}"),
+        Err(Stop::Use(says)) => says,
+    };
+    let name = words.first().and_then(|word| command(word));
+    let name = name.map_or(String::new(), |c| format!(" {}", c.name));
+    // Nothing is left to tell if standard error is gone too.
+    let _ = writeln!(streams.err, "bench{name}: {says}");
+    let _ = writeln!(streams.err, "'bench{name} --help' says how it is called");
+    Status::Wrong
+}
+
+fn command(word: &OsString) -> Option<&'static Command> {
+    COMMANDS.iter().find(|c| *word == *c.name)
+}
+
+fn called(words: &[OsString], streams: &mut Streams) -> Result<Status, Stop> {
+    let Some((first, rest)) = words.split_first() else {
+        return Err(Stop::Use("a command is missing".to_string()));
+    };
+    let asks = |word: &OsString| word == "--help" || word == "-h";
+    if asks(first) || first == "help" && rest.is_empty() {
+        write!(streams.out, "{}", help::ALL)?;
+        return Ok(Status::Done);
+    }
+    let (first, rest) = match (first == "help", rest) {
+        (true, [of, ..]) => (of, &[OsString::from("--help")][..]),
+        _ => (first, rest),
+    };
+    let Some(command) = command(first) else {
+        let shown = input::name(first);
+        return Err(Stop::Use(format!("no command is called {shown}")));
+    };
+    let options = rest.iter().take_while(|word| *word != "--");
+    if options.clone().any(asks) {
+        write!(streams.out, "{}", command.help)?;
+        return Ok(Status::Done);
+    }
+    let args = Args::read(rest, command.choices)?;
+    (command.run)(&args, streams)
+}

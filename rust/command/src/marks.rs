@@ -1,0 +1,361 @@
+//! Document 01's list of marks as people write it: one table of the records' fields, with their
+//! names, units and ranges. Lengths, places and keys follow from it.
+
+use crate::unit::{
+    decimal, parts, whole, Unit, CONDITION, DOLLARS, DOLLARS_PER_MWH, FINE_DOLLARS, LEVEL,
+    MEGAWATTS, PLAIN,
+};
+
+/// One kind of record.
+#[derive(Debug)]
+pub struct Mark {
+    pub letters: &'static str,
+    /// What such a record holds.
+    pub holds: &'static str,
+    /// The fields in the order of their bytes; those of the key come first. The issue number, which
+    /// every record begins with, is the first.
+    pub fields: &'static [Field],
+    /// How many fields behind the issue number form the key.
+    pub key: usize,
+}
+
+/// One field: its name, its bytes, the numbers it may hold and how they are written.
+#[derive(Clone, Copy, Debug)]
+pub struct Field {
+    pub name: &'static str,
+    pub width: usize,
+    pub lowest: i128,
+    pub highest: i128,
+    /// 0 is allowed too, though it lies below `lowest`.
+    pub or_zero: bool,
+    pub unit: Unit,
+}
+
+const ANY: i128 = 4_294_967_295;
+const PRICE: i128 = 200_000;
+
+const fn field(name: &'static str, width: usize, lowest: i128, highest: i128, unit: Unit) -> Field {
+    Field {
+        name,
+        width,
+        lowest,
+        highest,
+        or_zero: false,
+        unit,
+    }
+}
+
+/// A field from 0.
+const fn to(name: &'static str, width: usize, highest: i128, unit: Unit) -> Field {
+    field(name, width, 0, highest, unit)
+}
+
+/// A field of the key, from 1.
+const fn key(name: &'static str, width: usize, highest: i128) -> Field {
+    field(name, width, 1, highest, PLAIN)
+}
+
+/// A factor in thousandths, or 0.
+const fn factor(name: &'static str, highest: i128) -> Field {
+    Field {
+        or_zero: true,
+        ..field(name, 2, 500, highest, parts(3, ""))
+    }
+}
+
+const ISSUE: Field = to("issue", 4, ANY, PLAIN);
+const PRICED: Field = field("price", 4, -PRICE, PRICE, DOLLARS_PER_MWH);
+const PROFILE: Field = key("profile", 1, 4);
+const OF_LEVEL: Field = field("level", 1, 1, 4, LEVEL);
+const OUTPUT: Field = to("output", 2, 20_000, MEGAWATTS);
+
+const TECHNOLOGY: Unit =
+    PLAIN.with_words(&[("thermal", 1), ("nuclear", 2), ("storage", 3), ("hydro", 4)]);
+const COST: Unit = PLAIN.with_words(&[
+    ("scheduled", 1),
+    ("unscheduled", 2),
+    ("consumables", 3),
+    ("third-party", 4),
+    ("prorated-start", 5),
+]);
+
+const HYDRO: i128 = 4;
+const SHORT_WINDOW: i128 = 168;
+const WINDOW: &str = "hours (168 at most unless technology=hydro)";
+
+pub static MARKS: [Mark; 11] = [
+    Mark {
+        letters: "RS",
+        holds: "the station",
+        fields: &[
+            ISSUE,
+            field("technology", 1, 1, 4, TECHNOLOGY),
+            field("capacity", 2, 1, 20_000, MEGAWATTS),
+            factor("factor", 2_000),
+            to("start-heat", 4, 20_000_000, whole("MJ per start")),
+            to("no-load-heat", 4, 20_000_000, whole("MJ per hour")),
+            to(
+                "incremental-fuel",
+                4,
+                1_000_000,
+                whole("mg of uranium per MWh"),
+            ),
+            to("charge", 4, 1_000_000, parts(1, "MWh")),
+            factor("efficiency", 1_000),
+            to("window", 2, 4_000, whole(WINDOW)),
+        ],
+        key: 0,
+    },
+    Mark {
+        letters: "HP",
+        holds: "a point of the heat curve",
+        fields: &[
+            ISSUE,
+            key("point", 1, 21),
+            OUTPUT,
+            to("heat", 4, 20_000_000, whole("MJ per hour")),
+        ],
+        key: 1,
+    },
+    Mark {
+        letters: "FU",
+        holds: "the fuel of a profile",
+        fields: &[
+            ISSUE,
+            PROFILE,
+            to("fuel", 4, 400_000_000, FINE_DOLLARS),
+            to("emission", 4, 400_000_000, decimal(6, 2, "dollars per GJ")),
+        ],
+        key: 1,
+    },
+    Mark {
+        letters: "AD",
+        holds: "an amount added to a level",
+        fields: &[
+            ISSUE,
+            PROFILE,
+            field("cost", 1, 1, 5, COST),
+            OF_LEVEL,
+            to("amount", 8, 1_000_000_000_000, FINE_DOLLARS),
+        ],
+        key: 3,
+    },
+    Mark {
+        letters: "MM",
+        holds: "a maintenance item",
+        fields: &[
+            ISSUE,
+            PROFILE,
+            key("item", 1, 8),
+            to("cost", 8, 100_000_000_000, DOLLARS),
+            Field {
+                lowest: 1,
+                ..OUTPUT
+            },
+            field("interval", 4, 1, 1_000_000, whole("hours")),
+            to("start-hours", 2, 10_000, parts(1, "hours per start")),
+        ],
+        key: 2,
+    },
+    Mark {
+        letters: "RQ",
+        holds: "a request for a profile",
+        fields: &[
+            ISSUE,
+            key("request", 1, 16),
+            to("first", 4, ANY, PLAIN),
+            to("last", 4, ANY, PLAIN),
+            to("profile", 1, 4, PLAIN.with_words(&[("withdrawn", 0)])),
+        ],
+        key: 1,
+    },
+    Mark {
+        letters: "HR",
+        holds: "the price of an hour of the window",
+        fields: &[ISSUE, key("hour", 1, 168), PRICED],
+        key: 1,
+    },
+    Mark {
+        letters: "CH",
+        holds: "an interval of charging",
+        fields: &[
+            ISSUE,
+            key("interval", 2, 2_016),
+            PRICED,
+            to("energy", 4, 1_000_000, whole("kWh")),
+        ],
+        key: 1,
+    },
+    Mark {
+        letters: "TH",
+        holds: "the thresholds of a condition and level",
+        fields: &[
+            ISSUE,
+            field("condition", 1, 1, 3, CONDITION),
+            OF_LEVEL,
+            to("percent", 2, 10_000, PLAIN),
+            to("margin", 4, ANY, DOLLARS.with_words(&[("none", ANY)])),
+            to("floor", 4, ANY, DOLLARS),
+        ],
+        key: 2,
+    },
+    Mark {
+        letters: "FP",
+        holds: "a price of the forecast",
+        fields: &[ISSUE, key("place", 2, 4_000), PRICED],
+        key: 1,
+    },
+    Mark {
+        letters: "LC",
+        holds: "the last charging cost",
+        fields: &[
+            ISSUE,
+            to("cost", 4, 2_000_000_000, decimal(6, 2, "dollars per MWh")),
+        ],
+        key: 0,
+    },
+];
+
+impl Mark {
+    pub fn of(letters: &[u8]) -> Option<&'static Mark> {
+        MARKS.iter().find(|m| m.letters.as_bytes() == letters)
+    }
+
+    /// The whole length of such a record.
+    pub fn length(&self) -> usize {
+        let widths = self.fields.iter().map(|f| f.width);
+        self.letters.len() + widths.sum::<usize>()
+    }
+
+    /// The field of a name, with the place of its first byte.
+    pub fn field(&self, name: &str) -> Option<(&'static Field, usize)> {
+        self.places().find(|(f, _)| f.name == name)
+    }
+
+    /// The fields, each with the place of its first byte.
+    pub fn places(&self) -> impl Iterator<Item = (&'static Field, usize)> {
+        let mut at = self.letters.len();
+        self.fields.iter().map(move |field| {
+            let place = at;
+            at += field.width;
+            (field, place)
+        })
+    }
+
+    /// What 3 asks of two fields together, in words: a request's hours, and the window of an RS that
+    /// isn't hydroelectric. `number` gives the number of a field.
+    pub fn disagrees(&self, number: impl Fn(&str) -> i128) -> Option<String> {
+        match self.letters {
+            "RQ" if number("first") > number("last") => Some(format!(
+                "first={} is after last={}",
+                number("first"),
+                number("last")
+            )),
+            "RS" if number("technology") != HYDRO && number("window") > SHORT_WINDOW => {
+                Some(format!(
+                    "window={}: 0 to {SHORT_WINDOW} hours unless technology=hydro",
+                    number("window")
+                ))
+            }
+            _ => None,
+        }
+    }
+}
+
+impl Field {
+    /// The field's number, in bytes that are just its own: big-endian, signed if its range is.
+    pub fn number(&self, bytes: &[u8]) -> i128 {
+        let size = bytes.iter().fold(0, |n, b| n << 8 | i128::from(*b));
+        let limit = 1 << (8 * bytes.len());
+        if self.lowest < 0 && size >= limit / 2 {
+            size - limit
+        } else {
+            size
+        }
+    }
+
+    /// The bytes of a number in range.
+    pub fn bytes(&self, number: i128) -> Vec<u8> {
+        let bytes = number.to_be_bytes();
+        bytes[bytes.len() - self.width..].to_vec()
+    }
+
+    pub fn allows(&self, number: i128) -> bool {
+        (self.lowest..=self.highest).contains(&number) || self.or_zero && number == 0
+    }
+
+    /// The field with a number, as it stands in a line.
+    pub fn text(&self, number: i128) -> String {
+        format!("{}={}", self.name, self.unit.write(number))
+    }
+
+    /// The range in words.
+    pub fn range(&self) -> String {
+        let words: Vec<&str> = self.unit.words.iter().map(|(word, _)| *word).collect();
+        let number = |n: &i128| self.unit.word(*n).is_none();
+        let lowest = (self.lowest..=self.highest).find(number);
+        let highest = (self.lowest..=self.highest).rev().find(number);
+        let (Some(lowest), Some(highest)) = (lowest, highest) else {
+            return listed(&words);
+        };
+        let name = self.unit.name;
+        let gap = if name.is_empty() { "" } else { " " };
+        let (lowest, highest) = (self.unit.write(lowest), self.unit.write(highest));
+        let mut range = format!("{lowest} to {highest}{gap}{name}");
+        if self.or_zero {
+            range = format!("0 or {range}");
+        }
+        if !words.is_empty() {
+            range = format!("{range}, or {}", listed(&words));
+        }
+        range
+    }
+}
+
+/// Words in a row: `a, b or c`.
+pub fn listed(words: &[&str]) -> String {
+    match words {
+        [] => String::new(),
+        [only] => only.to_string(),
+        [first @ .., last] => format!("{} or {last}", first.join(", ")),
+    }
+}
+
+#[cfg(test)]
+mod tests {
+    use super::*;
+
+    #[test]
+    fn lengths_are_those_of_the_paper() {
+        let lengths: Vec<usize> = MARKS.iter().map(Mark::length).collect();
+        assert_eq!(lengths, [31, 13, 15, 17, 24, 16, 11, 16, 18, 12, 10]);
+    }
+
+    #[test]
+    fn ranges_in_words() {
+        let range = |mark: &str, name: &str| {
+            let mark = Mark::of(mark.as_bytes()).unwrap();
+            mark.field(name).unwrap().0.range()
+        };
+        assert_eq!(range("FU", "emission"), "0.00 to 400.00 dollars per GJ");
+        assert_eq!(range("RS", "factor"), "0 or 0.500 to 2.000");
+        assert_eq!(
+            range("RS", "technology"),
+            "thermal, nuclear, storage or hydro"
+        );
+        assert_eq!(
+            range("TH", "margin"),
+            "0.00 to 42949672.94 dollars, or none"
+        );
+        assert_eq!(range("RQ", "profile"), "1 to 4, or withdrawn");
+        assert_eq!(range("HR", "price"), "-2000.00 to 2000.00 dollars per MWh");
+        assert_eq!(range("HP", "point"), "1 to 21");
+    }
+
+    #[test]
+    fn a_negative_price_is_not_read_as_unsigned() {
+        for price in [-200_000, -1, 0, 1, 200_000] {
+            assert_eq!(PRICED.number(&PRICED.bytes(price)), price);
+        }
+    }
+}

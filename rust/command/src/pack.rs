@@ -1,0 +1,78 @@
+//! `bench pack` and `bench unpack`: a dossier from text, and text from a dossier.
+
+use crate::answer::{one, only_file, refused, wrong_lines, Said, Status, Stop, Streams};
+use crate::args::Args;
+use crate::explain::of_dossier;
+use crate::input::{is_cut, name, read_bytes};
+use crate::text::{pack as packed, unpack as unpacked};
+use bench::Refusal;
+use std::fs;
+use std::io::{self, IsTerminal};
+
+pub fn pack(args: &Args, streams: &mut Streams) -> Result<Status, Stop> {
+    convert(args, streams, |bytes| {
+        let dossier = packed(bytes).map_err(|lines| wrong_lines(&lines))?.dossier;
+        readable(&dossier, &[])?;
+        Ok(dossier)
+    })
+}
+
+pub fn unpack(args: &Args, streams: &mut Streams) -> Result<Status, Stop> {
+    convert(args, streams, |dossier| {
+        readable(dossier, &[])?;
+        Ok(unpacked(dossier).into_bytes())
+    })
+}
+
+/// Whether the library can read a dossier: 13 and 1 to 3. What it refuses later has a text all the
+/// same, and needs one most.
+fn readable(dossier: &[u8], lines: &[usize]) -> Result<(), Said> {
+    match bench::accept(dossier) {
+        Err(refusal) if matches!(refusal.number, 1..=3 | 13) => {
+            Err(refused(&of_dossier(refusal, dossier, lines)))
+        }
+        _ => Ok(()),
+    }
+}
+
+/// Writes what becomes of the one input; nothing is opened for writing before it is all there.
+fn convert(
+    args: &Args,
+    streams: &mut Streams,
+    become_of: impl Fn(&[u8]) -> Result<Vec<u8>, Said>,
+) -> Result<Status, Stop> {
+    let file = only_file(args)?;
+    let name = name(&file);
+    let bytes = read_bytes(&file).map_err(|says| format!("{name}: {says}"))?;
+    let result = if is_cut(&bytes) {
+        let refusal = Refusal {
+            number: 13,
+            place: 0,
+        };
+        Err(refused(&of_dossier(refusal, &[], &[])))
+    } else {
+        become_of(&bytes)
+    };
+    match result {
+        Ok(bytes) => write(args, streams, &bytes),
+        Err(said) => Ok(one(args, streams, &name, &said)?),
+    }
+}
+
+fn write(args: &Args, streams: &mut Streams, bytes: &[u8]) -> Result<Status, Stop> {
+    match args.value("out") {
+        Some(path) => write_file(path, bytes)?,
+        None if io::stdout().is_terminal() && !crate::text::is_text(bytes) => {
+            let says = "a dossier is bytes: send them to a file, with --out OUT";
+            return Err(Stop::Use(says.to_string()));
+        }
+        None => streams.out.write_all(bytes)?,
+    }
+    Ok(Status::Done)
+}
+
+/// Writes a file that a person asked for.
+pub fn write_file(path: &std::ffi::OsStr, bytes: &[u8]) -> Result<(), Stop> {
+    let says = |error| format!("{} can't be written: {error}", name(path));
+    Ok(fs::write(path, bytes).map_err(says)?)
+}
