@@ -289,15 +289,21 @@ impl Field {
         format!("{}={}", self.name, self.unit.write(number))
     }
 
+    /// Whether each of its numbers is written as a word.
+    pub fn is_word(&self) -> bool {
+        (self.lowest..=self.highest).all(|n| self.unit.word(n).is_some())
+    }
+
     /// The range in words.
     pub fn range(&self) -> String {
         let words: Vec<&str> = self.unit.words.iter().map(|(word, _)| *word).collect();
-        let number = |n: &i128| self.unit.word(*n).is_none();
-        let lowest = (self.lowest..=self.highest).find(number);
-        let highest = (self.lowest..=self.highest).rev().find(number);
-        let (Some(lowest), Some(highest)) = (lowest, highest) else {
+        if self.is_word() {
             return listed(&words);
-        };
+        }
+        let number = |n: &i128| self.unit.word(*n).is_none();
+        let numbers = self.lowest..=self.highest;
+        let lowest = numbers.clone().find(number).unwrap_or(self.lowest);
+        let highest = numbers.rev().find(number).unwrap_or(self.highest);
         let name = self.unit.name;
         let gap = if name.is_empty() { "" } else { " " };
         let (lowest, highest) = (self.unit.write(lowest), self.unit.write(highest));

@@ -119,6 +119,7 @@ fn numbers<'a>(mark: &Mark, words: impl Iterator<Item = &'a str>) -> Result<Vec<
 fn number(field: &Field, value: &str) -> Result<i128, String> {
     let places = match field.unit.read(value) {
         Ok(number) if field.allows(number) => return Ok(number),
+        _ if field.is_word() => String::new(),
         Err(Unreadable::Places(0)) => "a whole number, ".to_string(),
         Err(Unreadable::Places(places)) => format!("at most {places} places after the point, "),
         _ => String::new(),

@@ -105,7 +105,7 @@ fn value(random: &mut Random, field: Field) -> i128 {
 }
 
 /// A record of a mark with every field in range, whatever the technology.
-fn any_record(random: &mut Random, kind: &Kind) -> Vec<u8> {
+pub fn any_record(random: &mut Random, kind: &Kind) -> Vec<u8> {
     let mut record = vec![0; kind.length];
     record[..2].copy_from_slice(&kind.mark);
     for field in kind.fields {

@@ -1,0 +1,298 @@
+//! What the command says, held against the library and the model: words, JSON, statuses, and no
+//! panic on any input.
+
+#[path = "../../bench/tests/cases/mod.rs"]
+mod cases;
+mod json;
+
+use cases::{run, same, Check};
+use command::answer::{Status, Streams};
+use command::explain::of_dossier;
+use command::offer::{bytes, highest_for, highest_in, Pair};
+use command::text::{pack, unpack};
+use model::make;
+use model::make::offers::Target;
+use model::random::Random;
+use std::ffi::OsString;
+use std::path::PathBuf;
+use std::sync::atomic::{AtomicU64, Ordering};
+
+/// What a call came to: its status, standard output and standard error.
+struct Ended {
+    status: Status,
+    out: String,
+    err: String,
+}
+
+fn call(words: &[&str]) -> Ended {
+    let words: Vec<OsString> = words.iter().map(OsString::from).collect();
+    let (mut out, mut err) = (Vec::new(), Vec::new());
+    let mut streams = Streams {
+        out: &mut out,
+        err: &mut err,
+        watched: false,
+    };
+    let status = command::run(&words, &mut streams);
+    // a packed dossier is no text
+    let text = |bytes: Vec<u8>| String::from_utf8_lossy(&bytes).into_owned();
+    Ended {
+        status,
+        out: text(out),
+        err: text(err),
+    }
+}
+
+/// A file of its own that is gone when the test is.
+struct Kept(PathBuf);
+
+impl Kept {
+    fn new(bytes: &[u8]) -> Kept {
+        static NUMBER: AtomicU64 = AtomicU64::new(0);
+        let number = NUMBER.fetch_add(1, Ordering::Relaxed);
+        let name = format!("bench-answers-{}-{number}", std::process::id());
+        let path = std::env::temp_dir().join(name);
+        std::fs::write(&path, bytes).expect("a temporary file");
+        Kept(path)
+    }
+
+    fn name(&self) -> &str {
+        self.0.to_str().expect("a path that is text")
+    }
+}
+
+impl Drop for Kept {
+    fn drop(&mut self) {
+        let _ = std::fs::remove_file(&self.0);
+    }
+}
+
+/// Refused with the library's number and place, in words that name the record which stands there.
+#[test]
+fn refusals_name_their_record() {
+    run("refusals in words", 5_000, make::dossier, |_, dossier| {
+        let Err(refusal) = bench::accept(dossier) else {
+            return Ok(());
+        };
+        let explained = of_dossier(refusal, dossier, &[]);
+        let head = format!("refused {} at {}: ", refusal.number, refusal.place);
+        let words = explained.words();
+        same("head", words.starts_with(&head), true)?;
+        same("who", words.contains("who can mend it: the "), true)?;
+        let told = explained.record.is_some() || !explained.details.is_empty();
+        same(
+            "there is more to say",
+            told,
+            !matches!(refusal.number, 5 | 13),
+        )?;
+        if let (Some(record), 4 | 6) = (&explained.record, refusal.number) {
+            let packed = pack(record.text.as_bytes()).map_err(|wrong| format!("{wrong:?}"))?;
+            let stands = &dossier[refusal.place..][..packed.dossier.len()];
+            same("the record at the place", &packed.dossier[..], stands)?;
+        }
+        json::check(&explained.json().to_string())
+    });
+}
+
+/// The same dossier as bytes and as text, asked through files.
+#[test]
+fn bytes_and_text_give_the_same() {
+    run("bytes and text", 300, make::dossier, |random, dossier| {
+        let hour = make::hour(random, dossier).to_string();
+        let given = Kept::new(dossier);
+        let checked = call(&["check", given.name()]);
+        same(
+            "accepted",
+            checked.status == Status::Done,
+            bench::accept(dossier).is_ok(),
+        )?;
+        let levels = call(&["levels", given.name(), "--hour", &hour]);
+        let mut buffer = [0; 4_096];
+        let length = model::report(dossier, hour.parse().expect("an hour"), &mut buffer);
+        let report = &buffer[..length.unwrap_or(0)];
+        same("report", levels.out.as_bytes(), report)?;
+        if bench::accept(dossier).is_ok() {
+            let text = Kept::new(unpack(dossier).as_bytes());
+            let line = |ended: &Ended| ended.out.replace(text.name(), given.name());
+            let again = call(&["levels", text.name(), "--hour", &hour, "--json"]);
+            let bytes = call(&["levels", given.name(), "--hour", &hour, "--json"]);
+            same("JSON", line(&again), bytes.out)?;
+            json::check(&again.out)?;
+        }
+        Ok(())
+    });
+}
+
+/// Just below and above the highest price that the command names, the model passes and fails.
+#[test]
+fn the_highest_prices_are_the_limits() {
+    run("highest prices", 1_000, make::dossier, |random, dossier| {
+        let hour = make::hour(random, dossier);
+        let Ok(levels) = bench::levels(dossier, hour) else {
+            return Ok(());
+        };
+        let condition = make::offers::condition(random);
+        let lamination = levels.energy[random.below(levels.energy.len() as u64) as usize];
+        let offer = |price| {
+            let pair = |quantity, price| Pair { quantity, price };
+            let pairs = [pair(lamination.from, -200_000), pair(lamination.to, price)];
+            bytes(&pairs[usize::from(lamination.from == 0)..])
+        };
+        let test = |price| model::energy_test(dossier, hour, condition, &offer(price));
+        if !matches!(test(0), model::Verdict::Refused(_)) {
+            let highest = highest_in(dossier, hour, condition, &lamination);
+            turns(highest, 200_000, |price| {
+                test(price) == model::Verdict::Passes
+            })?;
+        }
+        let level = make::offers::level(random, &Target::of(dossier, hour));
+        let test = |price| model::price_test(dossier, hour, level, condition, price);
+        if !matches!(test(0), model::Verdict::Refused(_)) {
+            let highest = highest_for(dossier, hour, level, condition);
+            turns(highest, i32::MAX, |price| {
+                test(price) == model::Verdict::Passes
+            })?;
+        }
+        Ok(())
+    });
+}
+
+fn turns(highest: Option<i32>, last: i32, passes: impl Fn(i32) -> bool) -> Check {
+    match highest {
+        Some(price) => {
+            same("it passes", passes(price), true)?;
+            same("the next fails", passes(price + 1), false)
+        }
+        None => same("the last passes", passes(last), true),
+    }
+}
+
+/// Words of calls, good and bad, in any mixture.
+fn words(random: &mut Random, file: &str) -> Vec<String> {
+    let words = [
+        "pack",
+        "unpack",
+        "check",
+        "levels",
+        "test",
+        "day",
+        "help",
+        "--help",
+        "--json",
+        "--hour",
+        "--from",
+        "--hours",
+        "--at",
+        "--condition",
+        "--offer",
+        "--level",
+        "--price",
+        "--",
+        "--what",
+        "0",
+        "7",
+        "24",
+        "4294967295",
+        "4294967296",
+        "-1",
+        "narrow",
+        "global",
+        "wide",
+        "start",
+        "energy",
+        "3300.00",
+        "50.0@42.30,100.0@63.46",
+        "1@1@1",
+        ",",
+        "",
+        "é",
+        "\u{1b}[2J",
+        "--hour=3",
+        "--json=1",
+        "no-such-file",
+        "/",
+        "--svg",
+        "--out",
+    ];
+    let mut call = vec![random.pick(&words[..6]).to_string(), file.to_string()];
+    for _ in 0..random.below(9) {
+        call.push(random.pick(&words).to_string());
+    }
+    // What is written goes to a folder, which can't be written.
+    let names_output = |w: &String| w == "--svg" || w == "--out";
+    let outputs: Vec<usize> = (0..call.len())
+        .filter(|i| names_output(&call[*i]))
+        .collect();
+    for at in outputs.into_iter().rev() {
+        call.insert(at + 1, "/".to_string());
+    }
+    call
+}
+
+#[test]
+fn no_call_panics() {
+    run("calls", 3_000, make::dossier, |random, dossier| {
+        let text = random.one_in(2);
+        let file = Kept::new(&if text {
+            unpack(dossier).into_bytes()
+        } else {
+            dossier.to_vec()
+        });
+        let words = words(random, file.name());
+        let words: Vec<&str> = words.iter().map(String::as_str).collect();
+        let ended = call(&words);
+        let silent = ended.err.is_empty();
+        match ended.status {
+            Status::Wrong => same("wrong use is said", silent && ended.out.is_empty(), false),
+            _ => Ok(()),
+        }
+        .map_err(|what| format!("{what}: {words:?}"))
+    });
+}
+
+#[test]
+fn many_files_have_a_line_each_and_a_count() {
+    let good = Kept::new(&make::written::r1());
+    let bad = Kept::new(b"RS issue=1\n");
+    let ended = call(&["check", good.name(), bad.name(), "no-such-file"]);
+    let lines: Vec<&str> = ended.out.lines().collect();
+    assert_eq!(ended.status, Status::Wrong);
+    assert!(
+        lines[0].contains(": accepted: thermal, 100.0 MW"),
+        "{lines:?}"
+    );
+    assert!(
+        lines[1].contains(": line 1: RS: technology is missing: "),
+        "{lines:?}"
+    );
+    assert!(
+        lines[2].starts_with("no-such-file: can't be read: "),
+        "{lines:?}"
+    );
+    assert_eq!(lines[3], "3 files: 1 accepted, 1 refused, 1 unreadable");
+    assert_eq!(lines.len(), 4);
+    let ended = call(&["levels", good.name(), bad.name(), "--hour", "0", "--json"]);
+    ended
+        .out
+        .lines()
+        .for_each(|line| json::check(line).unwrap());
+    assert_eq!(ended.out.lines().count(), 2);
+    assert_eq!(ended.status, Status::Refused);
+}
+
+/// A person at a terminal sees how far the work is; the answers stay free of it.
+#[test]
+fn progress_is_shown_to_those_who_watch() {
+    let file = Kept::new(&make::written::r1());
+    let words = ["check", file.name(), file.name()].map(OsString::from);
+    let (mut out, mut err) = (Vec::new(), Vec::new());
+    let mut streams = Streams {
+        out: &mut out,
+        err: &mut err,
+        watched: true,
+    };
+    assert_eq!(command::run(&words, &mut streams), Status::Done);
+    let shown = String::from_utf8(err).expect("text");
+    assert!(shown.contains("1 of 2 files"), "{shown:?}");
+    assert!(shown.ends_with("\r\x1b[K"), "{shown:?}");
+    assert!(!String::from_utf8(out).expect("text").contains('\x1b'));
+}

@@ -1,0 +1,123 @@
+//! The command as people run it: a process with files, pipes and a status.
+
+use model::make::written::r1;
+use std::io::{ErrorKind, Read, Write};
+use std::path::Path;
+use std::process::{Command, Output, Stdio};
+
+const PROGRAM: &str = env!("CARGO_BIN_EXE_bench");
+
+/// What a call comes to, with this standard input.
+fn call(words: &[&str], input: &[u8]) -> Output {
+    let mut program = Command::new(PROGRAM)
+        .args(words)
+        .stdin(Stdio::piped())
+        .stdout(Stdio::piped())
+        .stderr(Stdio::piped())
+        .spawn()
+        .expect("the command starts");
+    let written = program.stdin.take().expect("a pipe").write_all(input);
+    // A call that is wrong ends before it reads.
+    assert!(written.is_ok() || written.is_err_and(|e| e.kind() == ErrorKind::BrokenPipe));
+    program.wait_with_output().expect("it ends")
+}
+
+fn text(bytes: &[u8]) -> String {
+    String::from_utf8_lossy(bytes).into_owned()
+}
+
+#[test]
+fn standard_input_as_text_and_bytes() {
+    let unpacked = call(&["unpack"], &r1());
+    let packed = call(&["pack", "-"], &unpacked.stdout);
+    assert_eq!(packed.stdout, r1());
+    for input in [&r1(), &unpacked.stdout] {
+        let levels = call(&["levels", "--hour", "0"], input);
+        assert!(text(&levels.stdout).starts_with("profile 1\nenergy 1 0.0 100.0 42.30\n"));
+        assert_eq!(levels.status.code(), Some(0));
+    }
+}
+
+#[test]
+fn statuses() {
+    let unheld = ["test", "--hour=0", "--condition=narrow", "--offer=1@1"];
+    for (words, input, status) in [
+        (&["check"][..], &r1()[..], 0),
+        (&["check"], b"", 1),
+        (&["check"], b"FU issue=1", 1),
+        (&unheld, &r1(), 1),
+        (&["levels"], &r1(), 2),
+        (&["what"], b"", 2),
+        (&[], b"", 2),
+        (&["check", "no-such-file"], b"", 2),
+        (&["check", "--help"], b"", 0),
+    ] {
+        let ended = call(words, input);
+        assert_eq!(ended.status.code(), Some(status), "{words:?}");
+        assert_eq!(ended.stderr.is_empty(), status == 0, "{words:?}");
+        assert_eq!(ended.stdout.is_empty(), status != 0, "{words:?}");
+    }
+}
+
+/// A line of `--help` names every option that the command takes.
+#[test]
+fn help_is_there_for_every_command() {
+    for command in ["pack", "unpack", "check", "levels", "test", "day"] {
+        for words in [&[command, "--help"][..], &["help", command]] {
+            let help = text(&call(words, b"").stdout);
+            assert!(help.starts_with(&format!("bench {command} ")), "{help}");
+        }
+        assert!(text(&call(&["--help"], b"").stdout).contains(&format!("bench {command} ")));
+    }
+}
+
+#[test]
+fn an_input_without_end_is_too_long() {
+    if Path::new("/dev/zero").exists() {
+        let ended = call(&["check", "/dev/zero"], b"");
+        assert!(text(&ended.stderr).starts_with("/dev/zero: refused 13 at 0: "));
+        assert_eq!(ended.status.code(), Some(1));
+        let ended = call(&["pack", "/dev/zero"], b"");
+        assert_eq!(ended.status.code(), Some(1));
+    }
+}
+
+/// A refused call leaves the file alone that it would have written.
+#[test]
+fn nothing_is_lost() {
+    let path = std::env::temp_dir().join(format!("bench-program-{}", std::process::id()));
+    let out = path.to_str().expect("a path that is text");
+    std::fs::write(&path, "kept").expect("a temporary file");
+    for (words, input) in [
+        (&["pack", "--out", out][..], &b"FU issue=1"[..]),
+        (&["unpack", "--out", out], b"FU issue=1"),
+        (&["day", "--from", "0", "--svg", out], b""),
+    ] {
+        assert_ne!(call(words, input).status.code(), Some(0));
+        assert_eq!(std::fs::read(&path).expect("still there"), b"kept");
+    }
+    let day = ["day", "--from", "0", "--svg", out];
+    assert_eq!(call(&day, &r1()).status.code(), Some(0));
+    let picture = std::fs::read_to_string(&path).expect("a picture");
+    assert!(picture.starts_with("<svg"), "{picture}");
+    std::fs::remove_file(&path).expect("removed");
+}
+
+/// Whoever reads the answers may stop before they end.
+#[test]
+fn a_closed_pipe_is_no_panic() {
+    let file = concat!(env!("CARGO_MANIFEST_DIR"), "/../../examples/thermal.txt");
+    let mut program = Command::new(PROGRAM)
+        .args(["day", file, "--from", "0", "--hours", "8784"])
+        .stdout(Stdio::piped())
+        .stderr(Stdio::piped())
+        .spawn()
+        .expect("the command starts");
+    let mut some = [0; 10];
+    let mut stdout = program.stdout.take().expect("a pipe");
+    stdout.read_exact(&mut some).expect("the first bytes");
+    drop(stdout);
+    let ended = program.wait_with_output().expect("it ends");
+    assert_eq!(text(&ended.stderr), "");
+    assert_eq!(ended.status.code(), Some(0));
+}

@@ -1,0 +1,245 @@
+//! Dossiers as text: every readable dossier comes back, and a wrong line is refused by its number,
+//! its field and the range.
+
+#[path = "../../bench/tests/cases/mod.rs"]
+mod cases;
+
+use cases::{run, same, Check};
+use command::marks::{Field, Mark, MARKS};
+use command::record::records;
+use command::text::{is_text, pack, unpack};
+use model::make;
+use model::random::Random;
+use model::table::TABLE;
+
+/// Any dossier that draws none of 13 and 1 to 3, whatever else it draws.
+fn readable(random: &mut Random) -> Vec<u8> {
+    let room = if random.one_in(100) { 60_000 } else { 600 };
+    let room = random.between(0, room) as usize;
+    let mut dossier = Vec::new();
+    loop {
+        let kind = &TABLE[random.below(TABLE.len() as u64) as usize];
+        let record = make::any_record(random, kind);
+        if dossier.len() + record.len() > room {
+            return dossier;
+        }
+        dossier.extend(record);
+    }
+}
+
+/// Whether the library can read a dossier.
+fn reads(dossier: &[u8]) -> bool {
+    let refusal = bench::accept(dossier).err();
+    !refusal.is_some_and(|r| matches!(r.number, 1..=3 | 13))
+}
+
+fn packed(text: &str) -> Result<Vec<u8>, String> {
+    let packed = pack(text.as_bytes()).map_err(|wrong| format!("{wrong:?}"))?;
+    Ok(packed.dossier)
+}
+
+fn comes_back(_: &mut Random, dossier: &[u8]) -> Check {
+    same("readable", reads(dossier), true)?;
+    let text = unpack(dossier);
+    let packed = pack(text.as_bytes()).map_err(|wrong| format!("{wrong:?}"))?;
+    same("bytes", &packed.dossier[..], dossier)?;
+    let lines: Vec<usize> = (1..=records(dossier).count()).collect();
+    same("lines", packed.lines, lines)?;
+    let other = records(dossier).any(|r| r.mark.letters != "LC");
+    same("the text is text", is_text(text.as_bytes()), true)?;
+    same("the dossier is none", other && is_text(dossier), false)
+}
+
+#[test]
+fn every_readable_dossier_comes_back() {
+    run("readable dossiers", 20_000, readable, comes_back);
+}
+
+/// The table of marks tells just what the library reads.
+#[test]
+fn dossiers_of_every_sort() {
+    run(
+        "dossiers as text",
+        20_000,
+        make::dossier,
+        |random, dossier| {
+            let whole: usize = records(dossier).map(|r| r.bytes.len()).sum();
+            let in_range = records(dossier).all(|r| r.faults().is_empty());
+            let reads_here = whole == dossier.len() && in_range && whole <= 60_000;
+            same("readable", reads_here, reads(dossier))?;
+            if reads_here {
+                comes_back(random, dossier)?;
+            }
+            Ok(())
+        },
+    );
+}
+
+/// Every field of every mark at the ends of its range and one beyond, beside the library.
+#[test]
+fn ranges_are_those_of_the_library() {
+    for mark in &MARKS {
+        for (field, at) in mark.places() {
+            for number in edges(field) {
+                let mut record = lowest(mark);
+                record[at..at + field.width].copy_from_slice(&field.bytes(number));
+                let read = records(&record).next().expect("a whole record");
+                let faults = read.faults();
+                assert_eq!(
+                    faults.is_empty(),
+                    reads(&record),
+                    "{} {faults:?}",
+                    read.text()
+                );
+            }
+        }
+    }
+}
+
+/// The numbers at the ends of a field that its bytes can hold, and those next to them.
+fn edges(field: &Field) -> Vec<i128> {
+    let ends = [field.lowest, field.highest, 0, 168, 499, 500];
+    let near = ends.iter().flat_map(|end| [end - 1, *end, end + 1]);
+    near.filter(|n| field.number(&field.bytes(*n)) == *n)
+        .collect()
+}
+
+/// A record with every field at its lowest but the last hour of a request, which is at its highest.
+fn lowest(mark: &Mark) -> Vec<u8> {
+    let number = |f: &Field| {
+        if f.name == "last" {
+            f.highest
+        } else {
+            f.lowest
+        }
+    };
+    let fields = mark.fields.iter().flat_map(|f| f.bytes(number(f)));
+    mark.letters.bytes().chain(fields).collect()
+}
+
+/// The same text in another layout: fields in any order, spaces, comments, blank lines and other line
+/// ends.
+fn untidy(random: &mut Random, text: &str) -> String {
+    let end = random.pick(&["\n", "\r\n", " # why\n", "\t\n\n", "\n# a comment\n"]);
+    let mut other = random
+        .pick(&["", "\u{feff}", "# first\n", "\n"])
+        .to_string();
+    for line in text.lines() {
+        let mut words: Vec<&str> = line.split(' ').collect();
+        random.shuffle(&mut words[1..]);
+        other += random.pick(&["", " ", "\t"]);
+        other += &words.join(random.pick(&[" ", "  ", "\t"]));
+        other += end;
+    }
+    other
+}
+
+#[test]
+fn layout_says_nothing() {
+    run("texts", 5_000, readable, |random, dossier| {
+        let text = unpack(dossier);
+        let other = untidy(random, &text);
+        let again = packed(&other).map_err(|wrong| format!("{wrong} in {other:?}"))?;
+        same("bytes", &again[..], dossier)?;
+        same("text", unpack(&again), text)
+    });
+}
+
+/// A line with one field changed for the worse, and what the refusal has to name.
+fn spoilt(random: &mut Random, line: &str) -> (String, String) {
+    let mut words: Vec<String> = line.split(' ').map(str::to_string).collect();
+    let mark = Mark::of(words[0].as_bytes()).expect("a mark");
+    let at = 1 + random.below(mark.fields.len() as u64) as usize;
+    let field = &mark.fields[at - 1];
+    let (name, range) = (field.name, field.range());
+    let value = |value: &str| format!("{name}={value}");
+    let above = field.unit.write(field.highest + 1);
+    let named = match random.below(7) {
+        0 => {
+            words.remove(at);
+            format!("{name} is missing: {range}")
+        }
+        1 => {
+            words.push(words[at].clone());
+            format!("{name} stands twice")
+        }
+        2 => {
+            words[at] = value("much");
+            format!("{}: {range}", value("much"))
+        }
+        3 => {
+            words[at] = format!("{name}s=1");
+            format!("'{name}s' is no field")
+        }
+        4 => {
+            words[at] = value("0.0000001");
+            range
+        }
+        5 => {
+            words[at] = name.to_string();
+            format!("'{name}' is no field: name=value")
+        }
+        _ => {
+            words[at] = value(&above);
+            format!("{}: {range}", value(&above))
+        }
+    };
+    (words.join(" "), named)
+}
+
+#[test]
+fn a_wrong_line_is_named() {
+    run("wrong lines", 10_000, readable, |random, dossier| {
+        let text = unpack(dossier);
+        let mut lines: Vec<String> = text.lines().map(str::to_string).collect();
+        if lines.is_empty() {
+            return Ok(());
+        }
+        let at = random.below(lines.len() as u64) as usize;
+        let (line, named) = spoilt(random, &lines[at]);
+        lines[at] = line;
+        let wrong = pack(lines.join("\n").as_bytes()).expect_err("a wrong line");
+        same("wrong lines", wrong.len(), 1)?;
+        same("its number", wrong[0].line, at + 1)?;
+        same(&named, wrong[0].says.contains(&named), true)
+            .map_err(|what| format!("{what}: {:?}", wrong[0]))
+    });
+}
+
+/// Bytes that nobody ordered are either a text that packs to a readable dossier, or refused.
+#[test]
+fn noise_as_text() {
+    run("noise as text", 10_000, readable, |random, dossier| {
+        let mut text = unpack(dossier).into_bytes();
+        for _ in 0..random.below(4) {
+            let at = random.below(text.len() as u64 + 1) as usize;
+            match text.get_mut(at) {
+                Some(byte) if random.one_in(2) => *byte = random.next() as u8,
+                _ => text.insert(at, random.pick(b" =.-#\n0919LCR\xFF\x00")),
+            }
+        }
+        match pack(&text) {
+            Ok(packed) => same("readable", reads(&packed.dossier), true),
+            Err(wrong) => same("something is wrong", wrong.is_empty(), false),
+        }
+    });
+}
+
+#[test]
+fn a_dossier_that_grows_too_long_is_refused_at_its_line() {
+    let line = "LC issue=1 cost=0.00\n";
+    assert_eq!(packed(&line.repeat(6_000)).map(|d| d.len()), Ok(60_000));
+    let wrong = pack(line.repeat(6_001).as_bytes()).expect_err("too long");
+    assert_eq!(wrong.len(), 1);
+    assert_eq!(wrong[0].line, 6_001);
+}
+
+/// The one mark without a byte that no text has: such a dossier looks like text, and is refused
+/// either way, having no station.
+#[test]
+fn last_costs_alone_may_look_like_text() {
+    let dossier = b"LC issue=3";
+    assert!(reads(dossier) && is_text(dossier));
+    assert_eq!(unpack(dossier), "LC issue=543781747 cost=1969.569075\n");
+    assert_eq!(bench::accept(dossier).map_err(|r| r.number), Err(5));
+}
