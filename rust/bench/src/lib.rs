@@ -1,25 +1,14 @@
 //! Bench from Rust: safe functions over its static library.
-//!
-//! Each group of functions stands behind the feature of its name, so that the crate links against
-//! a library that has only some of them.
 
-#[cfg(feature = "accept")]
 mod accept;
-#[cfg(feature = "conduct")]
 mod conduct;
-#[cfg(feature = "levels")]
 mod levels;
 mod raw;
-#[cfg(feature = "report")]
 mod report;
 
-#[cfg(feature = "accept")]
 pub use accept::{accept, current, Part};
-#[cfg(feature = "conduct")]
 pub use conduct::{energy_test, price_test, Verdict};
-#[cfg(feature = "levels")]
 pub use levels::{levels, levels_into, Lamination, Levels, WORDS};
-#[cfg(feature = "report")]
 pub use report::report;
 
 /// Why a call is turned back: the number of the rule, and the place.
@@ -56,7 +45,6 @@ impl Word {
     }
 
     /// The answer of a function that doesn't judge an offer.
-    #[cfg(any(feature = "accept", feature = "levels", feature = "report"))]
     fn value(word: u64) -> Result<u64, Refusal> {
         match Word::of(word) {
             Word::Value(value) => Ok(value),

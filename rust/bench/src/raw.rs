@@ -2,14 +2,11 @@
 //! answer is one word, class × 2^56 + a × 2^32 + b.
 
 extern "C" {
-    #[cfg(feature = "accept")]
     pub fn bench_accept(dossier: *const u8, length: usize) -> u64;
 
     /// The mark's first letter is the high byte; the key bytes form one number, 0 for RS and LC.
-    #[cfg(feature = "accept")]
     pub fn bench_current(dossier: *const u8, length: usize, mark: u16, key: u32) -> u64;
 
-    #[cfg(feature = "levels")]
     pub fn bench_levels(
         dossier: *const u8,
         length: usize,
@@ -18,7 +15,6 @@ extern "C" {
         count: usize,
     ) -> u64;
 
-    #[cfg(feature = "conduct")]
     pub fn bench_energy_test(
         dossier: *const u8,
         length: usize,
@@ -28,7 +24,6 @@ extern "C" {
         offer_length: usize,
     ) -> u64;
 
-    #[cfg(feature = "conduct")]
     pub fn bench_price_test(
         dossier: *const u8,
         length: usize,
@@ -38,7 +33,6 @@ extern "C" {
         price: i32,
     ) -> u64;
 
-    #[cfg(feature = "report")]
     pub fn bench_report(
         dossier: *const u8,
         length: usize,

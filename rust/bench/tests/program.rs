@@ -1,5 +1,4 @@
 //! The program `levels` as its users run it: bytes in, lines out.
-#![cfg(feature = "report")]
 
 mod cases;
 

@@ -1,14 +1,10 @@
 //! Bench against the model, group by group.
 
-#[cfg(feature = "accept")]
 mod accept;
 #[path = "../cases/mod.rs"]
 mod cases;
-#[cfg(feature = "conduct")]
 mod conduct;
-#[cfg(feature = "levels")]
 mod levels;
-#[cfg(feature = "report")]
 mod report;
 
 /// The model's refusal from Bench's.
