@@ -2,31 +2,60 @@
 
 use crate::{raw, Refusal, Word};
 
-/// How many words the levels take: profile, number of laminations, from, to and cents of 20
-/// laminations, the held levels as bits, and start, no-load and reserve in cents.
+/// How many words [`levels_into`] writes.
+///
+/// | Word | What it says |
+/// |---|---|
+/// | 0 | the profile |
+/// | 1 | the number of laminations, 1 to 20 |
+/// | 2 to 61 | from and to (0.1 MW) and level (cents) of each lamination, 0 past the last |
+/// | 62 | the levels held, a bit each: 1 energy, 2 start, 4 no-load, 8 reserve |
+/// | 63, 64, 65 | start, no-load and reserve (cents), 0 where not held |
 pub const WORDS: usize = 66;
 
 const STEPS: usize = 2;
 const HELD: usize = 62;
 
-/// The levels of an hour in cents. A level that the technology lacks is `None`.
+/// The levels at an hour. A level that the technology doesn't hold is `None`.
 #[derive(Clone, Debug, PartialEq, Eq)]
 pub struct Levels {
+    /// The profile that counts at the hour, 1 to 4.
     pub profile: u8,
+    /// The energy level, 1 to 20 laminations from 0 MW to the capacity without a gap.
     pub energy: Vec<Lamination>,
+    /// In cents per start; thermal stations alone.
     pub start: Option<u64>,
+    /// In cents per hour; thermal stations alone.
     pub no_load: Option<u64>,
+    /// In cents per MW; all but nuclear stations.
     pub reserve: Option<u64>,
 }
 
-/// One step of the energy level; its ends are in 0.1 MW.
+/// One step of the energy level.
 #[derive(Clone, Copy, Debug, PartialEq, Eq)]
 pub struct Lamination {
+    /// The lower end, in 0.1 MW.
     pub from: u16,
+    /// The upper end, in 0.1 MW.
     pub to: u16,
+    /// In cents per MWh.
     pub level: u64,
 }
 
+/// The levels at an hour. A refusal is the one of [`accept`](crate::accept).
+///
+/// ```
+/// # mod r1 { include!(concat!(env!("CARGO_MANIFEST_DIR"), "/doc/r1.rs")); }
+/// # let dossier = r1::dossier();
+/// let levels = bench::levels(&dossier, 0)?;
+/// assert_eq!(levels.profile, 1);
+/// let whole = bench::Lamination { from: 0, to: 1_000, level: 4_230 };
+/// assert_eq!(levels.energy, [whole]);
+/// assert_eq!(levels.start, Some(330_000));
+/// assert_eq!(levels.no_load, Some(50_000));
+/// assert_eq!(levels.reserve, Some(25));
+/// # Ok::<(), bench::Refusal>(())
+/// ```
 pub fn levels(dossier: &[u8], hour: u32) -> Result<Levels, Refusal> {
     let mut words = [0; WORDS];
     levels_into(dossier, hour, &mut words)?;
@@ -51,8 +80,25 @@ fn lamination(words: &[u64]) -> Lamination {
     }
 }
 
-/// Writes the levels to the first words of a lent list and gives their number. A refused call, 15
-/// for a short list among them, leaves every word.
+/// Writes the levels at an hour to the first words of a lent list and gives their number,
+/// [`WORDS`]; words past them stay. It allocates nothing.
+///
+/// Beside what [`accept`](crate::accept) refuses, it refuses a list of fewer words (15). A refused
+/// call leaves every word.
+///
+/// ```
+/// # mod r1 { include!(concat!(env!("CARGO_MANIFEST_DIR"), "/doc/r1.rs")); }
+/// # let dossier = r1::dossier();
+/// let mut words = [7; bench::WORDS + 1];
+/// assert_eq!(bench::levels_into(&dossier, 0, &mut words), Ok(66));
+/// assert_eq!(words[..5], [1, 1, 0, 1_000, 4_230]);
+/// assert_eq!(words[62..], [0b1111, 330_000, 50_000, 25, 7]);
+///
+/// let mut short = [7; bench::WORDS - 1];
+/// let refusal = bench::Refusal { number: 15, place: 0 };
+/// assert_eq!(bench::levels_into(&dossier, 0, &mut short), Err(refusal));
+/// assert_eq!(short, [7; 65]);
+/// ```
 pub fn levels_into(dossier: &[u8], hour: u32, words: &mut [u64]) -> Result<usize, Refusal> {
     let (list, count) = (words.as_mut_ptr(), words.len());
     // SAFETY: the library reads the dossier's bytes and writes within the list.

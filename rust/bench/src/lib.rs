@@ -1,4 +1,84 @@
-//! Bench from Rust: safe functions over its static library.
+//! The reference levels of a station, and the conduct test: safe functions over Bench's static
+//! library.
+//!
+//! A market operator holds a station's energy and reserve offers against reference levels, which
+//! come from the station's costs. Bench is lent these costs as a *dossier*, a list of bytes, and
+//! says what the levels are at an hour, and whether an offer passes the conduct test. What it
+//! answers is proved for every dossier there is; `docs/PROMISE.md` of the repository has the
+//! theorems in words.
+//!
+//! # The dossier
+//!
+//! At most 60,000 bytes of records, back to back, in any order. A record has a mark of two letters,
+//! an issue number and some fields, which begin with its key (a heat point has its number as key, a
+//! fuel price the profile that it is for). Of the records with one mark and key, the one with the
+//! highest issue is *current*, wherever it lies; older ones stay and say nothing. `docs/LIBRARY.md`
+//! lists the marks with their fields.
+//!
+//! ```
+#![doc = include_str!("../doc/r1.rs")]
+//!
+//! # fn main() -> Result<(), bench::Refusal> {
+//! let dossier = dossier();
+//! bench::accept(&dossier)?;
+//!
+//! let levels = bench::levels(&dossier, 0)?;
+//! assert_eq!(levels.energy[0].level, 4_230); // 42.30 dollars per MWh
+//! assert_eq!(levels.reserve, Some(25));
+//! # Ok(())
+//! # }
+//! ```
+//!
+//! # What the calls answer
+//!
+//! - [`accept`]: whether the dossier is one that levels can be worked out from.
+//! - [`levels`] and [`levels_into`]: the levels at an hour, as a struct or as words.
+//! - [`energy_test`] and [`price_test`]: whether an offer passes the conduct test at an hour.
+//! - [`report`]: the levels at an hour as lines of text.
+//! - [`current`]: where the current record of a mark and key lies.
+//!
+//! A call is refused where the dossier, the offer or what is asked breaks a rule: a [`Refusal`] has
+//! the number of the rule and the place. A refused call shows no level and writes nothing to what
+//! it is lent.
+//!
+//! ```
+//! # mod r1 { include!(concat!(env!("CARGO_MANIFEST_DIR"), "/doc/r1.rs")); }
+//! # use r1::{dossier, record};
+//! // a fuel price with the issue of one that is there
+//! let twice = record(b"FU", 1, &[(1, 1), (4, 5_000_000), (4, 1_000_000)]);
+//! let longer = [dossier(), twice].concat();
+//!
+//! let refusal = bench::accept(&longer).unwrap_err();
+//! assert_eq!(refusal.number, 4); // a mark, key and issue that came before
+//! assert_eq!(refusal.place, 166); // where the later of the two begins
+//! assert_eq!(bench::levels(&longer, 0), Err(refusal));
+//! ```
+//!
+//! # Units
+//!
+//! Levels and prices are in cents: per MWh for energy, per start, per hour for no-load, per MW for
+//! reserve. Quantities are in 0.1 MW. An hour is any number from 0 to 4,294,967,295, and means what
+//! it means in the dossier's requests (RQ); places are in bytes, from 0. Levels and conditions have
+//! numbers:
+//!
+//! | Number | Level | Condition |
+//! |---|---|---|
+//! | 1 | energy | narrow |
+//! | 2 | start | broad |
+//! | 3 | no-load | global |
+//! | 4 | reserve | |
+//!
+//! # Panics
+//!
+//! No function panics on any input. Each does where the library answers what its proved contract
+//! rules out ("the library answered with class 7"): then another library has been linked.
+//!
+//! # Memory and threads
+//!
+//! The library has no state and allocates nothing; here only [`levels`] does, for its list. Any
+//! number of threads may call at once. A call takes at most 124,000 bytes of stack, so that a thread
+//! should have 256 KiB; those that `std` starts have 2 MiB.
+#![warn(missing_docs)]
 
 mod accept;
 mod conduct;
@@ -9,14 +89,34 @@ mod report;
 pub use accept::{accept, current, Part};
 pub use conduct::{energy_test, price_test, Verdict};
 pub use levels::{levels, levels_into, Lamination, Levels, WORDS};
-pub use report::report;
+pub use report::{report, REPORT_BYTES};
 
-/// Why a call is turned back: the number of the rule, and the place.
+use std::fmt;
+
+/// Why a call is turned back. It prints as the program `levels` does.
+///
+/// ```
+/// let refusal = bench::accept(b"").unwrap_err();
+/// assert_eq!(refusal.to_string(), "refused 5 at 0"); // no station record
+/// ```
 #[derive(Clone, Copy, Debug, PartialEq, Eq)]
 pub struct Refusal {
+    /// The rule, 1 to 17; README.md of the repository lists them.
     pub number: u32,
+    /// The byte of the dossier where the refused record begins, or of the offer where the refused
+    /// pair does; the length of either where the whole of it is refused; 0 for the rest.
+    ///
+    /// An offer above 4,294,967,295 bytes has its length cut to the low 32 bits.
     pub place: usize,
 }
+
+impl fmt::Display for Refusal {
+    fn fmt(&self, out: &mut fmt::Formatter<'_>) -> fmt::Result {
+        write!(out, "refused {} at {}", self.number, self.place)
+    }
+}
+
+impl std::error::Error for Refusal {}
 
 /// The library's answer word, taken apart.
 #[derive(Clone, Copy, Debug, PartialEq, Eq)]

@@ -2,8 +2,31 @@
 
 use crate::{raw, Refusal, Word};
 
-/// Writes the report to the first bytes of a lent buffer and gives its length. A refused call, 15
-/// for a short buffer among them, leaves every byte.
+/// A buffer of this many bytes holds every report.
+pub const REPORT_BYTES: usize = 2_283;
+
+/// Writes the report at an hour to the first bytes of a lent buffer and gives its length; bytes past
+/// it stay. The report is ASCII, levels in dollars and ends of laminations in MW.
+///
+/// Beside what [`accept`](crate::accept) refuses, it refuses a buffer that the report doesn't fit
+/// (15), which one of [`REPORT_BYTES`] never is. A refused call leaves every byte.
+///
+/// ```
+/// # mod r1 { include!(concat!(env!("CARGO_MANIFEST_DIR"), "/doc/r1.rs")); }
+/// # let dossier = r1::dossier();
+/// let mut buffer = [0; bench::REPORT_BYTES];
+/// let length = bench::report(&dossier, 0, &mut buffer)?;
+/// let text = std::str::from_utf8(&buffer[..length]).expect("ASCII");
+/// assert_eq!(
+///     text,
+///     "profile 1\n\
+///      energy 1 0.0 100.0 42.30\n\
+///      start 3300.00\n\
+///      no-load 500.00\n\
+///      reserve 0.25\n"
+/// );
+/// # Ok::<(), bench::Refusal>(())
+/// ```
 pub fn report(dossier: &[u8], hour: u32, buffer: &mut [u8]) -> Result<usize, Refusal> {
     let (lent, room) = (buffer.as_mut_ptr(), buffer.len());
     // SAFETY: the library reads the dossier's bytes and writes within the buffer.
