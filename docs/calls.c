@@ -1,0 +1,175 @@
+/* Every call of the library from C, on case R1 of README.md with two thresholds. docs/calls.py is the same from Python; both print docs/calls.out.
+ * With the library built (rt staticlib bench), at the root of the repository:
+ *
+ *   cc -std=c99 -Iinclude -o target/calls docs/calls.c target/staticlib/libbench.a && target/calls
+ */
+#include <inttypes.h>
+#include <stdio.h>
+
+#include "bench.h"
+
+enum { NARROW = 1, RESERVE = 4, HOUR = 0 };
+
+/* Bytes in the making: a dossier or an offer. */
+struct bytes {
+    uint8_t at[1000];
+    size_t length;
+};
+
+/* A number of so many bytes, the high byte first. */
+static void put(struct bytes *to, int width, uint64_t number) {
+    while (width-- > 0) to->at[to->length++] = (uint8_t)(number >> 8 * width);
+}
+
+/* What a record begins with: its mark and its issue. Its fields come next. */
+static void begin(struct bytes *dossier, const char *mark, uint32_t issue) {
+    put(dossier, 1, (uint8_t)mark[0]);
+    put(dossier, 1, (uint8_t)mark[1]);
+    put(dossier, 4, issue);
+}
+
+static void put_station(struct bytes *dossier) {
+    begin(dossier, "RS", 1);
+    put(dossier, 1, 1);      /* technology: thermal */
+    put(dossier, 2, 1000);   /* capacity: 100.0 MW */
+    put(dossier, 2, 1000);   /* performance factor: 1.000 */
+    put(dossier, 4, 500000); /* MJ per start */
+    put(dossier, 4, 100000); /* MJ per hour at no load */
+    put(dossier, 4, 0);      /* incremental fuel: nuclear alone */
+    put(dossier, 4, 0);      /* state of charge: storage alone */
+    put(dossier, 2, 0);      /* charging efficiency: storage alone */
+    put(dossier, 2, 0);      /* window: storage and hydroelectric alone */
+}
+
+/* A point of the heat curve: its number, its output in 0.1 MW, its heat in MJ per hour. */
+static void put_point(struct bytes *dossier, int point, int output, uint32_t heat) {
+    begin(dossier, "HP", 1);
+    put(dossier, 1, point);
+    put(dossier, 2, output);
+    put(dossier, 4, heat);
+}
+
+/* The fuel price of profile 1 in micro-dollars per GJ, with emission at 1.00 dollar. */
+static void put_fuel(struct bytes *dossier, uint32_t issue, uint32_t fuel) {
+    begin(dossier, "FU", issue);
+    put(dossier, 1, 1);
+    put(dossier, 4, fuel);
+    put(dossier, 4, 1000000);
+}
+
+/* Consumables (cost 3) of profile 1 for a level, in micro-dollars. */
+static void put_adder(struct bytes *dossier, int level, uint64_t amount) {
+    begin(dossier, "AD", 1);
+    put(dossier, 1, 1);
+    put(dossier, 1, 3);
+    put(dossier, 1, level);
+    put(dossier, 8, amount);
+}
+
+static void put_maintenance(struct bytes *dossier) {
+    begin(dossier, "MM", 1);
+    put(dossier, 1, 1);         /* profile */
+    put(dossier, 1, 1);         /* item */
+    put(dossier, 8, 200000000); /* cost: 2,000,000.00 dollars */
+    put(dossier, 2, 1000);      /* output: 100.0 MW */
+    put(dossier, 4, 25000);     /* interval in hours */
+    put(dossier, 2, 100);       /* 10.0 hours per start */
+}
+
+/* How far above a level a price may be under the narrow condition: percent, and a margin in cents, all ones for none. The floor is 0. */
+static void put_threshold(struct bytes *dossier, int level, int percent, uint32_t margin) {
+    begin(dossier, "TH", 1);
+    put(dossier, 1, NARROW);
+    put(dossier, 1, level);
+    put(dossier, 2, percent);
+    put(dossier, 4, margin);
+    put(dossier, 4, 0);
+}
+
+static struct bytes r1(void) {
+    struct bytes dossier = {{0}, 0};
+    put_station(&dossier);
+    put_point(&dossier, 1, 500, 500000);
+    put_point(&dossier, 2, 1000, 900000);
+    put_fuel(&dossier, 1, 4000000);
+    put_adder(&dossier, 1, 1500000);
+    put_adder(&dossier, RESERVE, 250000);
+    put_maintenance(&dossier);
+    put_threshold(&dossier, 1, 50, 2500);
+    put_threshold(&dossier, RESERVE, 100, UINT32_MAX);
+    return dossier;
+}
+
+/* What was asked, and what an answer says; `good` is what class 0 means here. */
+static void say(const char *asked, uint64_t answer, const char *good) {
+    switch (bench_class(answer)) {
+    case 0: printf("%s: %s\n", asked, good); break;
+    case 1: printf("%s: fails, pair %" PRIu32 ", lamination %" PRIu32 "\n", asked, bench_a(answer), bench_b(answer)); break;
+    default: printf("%s: refused %" PRIu32 " at %" PRIu32 "\n", asked, bench_a(answer), bench_b(answer));
+    }
+}
+
+static void show_report(const struct bytes *dossier) {
+    uint8_t buffer[BENCH_REPORT_BYTES];
+    uint64_t answer = bench_report(dossier->at, dossier->length, HOUR, buffer, sizeof buffer);
+    say("report", answer, "written");
+    if (bench_class(answer) == 0) fwrite(buffer, 1, bench_b(answer), stdout);
+}
+
+static void show_levels(const struct bytes *dossier) {
+    static const char *const names[] = {"start", "no-load", "reserve"};
+    uint64_t words[BENCH_WORDS];
+    uint64_t answer = bench_levels(dossier->at, dossier->length, HOUR, words, BENCH_WORDS);
+    say("levels", answer, "written");
+    if (bench_class(answer) != 0) return;
+    printf("profile %" PRIu64 "\n", words[0]);
+    for (uint64_t i = 0; i < words[1]; i++) {
+        const uint64_t *step = words + 2 + 3 * i;
+        printf("lamination %" PRIu64 ", %" PRIu64 " to %" PRIu64 ": %" PRIu64 " cents\n", i + 1, step[0], step[1], step[2]);
+    }
+    for (int i = 0; i < 3; i++) {
+        if (words[62] >> (i + 1) & 1) printf("%s: %" PRIu64 " cents\n", names[i], words[63 + i]);
+    }
+}
+
+/* Half the capacity at 42.30, the level, and the other half at a price in cents. */
+static uint64_t offer_test(const struct bytes *dossier, int32_t price) {
+    struct bytes offer = {{0}, 0};
+    put(&offer, 2, 500);
+    put(&offer, 4, 4230);
+    put(&offer, 2, 1000);
+    put(&offer, 4, (uint32_t)price);
+    return bench_energy_test(dossier->at, dossier->length, HOUR, NARROW, offer.at, offer.length);
+}
+
+static uint64_t reserve_test(const struct bytes *dossier, int32_t price) {
+    return bench_price_test(dossier->at, dossier->length, HOUR, RESERVE, NARROW, price);
+}
+
+/* Fuel prices that come in later: the issue that is there once more, or a newer one and behind it an older one. */
+static void show_fuel(const struct bytes *dossier) {
+    struct bytes twice = *dossier, later = *dossier;
+    put_fuel(&twice, 1, 5000000);
+    say("fuel with the same issue", bench_accept(twice.at, twice.length), "accepted");
+    put_fuel(&later, 3, 5000000);
+    put_fuel(&later, 2, 4500000);
+    say("fuel with issues 3 and 2", bench_accept(later.at, later.length), "accepted");
+    uint64_t part = bench_current(later.at, later.length, 0x4655, 1); /* FU of profile 1 */
+    uint32_t start = bench_a(part);
+    int issue = later.at[start + 5]; /* the low byte of four is enough here */
+    printf("current fuel: issue %d, %" PRIu32 " bytes at %" PRIu32 "\n", issue, bench_b(part), start);
+}
+
+int main(void) {
+    struct bytes dossier = r1();
+    say("dossier", bench_accept(dossier.at, dossier.length), "accepted");
+    show_report(&dossier);
+    show_levels(&dossier);
+    say("energy at 63.45", offer_test(&dossier, 6345), "passes");
+    say("energy at 63.46", offer_test(&dossier, 6346), "passes");
+    say("energy at 2000.01", offer_test(&dossier, 200001), "passes");
+    say("reserve at 0.50", reserve_test(&dossier, 50), "passes");
+    say("reserve at 0.51", reserve_test(&dossier, 51), "passes");
+    show_fuel(&dossier);
+    return 0;
+}

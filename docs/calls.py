@@ -1,0 +1,163 @@
+"""Every call of the library from Python, on case R1 of README.md with two thresholds. docs/calls.c is the same from C; both print docs/calls.out.
+With the library built (rt staticlib bench), at the root of the repository:
+
+    cc -shared -o target/libbench.so -Wl,--whole-archive target/staticlib/libbench.a -Wl,--no-whole-archive
+    python3 docs/calls.py target/libbench.so
+"""
+import ctypes
+import os
+import sys
+
+NARROW, RESERVE, HOUR = 1, 4, 0
+WORDS = 66  # that the levels take
+REPORT_BYTES = 2283  # hold every report
+
+U8, U16, U32, U64, I32, SIZE = ctypes.c_uint8, ctypes.c_uint16, ctypes.c_uint32, ctypes.c_uint64, ctypes.c_int32, ctypes.c_size_t
+BYTES = ctypes.c_char_p  # lent to be read; a null byte doesn't end it, since the length goes along
+
+# what each function is lent, as include/bench.h declares it; without it ctypes takes an answer for a number of 32 bits
+LENT = {
+    "bench_accept": [BYTES, SIZE],
+    "bench_current": [BYTES, SIZE, U16, U32],
+    "bench_levels": [BYTES, SIZE, U32, ctypes.POINTER(U64), SIZE],
+    "bench_energy_test": [BYTES, SIZE, U32, U8, BYTES, SIZE],
+    "bench_price_test": [BYTES, SIZE, U32, U8, U8, I32],
+    "bench_report": [BYTES, SIZE, U32, ctypes.POINTER(U8), SIZE],
+}
+
+
+def opened(path):
+    """The library in a shared object, its functions declared."""
+    if not os.path.exists(path):
+        sys.exit(f"calls.py: {path} is missing; the lines at the top of this file make it")
+    library = ctypes.CDLL(os.path.abspath(path))
+    for name, lent in LENT.items():
+        function = getattr(library, name)
+        function.argtypes, function.restype = lent, U64
+    return library
+
+
+def record(mark, issue, *fields):
+    """A record: its mark, its issue, and each field as a number of so many bytes, the high byte first."""
+    numbers = [number.to_bytes(width, "big") for width, number in fields]
+    return b"".join([mark, issue.to_bytes(4, "big"), *numbers])
+
+
+def fuel(issue, price):
+    """The fuel price of profile 1 in micro-dollars per GJ, with emission at 1.00 dollar."""
+    return record(b"FU", issue, (1, 1), (4, price), (4, 1_000_000))
+
+
+STATION = record(
+    b"RS",
+    1,
+    (1, 1),  # technology: thermal
+    (2, 1_000),  # capacity: 100.0 MW
+    (2, 1_000),  # performance factor: 1.000
+    (4, 500_000),  # MJ per start
+    (4, 100_000),  # MJ per hour at no load
+    (4, 0),  # incremental fuel: nuclear alone
+    (4, 0),  # state of charge: storage alone
+    (2, 0),  # charging efficiency: storage alone
+    (2, 0),  # window: storage and hydroelectric alone
+)
+
+MAINTENANCE = record(
+    b"MM",
+    1,
+    (1, 1),  # profile
+    (1, 1),  # item
+    (8, 200_000_000),  # cost: 2,000,000.00 dollars
+    (2, 1_000),  # output: 100.0 MW
+    (4, 25_000),  # interval in hours
+    (2, 100),  # 10.0 hours per start
+)
+
+R1 = b"".join([
+    STATION,
+    record(b"HP", 1, (1, 1), (2, 500), (4, 500_000)),  # point 1: 50.0 MW takes 500,000 MJ per hour
+    record(b"HP", 1, (1, 2), (2, 1_000), (4, 900_000)),  # point 2: 100.0 MW takes 900,000
+    fuel(1, 4_000_000),
+    record(b"AD", 1, (1, 1), (1, 3), (1, 1), (8, 1_500_000)),  # profile 1, consumables: 1.50 for energy
+    record(b"AD", 1, (1, 1), (1, 3), (1, RESERVE), (8, 250_000)),  # and 0.25 for reserve
+    MAINTENANCE,
+    record(b"TH", 1, (1, NARROW), (1, 1), (2, 50), (4, 2_500), (4, 0)),  # energy: 50 % or 25.00 above the level
+    record(b"TH", 1, (1, NARROW), (1, RESERVE), (2, 100), (4, 2**32 - 1), (4, 0)),  # reserve: 100 %, no margin
+])
+
+
+def parts(answer):
+    """Class, a and b of an answer."""
+    return answer >> 56, answer >> 32 & 0xFFFFFF, answer & 0xFFFFFFFF
+
+
+def say(asked, answer, good):
+    """What was asked, and what an answer says; `good` is what class 0 means here."""
+    kind, a, b = parts(answer)
+    said = [good, f"fails, pair {a}, lamination {b}", f"refused {a} at {b}"]
+    print(f"{asked}: {said[kind]}")
+
+
+def show_report(bench, dossier):
+    buffer = (U8 * REPORT_BYTES)()
+    answer = bench.bench_report(dossier, len(dossier), HOUR, buffer, len(buffer))
+    say("report", answer, "written")
+    kind, _, length = parts(answer)
+    if kind == 0:
+        print(bytes(buffer[:length]).decode("ascii"), end="")
+
+
+def show_levels(bench, dossier):
+    words = (U64 * WORDS)()
+    answer = bench.bench_levels(dossier, len(dossier), HOUR, words, len(words))
+    say("levels", answer, "written")
+    if parts(answer)[0] != 0:
+        return
+    print(f"profile {words[0]}")
+    for i in range(words[1]):
+        start, end, level = words[2 + 3 * i : 5 + 3 * i]
+        print(f"lamination {i + 1}, {start} to {end}: {level} cents")
+    for i, name in enumerate(["start", "no-load", "reserve"]):
+        if words[62] >> (i + 1) & 1:
+            print(f"{name}: {words[63 + i]} cents")
+
+
+def offer_test(bench, dossier, price):
+    """Half the capacity at 42.30, the level, and the other half at a price in cents."""
+    pairs = [(500, 4_230), (1_000, price)]
+    offer = b"".join(quantity.to_bytes(2, "big") + cents.to_bytes(4, "big", signed=True) for quantity, cents in pairs)
+    return bench.bench_energy_test(dossier, len(dossier), HOUR, NARROW, offer, len(offer))
+
+
+def reserve_test(bench, dossier, price):
+    return bench.bench_price_test(dossier, len(dossier), HOUR, RESERVE, NARROW, price)
+
+
+def show_fuel(bench, dossier):
+    """Fuel prices that come in later: the issue that is there once more, or a newer one and behind it an older one."""
+    twice = dossier + fuel(1, 5_000_000)
+    say("fuel with the same issue", bench.bench_accept(twice, len(twice)), "accepted")
+    later = dossier + fuel(3, 5_000_000) + fuel(2, 4_500_000)
+    say("fuel with issues 3 and 2", bench.bench_accept(later, len(later)), "accepted")
+    mark = int.from_bytes(b"FU", "big")
+    _, start, length = parts(bench.bench_current(later, len(later), mark, 1))
+    issue = int.from_bytes(later[start + 2 : start + 6], "big")
+    print(f"current fuel: issue {issue}, {length} bytes at {start}")
+
+
+def main():
+    if len(sys.argv) != 2:
+        sys.exit("usage: calls.py SHARED_OBJECT; the lines at the top of this file make one")
+    bench = opened(sys.argv[1])
+    say("dossier", bench.bench_accept(R1, len(R1)), "accepted")
+    show_report(bench, R1)
+    show_levels(bench, R1)
+    say("energy at 63.45", offer_test(bench, R1, 6_345), "passes")
+    say("energy at 63.46", offer_test(bench, R1, 6_346), "passes")
+    say("energy at 2000.01", offer_test(bench, R1, 200_001), "passes")
+    say("reserve at 0.50", reserve_test(bench, R1, 50), "passes")
+    say("reserve at 0.51", reserve_test(bench, R1, 51), "passes")
+    show_fuel(bench, R1)
+
+
+main()
