@@ -100,22 +100,37 @@ impl NoInput {
     }
 }
 
+/// How many wrong lines are told of one input.
+const MOST_LINES: usize = 20;
+
 /// Lines that can't be packed, as an answer.
 pub fn wrong_lines(lines: &[WrongLine]) -> Said {
-    let texts: Vec<String> = lines.iter().map(WrongLine::words).collect();
-    let more = match texts.len() {
-        1 => String::new(),
-        n => format!(", and {} wrong lines more", n - 1),
+    let told: Vec<String> = lines
+        .iter()
+        .map(WrongLine::words)
+        .take(MOST_LINES)
+        .collect();
+    let first = told.first().cloned().unwrap_or_default();
+    let line = match lines.len() {
+        1 => first,
+        n => format!("{n} wrong lines, {first}"),
     };
+    let rest = match lines.len() {
+        1 => String::new(),
+        n if n > told.len() => format!("\n  {}\n  and more", told.join("\n  ")),
+        _ => format!("\n  {}", told.join("\n  ")),
+    };
+    let head = match lines.len() {
+        1 => line.clone(),
+        n => format!("{n} wrong lines"),
+    };
+    let lines = lines.iter().map(WrongLine::json).collect();
     Said {
         status: Status::Refused,
         counts_as: "refused",
-        line: format!("{}{more}", texts[0]),
-        words: texts.iter().map(|t| format!("{t}\n")).collect(),
-        json: object([(
-            "wrong-lines",
-            Json::List(lines.iter().map(WrongLine::json).collect()),
-        )]),
+        line,
+        words: format!("{head}{rest}\n"),
+        json: object([("wrong-lines", Json::List(lines))]),
     }
 }
 
@@ -206,11 +221,7 @@ pub fn one(args: &Args, streams: &mut Streams, name: &str, said: &Said) -> io::R
 }
 
 fn with_file(name: &str, said: &Said) -> Json {
-    let mut members = vec![("file", Json::text(name))];
-    if let Json::Object(more) = &said.json {
-        members.extend(more.clone());
-    }
-    Json::Object(members)
+    object([("file", Json::text(name))]).and(said.json.clone())
 }
 
 fn count(counts: &mut Vec<(&'static str, usize)>, what: &'static str) {

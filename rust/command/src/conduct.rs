@@ -75,20 +75,35 @@ fn test(input: &Input, question: &Question) -> Said {
     }
 }
 
+/// What there is to say of an offer that drew no refusal, beside its verdict.
+struct Judged {
+    level: String,
+    /// What passes or fails.
+    what: String,
+    /// Which prices pass, a line for each lamination.
+    passing: String,
+    highest: Vec<Option<i32>>,
+}
+
 /// The answer to an offer that drew no refusal: whether it passes, and which prices do.
 fn judged(input: &Input, question: &Question, fails: Option<(usize, usize)>) -> Said {
-    let verdict = if fails.is_some() { "fails" } else { "passes" };
+    let judged = match &question.offered {
+        Offered::Energy(pairs) => energy(input, question, pairs, fails),
+        Offered::Price { level, price } => single(input, question, *level, *price),
+    };
     let under = CONDITION.write(question.condition.into());
-    let line = format!("{verdict} under {under} at hour {}", question.hour);
-    let json = object([
+    let word = word(fails.is_some());
+    let line = format!(
+        "{word} under {under} at hour {}: {}",
+        question.hour, judged.what
+    );
+    let price = |p: Option<i32>| p.map_or(Json::Null, |p| Json::Number(DOLLARS.write(p.into())));
+    let highest = judged.highest.into_iter().map(price).collect();
+    let asked = object([
         ("hour", Json::whole(question.hour as usize)),
         ("condition", Json::text(under)),
-        ("verdict", Json::text(verdict)),
+        ("level", Json::text(judged.level)),
     ]);
-    let (line, rest, json) = match &question.offered {
-        Offered::Energy(pairs) => energy(input, question, pairs, fails, line, json),
-        Offered::Price { level, price } => single(input, question, *level, *price, line, json),
-    };
     Said {
         status: if fails.is_some() {
             Status::Fails
@@ -96,15 +111,32 @@ fn judged(input: &Input, question: &Question, fails: Option<(usize, usize)>) -> 
             Status::Done
         },
         counts_as: if fails.is_some() { "fail" } else { "pass" },
-        words: format!("{line}\n{rest}"),
+        words: format!("{line}\n{}", judged.passing),
         line,
-        json,
+        json: asked
+            .and(verdict(fails))
+            .with("highest", Json::List(highest)),
     }
 }
 
-/// A price that may be missing, as JSON.
-fn price_json(price: Option<i32>) -> Json {
-    price.map_or(Json::Null, |p| Json::Number(DOLLARS.write(p.into())))
+fn word(fails: bool) -> &'static str {
+    match fails {
+        true => "fails",
+        false => "passes",
+    }
+}
+
+/// A verdict as an object. A single price that fails has neither pair nor lamination.
+pub fn verdict(fails: Option<(usize, usize)>) -> Json {
+    let named = |number| match number {
+        Some(number @ 1..) => Json::whole(number),
+        _ => Json::Null,
+    };
+    object([
+        ("verdict", Json::text(word(fails.is_some()))),
+        ("pair", named(fails.map(|(pair, _)| pair))),
+        ("lamination", named(fails.map(|(_, lamination)| lamination))),
+    ])
 }
 
 fn energy(
@@ -112,51 +144,47 @@ fn energy(
     question: &Question,
     pairs: &[Pair],
     fails: Option<(usize, usize)>,
-    mut line: String,
-    json: Json,
-) -> (String, String, Json) {
-    if let Some((pair, lamination)) = fails {
-        let from = pairs.get(pair.wrapping_sub(2)).map_or(0, |p| p.quantity);
-        let to = pairs.get(pair.wrapping_sub(1)).map(Pair::text);
-        let (from, to) = (megawatts(from), to.unwrap_or_default());
-        line += &format!(": pair {pair}, {from} to {to}, in lamination {lamination}");
-    }
-    let (mut rest, mut highest) = (String::new(), Vec::new());
-    for (number, step) in (1..).zip(&energy_levels(input, question.hour)) {
-        let price = highest_in(&input.dossier, question.hour, question.condition, step);
+) -> Judged {
+    let dossier = &input.dossier;
+    let levels = bench::levels(dossier, question.hour);
+    let steps = levels.map_or(Vec::new(), |levels| levels.energy);
+    let highest = |step| highest_in(dossier, question.hour, question.condition, step);
+    let highest: Vec<Option<i32>> = steps.iter().map(highest).collect();
+    let line = |(i, step): (usize, &Lamination)| {
         let (from, to) = (megawatts(step.from), megawatts(step.to));
-        let (level, passes) = (dollars(step.level), passing(price));
-        rest += &format!("  lamination {number}, {from} to {to} MW: level {level}, {passes}\n");
-        highest.push(price_json(price));
-    }
-    let (pair, lamination) = match fails {
-        Some((pair, lamination)) => (Json::whole(pair), Json::whole(lamination)),
-        None => (Json::Null, Json::Null),
+        let (level, passes) = (dollars(step.level), passing(highest[i]));
+        let number = i + 1;
+        format!("  lamination {number}, {from} to {to} MW: level {level}, {passes}\n")
     };
-    let json = json.with("level", Json::text("energy"));
-    let json = json.with("pair", pair).with("lamination", lamination);
-    (line, rest, json.with("highest", Json::List(highest)))
+    Judged {
+        level: LEVEL.write(1),
+        what: match fails {
+            Some((pair, lamination)) => failing(pairs, pair, lamination),
+            None => "the energy offer".to_string(),
+        },
+        passing: steps.iter().enumerate().map(line).collect(),
+        highest,
+    }
 }
 
-fn single(
-    input: &Input,
-    question: &Question,
-    level: u8,
-    price: i32,
-    line: String,
-    json: Json,
-) -> (String, String, Json) {
+/// The pair that fails, and where.
+fn failing(pairs: &[Pair], pair: usize, lamination: usize) -> String {
+    let before = pair.checked_sub(2).and_then(|i| pairs.get(i));
+    let from = megawatts(before.map_or(0, |p| p.quantity));
+    let this = pair.checked_sub(1).and_then(|i| pairs.get(i));
+    let to = this.map_or(String::new(), Pair::text);
+    format!("pair {pair}, {from} to {to}, in lamination {lamination}")
+}
+
+fn single(input: &Input, question: &Question, level: u8, price: i32) -> Judged {
     let name = LEVEL.write(level.into());
-    let line = format!("{line}: {name} at {}", DOLLARS.write(price.into()));
     let highest = highest_for(&input.dossier, question.hour, level, question.condition);
-    let rest = format!("  {name}: {}\n", passing(highest));
-    let json = json.with("level", Json::text(name));
-    let json = json.with("pair", Json::Null).with("lamination", Json::Null);
-    (
-        line,
-        rest,
-        json.with("highest", Json::List(vec![price_json(highest)])),
-    )
+    Judged {
+        what: format!("{name} at {}", DOLLARS.write(price.into())),
+        passing: format!("  {name}: {}\n", passing(highest)),
+        level: name,
+        highest: vec![highest],
+    }
 }
 
 /// Which prices pass, in words.
@@ -165,9 +193,4 @@ fn passing(highest: Option<i32>) -> String {
         Some(price) => format!("prices up to {} pass", DOLLARS.write(price.into())),
         None => "every price passes".to_string(),
     }
-}
-
-/// The laminations of an hour of a dossier that is accepted.
-fn energy_levels(input: &Input, hour: u32) -> Vec<Lamination> {
-    bench::levels(&input.dossier, hour).map_or(Vec::new(), |levels| levels.energy)
 }

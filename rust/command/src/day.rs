@@ -2,13 +2,14 @@
 
 use crate::answer::{one, only_file, refused, Said, Status, Stop, Streams};
 use crate::args::{hour, whole, Args};
+use crate::conduct::verdict;
 use crate::explain::of_offer;
 use crate::input::{name, read, Input};
 use crate::json::{object, Json};
 use crate::levels::{dollars, json, megawatts, others};
 use crate::offer::{self, highest_in, Pair};
 use crate::pack::write_file;
-use crate::picture::{self, Picture, Step};
+use crate::picture::{self, Picture};
 use crate::unit::CONDITION;
 use bench::{energy_test, Levels, Refusal, Verdict};
 
@@ -102,8 +103,7 @@ fn tested(input: &Input, hour: u32, condition: u8, pairs: &[Pair]) -> Result<Ver
 }
 
 fn said(hours: &[Hour]) -> Said {
-    let fails = |h: &Hour| matches!(h.verdict, Some(Verdict::Fails { .. }));
-    let status = match hours.iter().any(fails) {
+    let status = match hours.iter().any(|h| h.fails().is_some()) {
         true => Status::Fails,
         false => Status::Done,
     };
@@ -119,18 +119,27 @@ fn said(hours: &[Hour]) -> Said {
 impl Hour {
     fn json(&self) -> Json {
         let json = json(self.hour, &self.levels);
-        match self.offer() {
-            Some(offer) => json.with("offer", Json::text(offer)),
+        match self.verdict {
+            Some(_) => json.with("offer", verdict(self.fails())),
             None => json,
         }
     }
 
-    /// The verdict in a word or two.
-    fn offer(&self) -> Option<String> {
+    /// The first pair and lamination that fail, if the offer does.
+    fn fails(&self) -> Option<(usize, usize)> {
         match self.verdict? {
-            Verdict::Fails { pair, lamination } => Some(format!("fails {pair} in {lamination}")),
-            _ => Some("passes".to_string()),
+            Verdict::Fails { pair, lamination } => Some((pair, lamination)),
+            _ => None,
         }
+    }
+
+    /// The verdict in a few words, where there is an offer.
+    fn offer(&self) -> Option<String> {
+        self.verdict?;
+        Some(match self.fails() {
+            Some((pair, lamination)) => format!("fails: pair {pair}, lamination {lamination}"),
+            None => "passes".to_string(),
+        })
     }
 
     fn cells(&self) -> Vec<String> {
@@ -187,32 +196,22 @@ fn drawn(input: &Input, hour: &Hour, question: &Question) -> String {
         "{}, hour {}, profile {}",
         input.name, hour.hour, hour.levels.profile
     );
-    let laminations = &hour.levels.energy;
-    let step = |l: &bench::Lamination| Step {
-        from: l.from,
-        to: l.to,
-        level: l.level,
-    };
-    let steps: Vec<Step> = laminations.iter().map(step).collect();
+    let steps = &hour.levels.energy;
     let (condition, pairs) = question.offer.clone().unwrap_or_default();
     let name = CONDITION.write(condition.into());
     let highest = |l| highest_in(&input.dossier, hour.hour, condition, l);
     let highest: Vec<Option<i32>> = match question.offer {
-        Some(_) => laminations.iter().map(highest).collect(),
+        Some(_) => steps.iter().map(highest).collect(),
         None => Vec::new(),
-    };
-    let fails = match hour.verdict {
-        Some(Verdict::Fails { pair, lamination }) => Some((pair, lamination)),
-        _ => None,
     };
     picture::svg(&Picture {
         title: &title,
-        steps: &steps,
+        steps,
         offer: question.offer.as_ref().map(|_| picture::Offer {
             pairs: &pairs,
             condition: &name,
             highest: &highest,
-            fails,
+            fails: hour.fails(),
         }),
     })
 }

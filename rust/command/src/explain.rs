@@ -91,17 +91,17 @@ fn of_record(number: u32, dossier: &[u8], record: &Record) -> Vec<String> {
             twin.map(came).into_iter().collect()
         }
         6 => {
-            let station = current(dossier, "RS", 0);
-            let station = station.map(|r| format!("the current station record is {}", r.text()));
-            station.into_iter().chain([fitting(record)]).collect()
+            let station =
+                current(dossier, "RS", 0).map_or(String::new(), |r| r.value("technology"));
+            vec![format!("the station is {station}; {}", fitting(record))]
         }
         _ => Vec::new(),
     }
 }
 
 /// What a record of this mark takes to fit a technology.
-fn fitting(record: &Record) -> String {
-    let wants = match record.mark.letters {
+fn fitting(record: &Record) -> &'static str {
+    match record.mark.letters {
         "RS" => "thermal uses factor and both heats, nuclear factor and incremental-fuel, storage charge, efficiency and window, hydro window; used ones are above 0, but for the heats, and the others are 0",
         "HP" => "HP is for thermal stations",
         "FU" => "emission is 0 unless the station is thermal; at a hydro station fuel is 0 too",
@@ -111,8 +111,7 @@ fn fitting(record: &Record) -> String {
         "FP" => "FP is for hydro stations",
         "HR" | "CH" | "LC" => "HR, CH and LC are for storage",
         _ => "it always fits",
-    };
-    format!("to fit: {wants}")
+    }
 }
 
 /// What stands at a place where no whole record with a known mark does.

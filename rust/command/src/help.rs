@@ -1,5 +1,7 @@
 //! What `--help` prints.
 
+use crate::marks::{Mark, MARKS};
+
 pub const ALL: &str = "\
 bench: reference levels of a station, and offers held against them
 
@@ -9,6 +11,7 @@ bench: reference levels of a station, and offers held against them
   bench levels FILE...     the levels at an hour
   bench test FILE...       an offer or a price held against the levels of an hour
   bench day FILE           the levels over hours as a table, and a picture
+  bench help fields        the fields of every record, with their units and ranges
 
 'bench COMMAND --help' says more. FILE is a dossier, as text or bytes, which are told apart; '-' or no
 FILE at all is standard input.
@@ -25,7 +28,7 @@ Writes the dossier of a text, one record a line, to standard output or to OUT:
   FU issue=3 profile=1 fuel=4.00 emission=1.00
 
 Every field of a record is written, in any order. A wrong line is refused with its number, the field
-and its range, and nothing is written. docs/COMMAND.md lists the fields.
+and its range, and nothing is written. 'bench help fields' lists the fields.
 ";
 
 pub const UNPACK: &str = "\
@@ -70,3 +73,19 @@ Prints the levels of N hours from hour H on (24 without --hours) as a table. Wit
 has its verdict as well. --svg writes a picture of the energy curve at hour --at (the first without
 it), with the offer's pairs and the highest prices that pass over it.
 ";
+
+/// The fields of every record.
+pub fn fields() -> String {
+    let head = "Every record has issue=0 to 4294967295. A record is told by its mark and those of its fields with a *.\n";
+    let marks: Vec<String> = MARKS.iter().map(of_mark).collect();
+    format!("{head}\n{}", marks.join("\n"))
+}
+
+fn of_mark(mark: &Mark) -> String {
+    let mut text = format!("{}: {}\n", mark.letters, mark.holds);
+    for (i, field) in mark.fields.iter().enumerate().skip(1) {
+        let star = if i <= mark.key { "*" } else { " " };
+        text += &format!("  {star} {:<18}{}\n", field.name, field.range());
+    }
+    text
+}

@@ -25,15 +25,19 @@ impl Json {
         Json::Text(text.as_ref().to_string())
     }
 
+    /// The members of two objects in one.
+    pub fn and(self, other: Json) -> Json {
+        match (self, other) {
+            (Json::Object(members), Json::Object(more)) => {
+                Json::Object(members.into_iter().chain(more).collect())
+            }
+            (value, _) => value,
+        }
+    }
+
     /// The object with one member more.
     pub fn with(self, name: &'static str, value: Json) -> Json {
-        match self {
-            Json::Object(mut members) => {
-                members.push((name, value));
-                Json::Object(members)
-            }
-            other => other,
-        }
+        self.and(object([(name, value)]))
     }
 }
 

@@ -27,12 +27,9 @@ fn levels(input: &Input, hour: u32) -> Said {
     }
 }
 
-/// More than the longest report has.
-const ROOM: usize = 4_096;
-
 /// The report, as the library writes it.
 fn report(dossier: &[u8], hour: u32) -> Result<String, Refusal> {
-    let mut buffer = [0; ROOM];
+    let mut buffer = [0; bench::REPORT_BYTES];
     let length = bench::report(dossier, hour, &mut buffer)?;
     Ok(String::from_utf8_lossy(&buffer[..length]).into_owned())
 }

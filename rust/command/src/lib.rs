@@ -124,6 +124,10 @@ fn called(words: &[OsString], streams: &mut Streams) -> Result<Status, Stop> {
         write!(streams.out, "{}", help::ALL)?;
         return Ok(Status::Done);
     }
+    if first == "help" && rest[0] == "fields" {
+        write!(streams.out, "{}", help::fields())?;
+        return Ok(Status::Done);
+    }
     let (first, rest) = match (first == "help", rest) {
         (true, [of, ..]) => (of, &[OsString::from("--help")][..]),
         _ => (first, rest),

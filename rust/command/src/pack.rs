@@ -4,32 +4,42 @@ use crate::answer::{one, only_file, refused, wrong_lines, Said, Status, Stop, St
 use crate::args::Args;
 use crate::explain::of_dossier;
 use crate::input::{is_cut, name, read_bytes};
-use crate::text::{pack as packed, unpack as unpacked};
+use crate::text::{is_text, pack as packed, unpack as unpacked};
 use bench::Refusal;
 use std::fs;
 use std::io::{self, IsTerminal};
 
+/// A dossier from text; one in bytes stays as it is.
 pub fn pack(args: &Args, streams: &mut Streams) -> Result<Status, Stop> {
-    convert(args, streams, |bytes| {
-        let dossier = packed(bytes).map_err(|lines| wrong_lines(&lines))?.dossier;
-        readable(&dossier, &[])?;
+    convert(args, streams, |input| {
+        let dossier = match is_text(input) {
+            true => packed(input).map_err(|lines| wrong_lines(&lines))?.dossier,
+            false => input.to_vec(),
+        };
+        readable(&dossier)?;
         Ok(dossier)
     })
 }
 
+/// Text from a dossier, and tidy text from text. What the library can read is a dossier, even one
+/// that looks like text.
 pub fn unpack(args: &Args, streams: &mut Streams) -> Result<Status, Stop> {
-    convert(args, streams, |dossier| {
-        readable(dossier, &[])?;
-        Ok(unpacked(dossier).into_bytes())
+    convert(args, streams, |input| match readable(input) {
+        Ok(()) => Ok(unpacked(input).into_bytes()),
+        Err(_) if is_text(input) => {
+            let packed = packed(input).map_err(|lines| wrong_lines(&lines))?;
+            Ok(unpacked(&packed.dossier).into_bytes())
+        }
+        Err(said) => Err(said),
     })
 }
 
 /// Whether the library can read a dossier: 13 and 1 to 3. What it refuses later has a text all the
 /// same, and needs one most.
-fn readable(dossier: &[u8], lines: &[usize]) -> Result<(), Said> {
+fn readable(dossier: &[u8]) -> Result<(), Said> {
     match bench::accept(dossier) {
         Err(refusal) if matches!(refusal.number, 1..=3 | 13) => {
-            Err(refused(&of_dossier(refusal, dossier, lines)))
+            Err(refused(&of_dossier(refusal, dossier, &[])))
         }
         _ => Ok(()),
     }
@@ -62,7 +72,7 @@ fn convert(
 fn write(args: &Args, streams: &mut Streams, bytes: &[u8]) -> Result<Status, Stop> {
     match args.value("out") {
         Some(path) => write_file(path, bytes)?,
-        None if io::stdout().is_terminal() && !crate::text::is_text(bytes) => {
+        None if io::stdout().is_terminal() && !is_text(bytes) => {
             let says = "a dossier is bytes: send them to a file, with --out OUT";
             return Err(Stop::Use(says.to_string()));
         }
