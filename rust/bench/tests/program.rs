@@ -1,8 +1,6 @@
 //! The program `levels` as its users run it: bytes in, lines out.
 
-mod cases;
-
-use cases::{run, same, Check};
+use model::cases::{run, same, Check};
 use model::make;
 use model::make::written::r1;
 use model::random::Random;

@@ -1,15 +1,13 @@
 //! What the command says, held against the library and the model: words, JSON, statuses, and no
 //! panic on any input.
 
-#[path = "../../bench/tests/cases/mod.rs"]
-mod cases;
 mod json;
 
-use cases::{run, same, Check};
 use command::answer::{Status, Streams};
 use command::explain::of_dossier;
 use command::offer::{bytes, highest_for, highest_in, Pair};
 use command::text::{pack, unpack};
+use model::cases::{run, same, Check};
 use model::make;
 use model::make::offers::Target;
 use model::random::Random;

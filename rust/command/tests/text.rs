@@ -1,13 +1,10 @@
 //! Dossiers as text: every readable dossier comes back, and a wrong line is refused by its number,
 //! its field and the range.
 
-#[path = "../../bench/tests/cases/mod.rs"]
-mod cases;
-
-use cases::{run, same, Check};
 use command::marks::{Field, Mark, MARKS};
 use command::record::records;
 use command::text::{is_text, pack, unpack};
+use model::cases::{run, same, Check};
 use model::make;
 use model::random::Random;
 use model::table::TABLE;

@@ -6,6 +6,7 @@
 //! page take bytes and give whole answers; the modules follow the paper's order.
 
 pub mod accept;
+pub mod cases;
 pub mod conduct;
 pub mod costs;
 pub mod dossier;

@@ -1,7 +1,7 @@
 //! Acceptance, and the lookup of current records.
 
-use crate::cases::{run, same, Check};
 use crate::refusal;
+use model::cases::{run, same, Check};
 use model::dossier::records;
 use model::make::written::{evenly_rising, r1};
 use model::make::{self, forecast, sound};

@@ -1,7 +1,7 @@
 //! The conduct test of energy offers and single prices, also under a raise.
 
-use crate::cases::{run, same, Check};
 use crate::refusal;
+use model::cases::{run, same, Check};
 use model::make::offers::{bytes, condition, level, offer, price, Target};
 use model::make::written::{r1, record};
 use model::make::{self, sound};

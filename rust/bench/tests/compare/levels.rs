@@ -1,7 +1,7 @@
 //! Levels, with the promised distance to the exact levels and under a raise.
 
-use crate::cases::{run, same, seed, Check};
 use crate::refusal;
+use model::cases::{run, same, seed, Check};
 use model::exact::{all_near, exact_levels};
 use model::levels::{Lamination, Levels};
 use model::make::nearest::terms;

@@ -1,8 +1,6 @@
 //! Bench against the model, group by group.
 
 mod accept;
-#[path = "../cases/mod.rs"]
-mod cases;
 mod conduct;
 mod levels;
 mod report;

@@ -1,7 +1,7 @@
 //! The report, with the lent buffer compared to its last byte.
 
-use crate::cases::{run, same, Check};
 use crate::refusal;
+use model::cases::{run, same, Check};
 use model::make::written::{r1, R1_LINES};
 use model::make::{self, sound};
 use model::random::Random;

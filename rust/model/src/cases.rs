@@ -1,7 +1,7 @@
 //! Runs of many cases, each made from the run's seed and its own number.
 
-use model::random::Random;
-use model::vectors::hex;
+use crate::random::Random;
+use crate::vectors::hex;
 use std::fmt::Debug;
 use std::io::Write;
 use std::sync::atomic::{AtomicBool, Ordering};
@@ -53,11 +53,11 @@ pub fn run(
     });
 }
 
-/// Bench and the model must give the same.
-pub fn same<T: PartialEq + Debug>(what: &str, bench: T, model: T) -> Check {
-    if bench == model {
+/// What came out must be what was expected.
+pub fn same<T: PartialEq + Debug>(what: &str, came: T, expected: T) -> Check {
+    if came == expected {
         Ok(())
     } else {
-        Err(format!("{what}: Bench {bench:?}, model {model:?}"))
+        Err(format!("{what}: {came:?}, expected {expected:?}"))
     }
 }
