@@ -25,11 +25,13 @@ pub fn current<'a>(dossier: &'a [u8], letters: &str, key: u32) -> Option<Record<
     records(part.bytes).next()
 }
 
-/// The numbers of a mark's keys up to `last` that have no current record.
-fn missing(dossier: &[u8], letters: &str, last: i128) -> Vec<u32> {
+/// The keys of a mark up to `last` that have no current record, if there are any, behind what is said
+/// of them.
+fn missing(dossier: &[u8], letters: &str, last: i128, says: &str) -> Option<String> {
     let keys = 1..=u32::try_from(last).unwrap_or(0);
-    keys.filter(|key| current(dossier, letters, *key).is_none())
-        .collect()
+    let absent = |key: &u32| current(dossier, letters, *key).is_none();
+    let absent: Vec<u32> = keys.filter(absent).collect();
+    (!absent.is_empty()).then(|| format!("{says} {}", ranges(&absent)))
 }
 
 /// A rising list of numbers in words: `3, 5 to 9`.
@@ -64,13 +66,7 @@ fn curve(dossier: &[u8], station: &Record) -> Vec<String> {
         says.push(format!("points: {}; a curve takes 2 or more", points.len()));
     }
     let last = points.last().map_or(0, |p| p.get("point"));
-    let gaps = missing(dossier, "HP", last);
-    if !gaps.is_empty() {
-        says.push(format!(
-            "missing below point {last}: point {}",
-            ranges(&gaps)
-        ));
-    }
+    says.extend(missing(dossier, "HP", last, "missing points:"));
     says.extend(points.windows(2).flat_map(step));
     says.extend(points.windows(3).filter_map(bend));
     let (end, capacity) = (points.last(), station.get("capacity"));
@@ -137,13 +133,7 @@ fn window(dossier: &[u8], station: &Record) -> Vec<String> {
             "the charge lasts {hours} full hours at capacity; the window has {window}"
         ));
     }
-    let gaps = missing(dossier, "HR", window);
-    if !gaps.is_empty() {
-        says.push(format!(
-            "hours of the window without an HR: {}",
-            ranges(&gaps)
-        ));
-    }
+    says.extend(missing(dossier, "HR", window, "hours without an HR:"));
     says
 }
 
@@ -155,13 +145,7 @@ fn forecast(dossier: &[u8], station: &Record) -> Vec<String> {
             "the window has {window} hours; it takes 50 or more"
         ));
     }
-    let gaps = missing(dossier, "FP", window);
-    if !gaps.is_empty() {
-        says.push(format!(
-            "places of the forecast without an FP: {}",
-            ranges(&gaps)
-        ));
-    }
+    says.extend(missing(dossier, "FP", window, "places without an FP:"));
     says
 }
 
