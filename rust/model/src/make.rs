@@ -1,8 +1,8 @@
 //! A seeded maker of test dossiers, hours, offers and prices.
 //!
 //! Sound dossiers (`sound`) are accepted; damaged ones (`damage`) draw the number they aim at; some
-//! are written out (`written`, `forecast`, `idle`, `nearest`). The offers and prices (`offers`) crowd
-//! around the floors and limits of the dossier they are put to.
+//! are written out (`written`, `forecast`, `idle`, `nearest`) or made to a length (`sized`). The
+//! offers and prices (`offers`) crowd around the floors and limits of the dossier they are put to.
 
 pub mod damage;
 pub mod forecast;
@@ -10,6 +10,7 @@ pub mod idle;
 mod incomplete;
 pub mod nearest;
 pub mod offers;
+pub mod sized;
 pub mod sound;
 mod stations;
 mod unfit;

@@ -7,10 +7,10 @@ use model::exact::{all_near, exact_levels_of};
 use model::levels::{levels_of, reckon, Levels, Micro};
 use model::make::damage::{damaged_by, DAMAGES};
 use model::make::offers::{condition, level, offer, price, Target};
-use model::make::{dossier, hour, sound};
+use model::make::{dossier, hour, sized, sound};
 use model::raise::{is_raise, none_lower, raised};
 use model::random::Random;
-use model::table::{Field, Role};
+use model::table::{Field, Mark, Role, TECHNOLOGIES};
 use model::{accept, energy_test, price_test, program, report, Verdict};
 use std::collections::BTreeSet;
 
@@ -24,6 +24,29 @@ fn sound_dossiers_are_accepted() {
         lengths.insert(dossier.len());
     }
     assert!(lengths.len() > 1_000);
+}
+
+/// Dossiers made to a length are accepted, have almost that length, and no level is 0.
+#[test]
+fn sized_dossiers_are_accepted() {
+    for technology in TECHNOLOGIES {
+        for length in [1_000, 1_999, 4_444, 32_000, 60_000] {
+            let dossier = sized::sized(technology, length);
+            assert!((length - 31..=length).contains(&dossier.len()));
+            let station = accepted(&dossier).unwrap();
+            assert_eq!(station.technology, technology);
+            assert!(levels_of(&station, 0).all().all(|level| *level > 0));
+        }
+    }
+}
+
+#[test]
+fn a_full_week_is_full() {
+    let week = sized::full_week();
+    assert_eq!(accept(&week), Ok(()));
+    let records = records(&week).unwrap();
+    let of = |mark: &Mark| records.iter().filter(|r| r.kind.mark == *mark).count();
+    assert_eq!((of(b"HR"), of(b"CH")), (168, 2_016));
 }
 
 #[test]
