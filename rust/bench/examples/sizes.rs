@@ -1,0 +1,102 @@
+//! The times of the calls by the length of the dossier: for each technology from 1,000 to 60,000
+//! bytes, the library beside the model.
+//!
+//! usage: sizes [ROUNDS] [--write FOLDER]
+//!
+//! A table for each technology: a cell is the nanoseconds of the model and of the library, and
+//! their ratio. The last row shows the growth: nanoseconds of the library per byte, on the shortest
+//! dossier and on the longest, and their ratio, about 1 or less where the time is linear. A nuclear
+//! station has no single price to test. The status is 1 if an answer differs, and 2 if an argument
+//! is wrong.
+//!
+//! --write leaves each dossier in the folder, behind its hour, condition and offer, as anchor/ratio
+//! reads them, which is kept beside this repository and takes the inputs that lie beside it. From
+//! the root of the repository, this times them beside the fastest unproved C, but for those that
+//! the C doesn't know:
+//!
+//!     mkdir -p target/anchor
+//!     cp ../shared/anchor/ratio ../shared/anchor/*.c target/anchor
+//!     cargo run --profile timed --offline --quiet --manifest-path rust/Cargo.toml -p bench \
+//!         --all-features --example sizes -- 1 --write target/anchor/inputs
+//!     rm target/anchor/inputs/hydro-*
+//!     target/anchor/ratio --rounds 31
+
+mod calls;
+mod times;
+
+use calls::{status, Input, CONDITION, HOUR, NAMES};
+use model::make::sized::sized;
+use model::table::{Technology, TECHNOLOGIES};
+use std::fs;
+use std::process::ExitCode;
+use times::{cells, head, rounds, row, row_of, Times};
+
+const LENGTHS: [usize; 7] = [1_000, 2_000, 4_000, 8_000, 16_000, 32_000, 60_000];
+
+/// The number of rounds and the folder.
+fn arguments<'a>(words: &[&'a str]) -> Result<(usize, Option<&'a str>), String> {
+    let (count, folder) = match *words {
+        [] => (None, None),
+        ["--write", folder] => (None, Some(folder)),
+        [count] => (Some(count), None),
+        [count, "--write", folder] | ["--write", folder, count] => (Some(count), Some(folder)),
+        _ => return Err("usage: sizes [ROUNDS] [--write FOLDER]".to_string()),
+    };
+    Ok((rounds(count)?, folder))
+}
+
+/// Writes what the calls are put to, but for the single price.
+fn write(folder: &str, name: &str, input: &Input) -> Result<(), String> {
+    let length = (input.offer.len() as u16).to_be_bytes();
+    let ahead = [&HOUR.to_be_bytes()[..], &[CONDITION], &length].concat();
+    let bytes = [&ahead[..], &input.offer, &input.dossier].concat();
+    let path = format!("{folder}/{name}");
+    let written = fs::create_dir_all(folder).and_then(|()| fs::write(&path, bytes));
+    written.map_err(|fault| format!("{path}: {fault}"))
+}
+
+/// Prints the table of a technology; whether all answers are the same.
+fn table(technology: Technology, rounds: usize, folder: Option<&str>) -> Result<bool, String> {
+    println!("### {technology:?}\n\n{}", head(&["bytes"]));
+    let inputs = LENGTHS.map(|length| Input::of(sized(technology, length)));
+    let mut all_same = true;
+    for (length, input) in LENGTHS.iter().zip(&inputs) {
+        if let Some(folder) = folder {
+            let name = format!("{technology:?}-{length:05}").to_lowercase();
+            write(folder, &name, input)?;
+        }
+        let cells = cells(rounds, input);
+        println!("{}", row(&[&input.dossier.len().to_string()], &cells));
+        all_same &= cells.iter().flatten().all(|cell| cell.same);
+    }
+    let [shortest, .., longest] = &inputs;
+    println!("{}\n", growth(rounds, shortest, longest));
+    Ok(all_same)
+}
+
+/// The last row: nanoseconds of the library per byte of two dossiers, and their ratio.
+fn growth(rounds: usize, shortest: &Input, longest: &Input) -> String {
+    let [short, long] = [shortest, longest].map(|input| input.dossier.len() as f64);
+    let texts = NAMES.map(|name| {
+        let (first, second) = (shortest.call(name)?, longest.call(name)?);
+        let times = Times::of(rounds, &*first.library, &*second.library);
+        let (first, second) = (times.first / short, times.second / long);
+        let ratio = times.ratio * short / long;
+        Some(format!("{first:.2} / {second:.2} / {ratio:.2}"))
+    });
+    row_of(&["ns per byte"], texts)
+}
+
+/// Prints every table; whether all answers are the same.
+fn run(words: &[&str]) -> Result<bool, String> {
+    let (rounds, folder) = arguments(words)?;
+    let mut all_same = true;
+    for technology in TECHNOLOGIES {
+        all_same &= table(technology, rounds, folder)?;
+    }
+    Ok(all_same)
+}
+
+fn main() -> ExitCode {
+    status(run, "An answer differs.")
+}
