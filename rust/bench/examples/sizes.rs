@@ -17,7 +17,7 @@
 //!     mkdir -p target/anchor
 //!     cp ../shared/anchor/ratio ../shared/anchor/*.c target/anchor
 //!     cargo run --profile timed --offline --quiet --manifest-path rust/Cargo.toml -p bench \
-//!         --all-features --example sizes -- 1 --write target/anchor/inputs
+//!         --example sizes -- 1 --write target/anchor/inputs
 //!     rm target/anchor/inputs/hydro-*
 //!     target/anchor/ratio --rounds 31
 
