@@ -1,13 +1,12 @@
-//! What a command says of its inputs: of one in full, of many in a line each with a count at the end.
+//! What a command says of an input: in a line, in words and in JSON, with the status it ends with.
 
 use crate::args::Args;
 use crate::explain::Explained;
-use crate::input::{name, read, Input, NoInput, STANDARD};
+use crate::input::{NoInput, STANDARD};
 use crate::json::{object, Json};
 use crate::text::WrongLine;
 use std::ffi::OsString;
 use std::io::{self, IsTerminal, Write};
-use std::time::{Duration, Instant};
 
 /// How a call ends: its exit status. A later one weighs more where many inputs are asked for.
 #[derive(Clone, Copy, Debug, PartialEq, Eq, PartialOrd, Ord)]
@@ -33,12 +32,14 @@ impl Status {
     }
 }
 
-/// Where a command writes, and whether there is somebody to watch.
+/// Where a command writes, and which of it a person watches.
 pub struct Streams<'a> {
     pub out: &'a mut dyn Write,
     pub err: &'a mut dyn Write,
-    /// Whether standard error is a terminal.
-    pub watched: bool,
+    /// Whether standard output is a terminal.
+    pub out_watched: bool,
+    /// Whether standard error is one.
+    pub err_watched: bool,
 }
 
 /// Why a command ends before its answer.
@@ -100,36 +101,35 @@ impl NoInput {
     }
 }
 
-/// How many wrong lines are told of one input.
+/// How many wrong lines of one input are told in words.
 const MOST_LINES: usize = 20;
 
 /// Lines that can't be packed, as an answer.
 pub fn wrong_lines(lines: &[WrongLine]) -> Said {
-    let told: Vec<String> = lines
-        .iter()
-        .map(WrongLine::words)
-        .take(MOST_LINES)
-        .collect();
-    let first = told.first().cloned().unwrap_or_default();
-    let line = match lines.len() {
-        1 => first,
-        n => format!("{n} wrong lines, {first}"),
-    };
-    let rest = match lines.len() {
-        1 => String::new(),
-        n if n > told.len() => format!("\n  {}\n  and more", told.join("\n  ")),
-        _ => format!("\n  {}", told.join("\n  ")),
-    };
-    let head = match lines.len() {
-        1 => line.clone(),
-        n => format!("{n} wrong lines"),
+    let told = lines.iter().take(MOST_LINES).map(WrongLine::words);
+    let told: Vec<String> = told.collect();
+    let (line, words) = match &told[..] {
+        [first, _, ..] => {
+            let head = format!("{} wrong lines", lines.len());
+            let more = if lines.len() > told.len() {
+                "\n  and more"
+            } else {
+                ""
+            };
+            let list = told.join("\n  ");
+            (
+                format!("{head}, {first}"),
+                format!("{head}\n  {list}{more}\n"),
+            )
+        }
+        _ => (told.concat(), told.concat() + "\n"),
     };
     let lines = lines.iter().map(WrongLine::json).collect();
     Said {
         status: Status::Refused,
         counts_as: "refused",
         line,
-        words: format!("{head}{rest}\n"),
+        words,
         json: object([("wrong-lines", Json::List(lines))]),
     }
 }
@@ -166,47 +166,6 @@ pub fn only_file(args: &Args) -> Result<OsString, Stop> {
     }
 }
 
-/// Asks for each input of a call and writes the answers.
-pub fn each(
-    args: &Args,
-    streams: &mut Streams,
-    ask: impl Fn(&Input) -> Said,
-) -> Result<Status, Stop> {
-    let files = files(args)?;
-    let said = |file: &OsString| match read(file) {
-        Ok(input) => ask(&input),
-        Err(error) => error.said(),
-    };
-    if let [file] = &files[..] {
-        return Ok(one(args, streams, &name(file), &said(file))?);
-    }
-    let (mut status, mut counts) = (Status::Done, Vec::new());
-    let mut progress = Progress::new(files.len());
-    for file in &files {
-        progress.show(streams)?;
-        let said = said(file);
-        status = status.max(said.status);
-        count(&mut counts, said.counts_as);
-        progress.clear(streams)?;
-        let line = match args.has("json") {
-            true => with_file(&name(file), &said).to_string(),
-            false => format!("{}: {}", name(file), said.line),
-        };
-        writeln!(streams.out, "{line}")?;
-        if streams.watched {
-            streams.out.flush()?;
-        }
-    }
-    let counts: Vec<String> = counts
-        .iter()
-        .map(|(what, n)| format!("{n} {what}"))
-        .collect();
-    if !args.has("json") {
-        writeln!(streams.out, "{} files: {}", files.len(), counts.join(", "))?;
-    }
-    Ok(status)
-}
-
 /// The answer to a single input, in full. A refusal is an error; in JSON it is an answer as well.
 pub fn one(args: &Args, streams: &mut Streams, name: &str, said: &Said) -> io::Result<Status> {
     if matches!(said.status, Status::Refused | Status::Wrong) {
@@ -220,52 +179,7 @@ pub fn one(args: &Args, streams: &mut Streams, name: &str, said: &Said) -> io::R
     Ok(said.status)
 }
 
-fn with_file(name: &str, said: &Said) -> Json {
+/// The answer as an object.
+pub fn with_file(name: &str, said: &Said) -> Json {
     object([("file", Json::text(name))]).and(said.json.clone())
-}
-
-fn count(counts: &mut Vec<(&'static str, usize)>, what: &'static str) {
-    match counts.iter_mut().find(|(w, _)| *w == what) {
-        Some((_, n)) => *n += 1,
-        None => counts.push((what, 1)),
-    }
-}
-
-/// A line on a terminal that says how far the work is. It is written over again, at most ten times a second.
-struct Progress {
-    of: usize,
-    at: usize,
-    shown: Option<Instant>,
-}
-
-impl Progress {
-    fn new(of: usize) -> Progress {
-        Progress {
-            of,
-            at: 0,
-            shown: None,
-        }
-    }
-
-    fn show(&mut self, streams: &mut Streams) -> io::Result<()> {
-        self.at += 1;
-        let due = self
-            .shown
-            .is_none_or(|t| t.elapsed() > Duration::from_millis(100));
-        if streams.watched && due {
-            self.shown = Some(Instant::now());
-            write!(streams.err, "\r\x1b[K{} of {} files", self.at, self.of)?;
-            streams.err.flush()?;
-        }
-        Ok(())
-    }
-
-    /// Takes the line away, so that an answer can stand in its place.
-    fn clear(&self, streams: &mut Streams) -> io::Result<()> {
-        if streams.watched {
-            write!(streams.err, "\r\x1b[K")?;
-            streams.err.flush()?;
-        }
-        Ok(())
-    }
 }

@@ -1,11 +1,12 @@
 //! `bench check`: whether a dossier is accepted.
 
-use crate::answer::{each, refused, Said, Status, Stop, Streams};
+use crate::answer::{refused, Said, Status, Stop, Streams};
 use crate::args::Args;
 use crate::explain::of_dossier;
 use crate::input::Input;
 use crate::json::{object, Json};
 use crate::lacks::current;
+use crate::many::each;
 use crate::record::records;
 
 pub fn run(args: &Args, streams: &mut Streams) -> Result<Status, Stop> {

@@ -1,11 +1,12 @@
 //! `bench test`: an offer or a single price held against the levels of an hour.
 
-use crate::answer::{each, refused, Said, Status, Stop, Streams};
+use crate::answer::{refused, Said, Status, Stop, Streams};
 use crate::args::{hour, Args};
 use crate::explain::of_offer;
 use crate::input::Input;
 use crate::json::{object, Json};
 use crate::levels::{dollars, megawatts};
+use crate::many::each;
 use crate::offer::{self, highest_for, highest_in, Pair};
 use crate::unit::{CONDITION, DOLLARS, LEVEL};
 use bench::{energy_test, price_test, Lamination, Verdict};

@@ -1,10 +1,11 @@
 //! `bench levels`: the levels at an hour.
 
-use crate::answer::{each, refused, Said, Status, Stop, Streams};
+use crate::answer::{refused, Said, Status, Stop, Streams};
 use crate::args::{hour, Args};
 use crate::explain::of_dossier;
 use crate::input::Input;
 use crate::json::{object, Json};
+use crate::many::each;
 use crate::unit::{DOLLARS, MEGAWATTS};
 use bench::{Lamination, Levels, Refusal};
 

@@ -14,6 +14,7 @@ pub mod input;
 pub mod json;
 mod lacks;
 mod levels;
+mod many;
 pub mod marks;
 pub mod offer;
 mod pack;

@@ -10,7 +10,8 @@ fn main() -> ExitCode {
     let mut streams = Streams {
         out: &mut BufWriter::new(io::stdout().lock()),
         err: &mut io::stderr().lock(),
-        watched: io::stderr().is_terminal(),
+        out_watched: io::stdout().is_terminal(),
+        err_watched: io::stderr().is_terminal(),
     };
     ExitCode::from(command::run(&words, &mut streams).code())
 }

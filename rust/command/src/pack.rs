@@ -7,7 +7,6 @@ use crate::input::{is_cut, name, read_bytes};
 use crate::text::{is_text, pack as packed, unpack as unpacked};
 use bench::Refusal;
 use std::fs;
-use std::io::{self, IsTerminal};
 
 /// A dossier from text; one in bytes stays as it is.
 pub fn pack(args: &Args, streams: &mut Streams) -> Result<Status, Stop> {
@@ -72,7 +71,7 @@ fn convert(
 fn write(args: &Args, streams: &mut Streams, bytes: &[u8]) -> Result<Status, Stop> {
     match args.value("out") {
         Some(path) => write_file(path, bytes)?,
-        None if io::stdout().is_terminal() && !is_text(bytes) => {
+        None if streams.out_watched && !is_text(bytes) => {
             let says = "a dossier is bytes: send them to a file, with --out OUT";
             return Err(Stop::Use(says.to_string()));
         }

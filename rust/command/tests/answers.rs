@@ -28,7 +28,8 @@ fn call(words: &[&str]) -> Ended {
     let mut streams = Streams {
         out: &mut out,
         err: &mut err,
-        watched: false,
+        out_watched: false,
+        err_watched: false,
     };
     let status = command::run(&words, &mut streams);
     // a packed dossier is no text
@@ -282,15 +283,19 @@ fn many_files_have_a_line_each_and_a_count() {
 fn progress_is_shown_to_those_who_watch() {
     let file = Kept::new(&make::written::r1());
     let words = ["check", file.name(), file.name()].map(OsString::from);
-    let (mut out, mut err) = (Vec::new(), Vec::new());
-    let mut streams = Streams {
-        out: &mut out,
-        err: &mut err,
-        watched: true,
-    };
-    assert_eq!(command::run(&words, &mut streams), Status::Done);
-    let shown = String::from_utf8(err).expect("text");
-    assert!(shown.contains("1 of 2 files"), "{shown:?}");
-    assert!(shown.ends_with("\r\x1b[K"), "{shown:?}");
-    assert!(!String::from_utf8(out).expect("text").contains('\x1b'));
+    for (out_watched, times) in [(false, 1), (true, 2)] {
+        let (mut out, mut err) = (Vec::new(), Vec::new());
+        let mut streams = Streams {
+            out: &mut out,
+            err: &mut err,
+            out_watched,
+            err_watched: true,
+        };
+        assert_eq!(command::run(&words, &mut streams), Status::Done);
+        let shown = String::from_utf8(err).expect("text");
+        assert!(shown.starts_with("\r\x1b[K1 of 2 files"), "{shown:?}");
+        assert!(shown.ends_with("\r\x1b[K"), "{shown:?}");
+        assert_eq!(shown.matches(" of 2 files").count(), times, "{shown:?}");
+        assert!(!String::from_utf8(out).expect("text").contains('\x1b'));
+    }
 }

@@ -1,0 +1,100 @@
+//! Many inputs at once: a line each, a count at the end, and for a person who waits how far it is.
+
+use crate::answer::{files, one, with_file, Said, Status, Stop, Streams};
+use crate::args::Args;
+use crate::input::{name, read, Input};
+use std::ffi::OsString;
+use std::io;
+use std::time::{Duration, Instant};
+
+/// Asks for each input of a call and writes the answers; a single one is answered in full.
+pub fn each(
+    args: &Args,
+    streams: &mut Streams,
+    ask: impl Fn(&Input) -> Said,
+) -> Result<Status, Stop> {
+    let files = files(args)?;
+    let said = |file: &OsString| match read(file) {
+        Ok(input) => ask(&input),
+        Err(error) => error.said(),
+    };
+    if let [file] = &files[..] {
+        return Ok(one(args, streams, &name(file), &said(file))?);
+    }
+    let (mut status, mut counts) = (Status::Done, Vec::new());
+    let mut progress = Progress::new(files.len());
+    for file in &files {
+        progress.next(streams)?;
+        let said = said(file);
+        status = status.max(said.status);
+        count(&mut counts, said.counts_as);
+        progress.give_way(streams)?;
+        match args.has("json") {
+            true => writeln!(streams.out, "{}", with_file(&name(file), &said))?,
+            false => writeln!(streams.out, "{}: {}", name(file), said.line)?,
+        }
+    }
+    progress.clear(streams)?;
+    if !args.has("json") {
+        let counts = counts.iter().map(|(what, n)| format!("{n} {what}"));
+        let counts: Vec<String> = counts.collect();
+        writeln!(streams.out, "{} files: {}", files.len(), counts.join(", "))?;
+    }
+    Ok(status)
+}
+
+fn count(counts: &mut Vec<(&'static str, usize)>, what: &'static str) {
+    match counts.iter_mut().find(|(w, _)| *w == what) {
+        Some((_, n)) => *n += 1,
+        None => counts.push((what, 1)),
+    }
+}
+
+/// How often the line changes at most.
+const PAUSE: Duration = Duration::from_millis(100);
+
+/// A line on the terminal of standard error that says how far the work is, written over again and
+/// again.
+struct Progress {
+    of: usize,
+    at: usize,
+    shown: Option<Instant>,
+}
+
+impl Progress {
+    fn new(of: usize) -> Progress {
+        Progress {
+            of,
+            at: 0,
+            shown: None,
+        }
+    }
+
+    /// Goes on to the next input.
+    fn next(&mut self, streams: &mut Streams) -> io::Result<()> {
+        self.at += 1;
+        if streams.err_watched && self.shown.is_none_or(|t| t.elapsed() > PAUSE) {
+            self.shown = Some(Instant::now());
+            streams.out.flush()?;
+            write!(streams.err, "\r\x1b[K{} of {} files", self.at, self.of)?;
+            streams.err.flush()?;
+        }
+        Ok(())
+    }
+
+    /// Takes the line away where an answer comes to stand on the same screen.
+    fn give_way(&mut self, streams: &mut Streams) -> io::Result<()> {
+        match streams.out_watched {
+            true => self.clear(streams),
+            false => Ok(()),
+        }
+    }
+
+    fn clear(&mut self, streams: &mut Streams) -> io::Result<()> {
+        if self.shown.take().is_some() {
+            write!(streams.err, "\r\x1b[K")?;
+            streams.err.flush()?;
+        }
+        Ok(())
+    }
+}
