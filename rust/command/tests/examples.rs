@@ -103,3 +103,21 @@ fn every_example_is_accepted() {
     }
     assert!(!said.contains("refused"), "{said}");
 }
+
+/// Every member of the JSON that the documents show stands in the table of docs/COMMAND.md.
+#[test]
+fn every_member_is_documented() {
+    let read = |name: &str| fs::read_to_string(root().join(name)).expect(name);
+    let command = read("docs/COMMAND.md");
+    let shown = format!("{command}{}", read("examples/README.md"));
+    let mut members = 0;
+    for object in shown.lines().filter(|line| line.starts_with("    {")) {
+        let texts: Vec<&str> = object.split('"').collect();
+        for pair in texts.windows(2).filter(|pair| pair[1].starts_with(':')) {
+            let member = pair[0];
+            assert!(command.contains(&format!("`{member}`")), "{member}");
+            members += 1;
+        }
+    }
+    assert!(members > 50, "{members} members");
+}
