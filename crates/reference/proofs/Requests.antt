@@ -1,22 +1,27 @@
 -- The profile at an hour, as the loop over the requests finds it.
-use mathlib.Core.Path.{_≡_, refl}
+use mathlib.Core.Path.{_≡_, refl, ap, sym, _∙_}
 use mathlib.Core.Bool.{Bool, true, false, cond, _&&_, not, false≢true}
-use mathlib.Core.List.{List}
-use Prim.Native.Nat.{ℕ, zero, suc, _+_, _≤_}
-use native.Mathlib.Nat.{pos-of-ne-zero}
+use mathlib.Core.List.{List, []}
+use Prim.Native.Nat.{ℕ, zero, suc, _+_, _≤_, _<_}
+use native.Mathlib.Nat.{pos-of-ne-zero, le-refl}
 use native.Mathlib.Numerals.{add-one}
 use native.Mathlib.Omega.{arith}
 use lib.Dec.{leb, ltb, eqb}
-use lib.ListN.{length}
-use borrow.Author.Tests.{eqb-false}
+use lib.ListN.{length, getD}
+use borrow.Author.Tests.{eqb-true, eqb-false}
 use Rattle.lists.specs.Lists.{Each}
+use Rattle.lists.proofs.Tests.{below-at}
 use Rattle.fields.specs.Numbers.{number}
 use Rattle.records.specs.Table.{table, rowOf, fieldOf, RQ}
 use Rattle.records.specs.Record.{offsetIn, offset, read, value, fault}
+use Rattle.records.specs.Dossier.{records}
 use Rattle.station.specs.Current.{current, present}
 use Rattle.station.specs.Parameters.{parameters, requested, firstHour, lastHour}
 use Rattle.station.proofs.Parameters.{says-high}
-use Rattle.formulas.specs.Levels.{covers, profileOf}
+use Rattle.index.specs.Slots.{slot, slotsEmpty}
+use Rattle.lookup.specs.Parts.{Indexed}
+use Rattle.lookup.proofs.Parts.{request-key, current-none, fits}
+use Rattle.formulas.specs.Levels.{covers, profileOf, profile}
 
 -- what one request says of the profile, read of its record
 pub after-request : (l : List (List ℕ)) (h n p : ℕ) {r : List ℕ} {asked first last : ℕ} → r ≡ current RQ n l → asked ≡ number 15 1 r → first ≡ number 7 4 r → last ≡ number 11 4 r
@@ -49,3 +54,26 @@ profile-range {l} e h (suc n) = go (covers (parameters l) h (suc n)) refl (profi
         → (1 ≤ cond t (requested (parameters l) (suc n)) (profileOf (parameters l) h n)) × (cond t (requested (parameters l) (suc n)) (profileOf (parameters l) h n) ≤ 4)
     go true p q = (covered (requested (parameters l) (suc n)) (parameters l .has RQ (suc n)) (leb (firstHour (parameters l) (suc n)) h) (leb h (lastHour (parameters l) (suc n))) p, asked-high e (suc n))
     go false p q = q
+
+-- where the slots of all requests are empty, there is none, and no hour has another profile than 1
+module _ (d ix : List ℕ) (h : Indexed d ix) {j : ℕ} (first : j ≡ slot RQ 1) (empty : slotsEmpty ix j 16 ≡ true) (hour : ℕ) where
+  unrequested : (n : ℕ) → n < 16 → current RQ (suc n) (records d) ≡ []
+  unfolding slotsEmpty slot
+  unrequested n p =
+      let w : j + n ≡ slot RQ (suc n) = omega (arith, first) in
+      let i = request-key (suc n) (omega arith) (omega arith) in
+      current-none d ix h RQ (suc n) i (fits d ix h RQ (suc n) i refl)
+      (ap (λ (k : ℕ). getD ix k 0) (sym w) ∙ eqb-true (getD ix (j + n) 0) 0 (below-at 16 (λ k. eqb (getD ix (j + k) 0) 0) empty n p))
+
+  uncovered : (n : ℕ) → n < 16 → covers (parameters (records d)) hour (suc n) ≡ false
+  unfolding covers parameters present
+  uncovered n p = rw (unrequested n p) refl
+
+  profile-to : (n : ℕ) → n ≤ 16 → 1 ≡ profileOf (parameters (records d)) hour n
+  unfolding profileOf
+  profile-to zero p = refl
+  profile-to (suc n) p = rw (uncovered n (omega arith)) (profile-to n (omega arith))
+
+  pub profile-none : 1 ≡ profile (parameters (records d)) hour
+  unfolding profile
+  profile-none = profile-to 16 (le-refl 16)

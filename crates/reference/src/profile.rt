@@ -22,11 +22,14 @@ fn after(d: &[u8], index: &[u16], hour: u32, n: usize, p: usize) -> usize
     }
 }
 
-// The highest request that covers the hour decides; with none it is profile 1.
+// The highest request that covers the hour decides; with none it is profile 1, and without any the slots tell it at once.
 pub fn profile(d: &[u8], index: &[u16], hour: u32) -> usize
     requires { ⌜ Indexed (now d) (now index) ⌝ }
     ensures { λ r. ⌜ (r ≡ profile (parametersIn (now (d .entry))) hour) × (1 ≤ r) × (r ≤ 4) ⌝ }
 {
+    if index::slots_empty(index, index::keys::slot_rq(1), 16) {
+        return 1;
+    }
     let mut p = 1;
     let mut n = 0;
     while n < 16 {
