@@ -2,9 +2,9 @@
 // takes are in specs/, their laws in proofs/.
 ghost use mathlib.Core.Path.{_≡_};
 ghost use mathlib.Core.Bool.{true};
-ghost use Prim.Native.Nat.{_<_, _≤_, _/_, min};
+ghost use Prim.Native.Nat.{_+_, _*_, _<_, _≤_, _/_, min};
 ghost use lib.ListN.{length};
-ghost use Rattle.fields.specs.Numbers.{biasedOf};
+ghost use Rattle.fields.specs.Numbers.{number, biasedOf};
 ghost use Rattle.rules.specs.Fit.{holds};
 ghost use Rattle.reference.specs.Packed.{unpacked};
 ghost use Rattle.verdicts.specs.Test.{limit as limitOf, overlap, quantity, priceAt};
@@ -76,12 +76,30 @@ fn overlaps(low: u64, high: u64, from: u64, to: u64) -> bool
     (low < high) & (low < to) & (from < high) & (from < to)
 }
 
-// The quantity of a pair, counted from 0.
+// The quantity of a pair, counted from 0. A pair that is there whole is read as a part of its own, so that one test serves all its bytes.
 pub fn quantity_at(offer: &[u8], k: usize) -> u64
     requires { ⌜ k < 20 ⌝ }
     ensures { λ r. ⌜ r ≡ quantity (now (offer .entry)) k ⌝ }
 {
-    fields::u16_at(offer, 6 * k) as u64
+    let at = 6 * k;
+    let end = at + 6;
+    if offer.len() < end {
+        return fields::u16_at(offer, at) as u64;
+    }
+    fields::u16_at(&offer[at..end], 0) as u64
+}
+
+// Its price as four bytes, read the same way.
+fn price_bytes(offer: &[u8], k: usize) -> u32
+    requires { ⌜ k < 20 ⌝ }
+    ensures { λ r. ⌜ r ≡ number (6 * k + 2) 4 (now (offer .entry)) ⌝ }
+{
+    let at = 6 * k;
+    let end = at + 6;
+    if offer.len() < end {
+        return fields::u32_at(offer, at + 2);
+    }
+    fields::u32_at(&offer[at..end], 2)
 }
 
 // Its price, held plus 2^31.
@@ -89,7 +107,7 @@ pub fn price_at(offer: &[u8], k: usize) -> u64
     requires { ⌜ k < 20 ⌝ }
     ensures { λ r. ⌜ (r ≡ priceAt (now (offer .entry)) k) × (r < 4294967296) ⌝ }
 {
-    ((fields::u32_at(offer, 6 * k + 2) as u64) + BIAS) % 4294967296
+    ((price_bytes(offer, k) as u64) + BIAS) % 4294967296
 }
 
 // Whether a pair fails in a lamination.
