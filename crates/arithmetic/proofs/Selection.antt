@@ -2,7 +2,7 @@
 use mathlib.Core.Path.{_≡_, refl, _∙_}
 use mathlib.Core.Bool.{Bool, true, false, cond}
 use mathlib.Core.List.{List, [], _∷_}
-use Prim.Native.Nat.{ℕ, zero, suc, _+_, _*_, _-_, _≤_, _<_}
+use Prim.Native.Nat.{ℕ, zero, suc, _+_, _*_, _-_, _≤_, _<_, max, min}
 use native.Mathlib.Decide.{decLe}
 use native.Mathlib.Nat.{le-refl}
 use native.Mathlib.Numerals.{add-one}
@@ -14,7 +14,7 @@ use borrow.Author.Tests.{ltb-false}
 use Rattle.lists.specs.Lists.{Each, done, also}
 use Rattle.formulas.specs.Sums.{sumOf, falling, sumFirst, sumHighest, fromTop, above, atLeast}
 use Rattle.formulas.proofs.Sums.{Falls, falling-sum, top, sorted, above-head, above-not, least-head, least-not, one-cond, falls-above, falls-least, fromTop-few, fromTop-enough}
-use Rattle.arithmetic.specs.Highest.{excess, Threshold, PriceIn}
+use Rattle.arithmetic.specs.Highest.{excess, inTurn, Threshold, PriceIn}
 
 -- ---- a loop that adds up f of each element
 
@@ -48,16 +48,47 @@ threshold-met n lo hi s p q e f =
     let z : hi ≡ lo = omega arith in
     record { few = rw z at f; enough = e }
 
--- none is above a highest, and all are a lowest or more
-pub none-above : {l : List ℕ} → Each PriceIn l → above 2147683648 l ≡ 0
-unfolding sumOf
-none-above done = refl
-none-above (also {a = x} h e) = omega (arith, above-not 2147683648 x (h .high), none-above e)
+-- ---- the lowest and the highest of a list
 
-pub all-least : {l : List ℕ} → Each PriceIn l → atLeast 2147283648 l ≡ length l
-unfolding sumOf
-all-least done = refl
-all-least (also {a = x} h e) = omega (arith, least-head 2147283648 x (h .low), all-least e)
+pub turn-next : (f : ℕ → ℕ → ℕ) (s : List ℕ) (k a t x : ℕ) → k < length s → inTurn f a (drop k s) ≡ t → x ≡ f a (getD s k 0) → inTurn f x (drop (k + 1) s) ≡ t
+unfolding inTurn
+turn-next f s k a t x h e p = rw (p, add-one k) (rw (drop-cons s k 0 h) at e)
+
+pub turn-end : (f : ℕ → ℕ → ℕ) (s : List ℕ) (k a t : ℕ) → length s ≤ k → inTurn f a (drop k s) ≡ t → a ≡ t
+unfolding inTurn
+turn-end f s k a t h e = rw (drop-of-length-le s {i = k} h) at e
+
+lowest-le : (a : ℕ) (l : List ℕ) → inTurn min a l ≤ a
+unfolding inTurn
+lowest-le a [] = le-refl a
+lowest-le a (x ∷ l) = omega (arith, lowest-le (min a x) l)
+
+pub topmost-le : (a : ℕ) (l : List ℕ) → a ≤ inTurn max a l
+unfolding inTurn
+topmost-le a [] = le-refl a
+topmost-le a (x ∷ l) = omega (arith, topmost-le (max a x) l)
+
+-- all are the lowest or more, and none is above the highest
+pub all-least : (v a : ℕ) (l : List ℕ) → v ≤ inTurn min a l → atLeast v l ≡ length l
+unfolding inTurn sumOf
+all-least v a [] h = refl
+all-least v a (x ∷ l) h = omega (arith, least-head v x (omega (arith, lowest-le (min a x) l)), all-least v (min a x) l h)
+
+pub none-above : (v a : ℕ) (l : List ℕ) → inTurn max a l ≤ v → above v l ≡ 0
+unfolding inTurn sumOf
+none-above v a [] h = refl
+none-above v a (x ∷ l) h = omega (arith, above-not v x (omega (arith, topmost-le (max a x) l)), none-above v (max a x) l h)
+
+-- and both are prices
+pub lowest-in : (a : ℕ) {l : List ℕ} → Each PriceIn l → PriceIn a → PriceIn (inTurn min a l)
+unfolding inTurn
+lowest-in a done p = p
+lowest-in a (also {a = x} h e) p = lowest-in (min a x) e (record { low = omega (arith, h .low, p .low); high = omega (arith, p .high) })
+
+pub topmost-in : (a : ℕ) {l : List ℕ} → Each PriceIn l → PriceIn a → PriceIn (inTurn max a l)
+unfolding inTurn
+topmost-in a done p = p
+topmost-in a (also {a = x} h e) p = topmost-in (max a x) e (record { low = omega (arith, p .low); high = omega (arith, h .high, p .high) })
 
 -- ---- the sum of the n highest
 

@@ -1,6 +1,6 @@
 -- The n highest of a list by a threshold: what each lies above it, and the threshold n times. The law `highest-sum` says
 -- that this is their sum, and `threshold-place` that the threshold is the number at place n from the top.
-use mathlib.Core.List.{List}
+use mathlib.Core.List.{List, [], _∷_}
 use Prim.Native.Nat.{ℕ, _-_, _≤_}
 use Rattle.formulas.specs.Sums.{sumOf, above, atLeast}
 
@@ -17,3 +17,8 @@ pub record Threshold (n v : ℕ) (l : List ℕ) : Type 0 where
 pub record PriceIn (x : ℕ) : Type 0 where
   pub low : 2147283648 ≤ x
   pub high : x ≤ 2147683648
+
+-- f of what is in hand and each number in turn: with `min` the lowest of a list, with `max` the highest
+unfoldable pub inTurn : (ℕ → ℕ → ℕ) → ℕ → List ℕ → ℕ
+inTurn f a [] = a
+inTurn f a (x ∷ l) = inTurn f (f a x) l

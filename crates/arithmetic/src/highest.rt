@@ -1,16 +1,54 @@
-// The highest of some prices, by the price that parts them from the others: it is found by halving the range.
+// The highest of some prices, by the price that parts them from the others: it is found by halving the range that they lie in.
 ghost use mathlib.Core.Path.{_≡_};
-ghost use Prim.Native.Nat.{_*_, _-_, _≤_};
+ghost use Prim.Native.Nat.{_*_, _-_, _≤_, max, min};
 ghost use lib.ListN.{length};
 ghost use Rattle.lists.specs.Lists.{Each};
 ghost use Rattle.formulas.specs.Sums.{sumHighest, fromTop, above, atLeast};
-ghost use Rattle.arithmetic.specs.Highest.{excess, Threshold, PriceIn};
+ghost use Rattle.arithmetic.specs.Highest.{excess, inTurn, Threshold, PriceIn};
 use crate::less;
 
-// The lowest and the highest price, plus 2^31.
-const LOWEST: u32 = records::LOWEST_PRICE as u32;
-
+// The highest price, plus 2^31.
 const HIGHEST: u32 = records::HIGHEST_PRICE as u32;
+
+// The lesser of two prices.
+fn lower(a: u32, b: u32) -> u32
+    ensures { λ r. ⌜ r ≡ min a b ⌝ }
+{
+    if a < b { a } else { b }
+}
+
+// The greater of two.
+fn higher(a: u32, b: u32) -> u32
+    ensures { λ r. ⌜ r ≡ max a b ⌝ }
+{
+    if a < b { b } else { a }
+}
+
+// The lowest of some, or a price if it is lower.
+fn lowest(s: &[u32], price: u32) -> u32
+    ensures { λ r. ⌜ r ≡ inTurn min price (now (s .entry)) ⌝ }
+{
+    let mut low = price;
+    let mut k = 0;
+    while k < s.len() {
+        low = lower(low, s[k]);
+        k += 1;
+    }
+    low
+}
+
+// The highest of some, or a price if it is higher.
+fn topmost(s: &[u32], price: u32) -> u32
+    ensures { λ r. ⌜ r ≡ inTurn max price (now (s .entry)) ⌝ }
+{
+    let mut top = price;
+    let mut k = 0;
+    while k < s.len() {
+        top = higher(top, s[k]);
+        k += 1;
+    }
+    top
+}
 
 // How many are above v.
 fn above(s: &[u32], v: u32) -> usize
@@ -57,12 +95,22 @@ fn threshold(s: &[u32], n: usize, low: u32, high: u32) -> u32
     lo
 }
 
+// The threshold of the n highest of prices that may lie anywhere in their range.
+fn price_threshold(s: &[u32], n: usize) -> u32
+    requires { ⌜ (n ≤ length (now s)) × Each PriceIn (now s) ⌝ }
+    ensures { λ r. ⌜ Threshold n r (now (s .entry)) × (2147283648 ≤ r) × (r ≤ 2147683648) ⌝ }
+{
+    let low = lowest(s, HIGHEST);
+    let high = topmost(s, low);
+    threshold(s, n, low, high)
+}
+
 // The sum of the n highest.
 pub fn highest(s: &[u32], n: usize) -> u64
     requires { ⌜ (n ≤ length (now s)) × (length (now s) ≤ 168) × Each PriceIn (now s) ⌝ }
     ensures { λ r. ⌜ (r ≡ sumHighest n (now (s .entry))) × (r ≤ 336 * 4294967295) ⌝ }
 {
-    let v = threshold(s, n, LOWEST, HIGHEST);
+    let v = price_threshold(s, n);
     excess(s, v) + (n as u64) * (v as u64)
 }
 
@@ -71,5 +119,5 @@ pub fn from_top(s: &[u32], n: usize) -> u32
     requires { ⌜ (1 ≤ n) × (n ≤ length (now s)) × Each PriceIn (now s) ⌝ }
     ensures { λ r. ⌜ (r ≡ fromTop n (now (s .entry))) × (2147283648 ≤ r) × (r ≤ 2147683648) ⌝ }
 {
-    threshold(s, n, LOWEST, HIGHEST)
+    price_threshold(s, n)
 }

@@ -2,12 +2,12 @@ use borrow.Author.Needs.{needs}
 use Prim.Native.Nat.{_*_, _≤_}
 use native.Mathlib.Nat.{mul-le-mul}
 use native.Mathlib.Omega.{arith}
-use Rattle.arithmetic.proofs.Selection.{none-above, all-least, highest-sum}
+use Rattle.arithmetic.proofs.Selection.{highest-sum}
 use Rattle.arithmetic.proofs.highest.highest.Statement.{statement}
 use Rattle.arithmetic.proofs.highest.highest.Tie as tie
 
-threshold-requires : tie.Need-threshold-requires
-threshold-requires c κs = (omega arith, omega (arith, all-least (c .before .pre .2)), omega (arith, none-above (c .before .pre .2)))
+price-threshold-requires : tie.Need-price-threshold-requires
+price-threshold-requires c κs = search needs
 
 excess-requires : tie.Need-excess-requires
 excess-requires c κs = search needs
@@ -16,10 +16,10 @@ cast-result : tie.Need-cast-result
 cast-result c = search needs
 
 -- the threshold as often as there are hours
-times : (c : tie.After-excess) → c .before .before .before .args .n * c .before .threshold .result ≤ 168 * 4294967295
+times : (c : tie.After-excess) → c .before .before .before .args .n * c .before .price-threshold .result ≤ 168 * 4294967295
 times c =
     let a : c .before .before .before .args .n ≤ 168 = omega arith in
-    let b : c .before .threshold .result ≤ 4294967295 = omega arith in
+    let b : c .before .price-threshold .result ≤ 4294967295 = omega arith in
     mul-le-mul a b
 
 mul-result : tie.Need-mul-result
@@ -30,8 +30,8 @@ add-result c = omega (arith, times c)
 
 returns : tie.Need-returns
 returns c =
-    let e = highest-sum _ _ (c .before .before .before .args .s .now) (c .before .threshold .ensures .0) in
+    let e = highest-sum _ _ (c .before .before .before .args .s .now) (c .before .price-threshold .ensures .0) in
     (omega (arith, e, c .excess .ensures .0), omega (arith, times c))
 
 pub highest-spec : {M : Type 1} → statement M
-highest-spec = tie.close (tie.spec threshold-requires excess-requires cast-result mul-result add-result returns)
+highest-spec = tie.close (tie.spec price-threshold-requires excess-requires cast-result mul-result add-result returns)

@@ -1,0 +1,56 @@
+use borrow.Author.Needs.{needs}
+use mathlib.Core.Path.{_≡_, refl}
+use Prim.Native.Nat.{_-_, _≤_, max}
+use native.Mathlib.Omega.{arith}
+use lib.ListN.{length, drop}
+use Rattle.arithmetic.specs.Highest.{inTurn}
+use Rattle.arithmetic.proofs.Selection.{turn-next, turn-end}
+use Rattle.arithmetic.proofs.highest.topmost.Statement.{statement}
+use Rattle.arithmetic.proofs.highest.topmost.Tie as tie
+
+abbrev Inv-loop : tie.InvT-loop
+Inv-loop s price top₀ k₀ top k = (k ≤ length s) × (inTurn max top (drop k s) ≡ inTurn max price s)
+
+abbrev μ-loop : tie.MeasureT-loop
+μ-loop s price top₀ k₀ top k = length s - k
+
+loop-holds : tie.Need-loop-holds Inv-loop μ-loop
+loop-holds c = (search needs, refl)
+
+mul-higher : tie.Need-mul-higher Inv-loop μ-loop
+mul-higher c = search needs
+
+shared-slice-read-higher : tie.Need-shared-slice-read-higher Inv-loop μ-loop
+shared-slice-read-higher c = search needs
+
+higher-requires : tie.Need-higher-requires Inv-loop μ-loop
+higher-requires c κs = search needs
+
+add-k : tie.Need-add-k Inv-loop μ-loop
+add-k c = omega arith
+
+loop-less : tie.Need-loop-less Inv-loop μ-loop
+loop-less c = omega arith
+
+loop-again : tie.Need-loop-again Inv-loop μ-loop
+loop-again c =
+    let i = c .before .before .before in
+    (omega arith, turn-next max (i .before .before .args .s .now) (i .loop .k) _ _ _ (c .before .before .loop-test .taken) (i .loop .inv .1) (c .higher .ensures))
+
+returns : tie.Need-returns Inv-loop μ-loop
+returns c = turn-end max (c .before .before .before .args .s .now) _ _ _ (c .loop-test .left) (c .before .loop .inv .1)
+
+pub topmost-spec : {M : Type 1} → statement M
+topmost-spec =
+    tie.close
+    (tie.spec
+    Inv-loop
+    μ-loop
+    loop-holds
+    mul-higher
+    shared-slice-read-higher
+    higher-requires
+    add-k
+    loop-less
+    loop-again
+    returns)
