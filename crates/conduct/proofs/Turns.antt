@@ -2,12 +2,15 @@
 use mathlib.Core.Path.{_≡_, refl, ap, sym, _∙_}
 use mathlib.Core.Bool.{Bool, true, false, _&&_, _||_, not}
 use mathlib.Core.List.{List}
-use Prim.Native.Nat.{ℕ, _+_, _-_, _*_, _%_, _≤_, _<_}
+use Prim.Native.Nat.{ℕ, zero, suc, _+_, _-_, _*_, _/_, _%_, _≤_, _<_}
+use native.Mathlib.Nat.{le-refl}
+use native.Mathlib.Decide.{ℕ-discrete}
 use native.Mathlib.Numerals.{add-one}
 use native.Mathlib.Omega.{arith}
+use lib.Arith.{lt-of-le-ne}
 use lib.Dec.{leb, ltb, eqb}
 use lib.ListN.{length}
-use borrow.Author.Tests.{lt-ltb, le-ltb, leb-true}
+use borrow.Author.Tests.{lt-ltb, le-ltb, leb-true, ltb-true, not-false}
 use Rattle.lists.specs.Tests.{every, between}
 use Rattle.lists.proofs.Tests.{and-left, and-right}
 use Rattle.records.specs.declared.Answer.{Answer}
@@ -15,11 +18,13 @@ use Rattle.records.specs.declared.Answer.the-variants.{Accepted, Refused}
 use Rattle.records.specs.Table.{TH}
 use Rattle.records.specs.Record.{inRange}
 use Rattle.records.specs.Answers.{orElse, refuseIf}
+use Rattle.records.proofs.Answers.{not-refuseIf, orElse-parts}
 use Rattle.station.specs.Current.{current, present}
 use Rattle.station.specs.Parameters.{Parameters, parameters, capacity, technology, thresholdKey}
-use Rattle.rules.specs.Fit.{holds}
+use Rattle.rules.specs.Fit.{energy, holds}
 use Rattle.verdicts.specs.Test.{quantity, priceAt, before}
-use Rattle.verdicts.specs.Refusals.{levelRefusal, conditionRefusal, lengthRefusal, priceBefore, pairHolds, malformed, aboveCapacity}
+use Rattle.verdicts.specs.Refusals.{levelRefusal, conditionRefusal, lengthRefusal, priceBefore, pairHolds, malformed, aboveCapacity, offerRefusal}
+use Rattle.limits.specs.Shapes.{LastHighest}
 use Rattle.limits.proofs.Turns.{one-less}
 use Rattle.conduct.specs.Shapes.{pairTest}
 
@@ -90,6 +95,60 @@ module _ (s : Parameters) (o : List ℕ) (n k most high : ℕ) (h : k < n) (l : 
 pub above-end : (s : Parameters) (o : List ℕ) (n k : ℕ) → n ≤ k → Accepted ≡ aboveCapacity s o k (n - k)
 unfolding aboveCapacity
 above-end s o n k h = let z : n - k ≡ 0 = omega arith in rw z refl
+
+-- ---- an offer that draws no 10: the last pair has the highest quantity and price
+
+-- what doesn't fall from one to the next is highest at the last
+to-last : (f : ℕ → ℕ) (n : ℕ) → ((j : ℕ) → suc j < n → f j ≤ f (suc j)) → (j : ℕ) → j < n → f j ≤ f (n - 1)
+to-last f n h j b = go (n - 1 - j) j (omega arith)
+  where
+    go : (m i : ℕ) → i + m ≡ n - 1 → f i ≤ f (n - 1)
+    go zero i e = let z : i ≡ n - 1 = omega arith in rw z (le-refl (f (n - 1)))
+    go (suc m) i e = omega (arith, h i (omega arith), go m (suc i) (omega arith))
+
+module _ (o : List ℕ) where
+  pairs-hold : (n k : ℕ) → malformed o k n ≡ Accepted → (j : ℕ) → k ≤ j → j < k + n → pairHolds o j ≡ true
+  unfolding malformed
+  pairs-hold zero k e j a b = absurd (omega arith)
+  pairs-hold (suc n) k e j a b = go (ℕ-discrete j k)
+    where
+      p : (refuseIf (not (pairHolds o k)) 10 (6 * k) ≡ Accepted) × (malformed o (k + 1) n ≡ Accepted)
+      p = orElse-parts (refuseIf (not (pairHolds o k)) 10 (6 * k)) (malformed o (k + 1) n) e
+
+      go : Dec (j ≡ k) → pairHolds o j ≡ true
+      go (yes z) = rw z (not-false _ (not-refuseIf _ 10 (6 * k) (p .0)))
+      go (no z) = pairs-hold n (k + 1) (p .1) j (omega (arith, lt-of-le-ne a (λ y. z (sym y)))) (omega arith)
+
+  module _ (n : ℕ) (e : malformed o 0 n ≡ Accepted) where
+    pair-rises : (j : ℕ) → suc j < n → (quantity o j ≤ quantity o (suc j)) × (priceAt o j ≤ priceAt o (suc j))
+    unfolding before priceBefore
+    pair-rises j h =
+        let z : pairTest (quantity o j) (priceAt o j) (quantity o (suc j)) (priceAt o (suc j)) ≡ true = pair-test o (suc j) ∙ pairs-hold n 0 e (suc j) (omega arith) (omega arith) in
+        parts (ltb (quantity o j) (quantity o (suc j))) (leb 2147283648 (priceAt o (suc j))) (leb (priceAt o (suc j)) 2147683648) (leb (priceAt o j) (priceAt o (suc j))) z refl refl
+      where
+        parts : (a b c d : Bool) → a && b && c && d ≡ true → ltb (quantity o j) (quantity o (suc j)) ≡ a → leb (priceAt o j) (priceAt o (suc j)) ≡ d → (quantity o j ≤ quantity o (suc j)) × (priceAt o j ≤ priceAt o (suc j))
+        parts a b c d y f g =
+            (omega (arith, ltb-true (quantity o j) (quantity o (suc j)) (f ∙ and-left a b (and-left (a && b) c (and-left (a && b && c) d y)))), leb-true (priceAt o j) (priceAt o (suc j)) (g ∙ and-right (a && b && c) d y))
+
+    pub last-highest : LastHighest o n
+    last-highest = record { at = to-last (priceAt o) n (λ j h. pair-rises j h .1) }
+
+    within-from : (s : Parameters) → quantity o (n - 1) ≤ capacity s → (m k : ℕ) → k + m ≡ n → Accepted ≡ aboveCapacity s o k m
+    unfolding aboveCapacity orElse refuseIf
+    within-from s h zero k f = refl
+    within-from s h (suc m) k f =
+        rw (le-ltb (capacity s) (quantity o k) (omega (arith, to-last (quantity o) n (λ j g. pair-rises j g .0) k (omega arith)))) (within-from s h m (k + 1) (omega arith))
+
+    -- 11: where the last quantity is not above the capacity, none is
+    pub within-capacity : (s : Parameters) → quantity o (n - 1) ≤ capacity s → Accepted ≡ aboveCapacity s o 0 n
+    within-capacity s h = within-from s h n 0 (omega arith)
+
+pub offer-formed : (s : Parameters) (c : ℕ) (o : List ℕ) → offerRefusal s c o ≡ Accepted → malformed o 0 (length o / 6) ≡ Accepted
+unfolding offerRefusal
+offer-formed s c o e =
+    let p = orElse-parts (conditionRefusal s energy c) _ e in
+    let q = orElse-parts (lengthRefusal o) _ (p .1) in
+    orElse-parts (malformed o 0 (length o / 6)) _ (q .1) .0
 
 -- ---- 10 at the length, 12, 14
 

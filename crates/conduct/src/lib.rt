@@ -43,7 +43,7 @@ fn offer_verdict(d: &[u8], index: &[u16], hour: u32, condition: u8, offer: &[u8]
         Answer::Accepted => {
             let lv = reference::hour_levels(d, index, hour);
             let t = threshold_of(d, index, c, 1);
-            limits::offer_test(lv, t, offer)
+            limits::rising_offer_test(lv, t, offer)
         }
     }
 }

@@ -2,6 +2,7 @@
 ghost use mathlib.Core.Path.{_≡_};
 ghost use Prim.Native.Nat.{_≤_, _/_};
 ghost use lib.ListN.{length};
+ghost use Rattle.records.specs.declared.Answer.the-variants.{Accepted};
 ghost use Rattle.records.specs.Dossier.{records};
 ghost use Rattle.station.specs.Parameters.{parameters};
 ghost use Rattle.lookup.specs.Parts.{Indexed};
@@ -64,6 +65,22 @@ fn above_capacity(d: &[u8], index: &[u16], offer: &[u8]) -> Answer
     Answer::Accepted
 }
 
+// 11 of an offer that draws no 10: its quantities rise, so where the last is not above the capacity, none is.
+fn capacity_refusal(d: &[u8], index: &[u16], offer: &[u8]) -> Answer
+    requires { ⌜ Indexed (now d) (now index) × (length (now offer) ≤ 120) × (malformedFrom (now offer) 0 (length (now offer) / 6) ≡ Accepted) ⌝ }
+    ensures { λ r. ⌜ r ≡ aboveCapacity (parameters (records (now (d .entry)))) (now (offer .entry)) 0 (length (now (offer .entry)) / 6) ⌝ }
+{
+    let pairs = offer.len() / 6;
+    if pairs == 0 {
+        return Answer::Accepted;
+    }
+    let capacity = fields::u16_at(lookup::rs(d, index), 7) as u64;
+    if limits::quantity_at(offer, pairs - 1) <= capacity {
+        return Answer::Accepted;
+    }
+    above_capacity(d, index, offer)
+}
+
 // 10 at the offer's length, if that isn't 6 to 120 in sixes.
 fn length_refusal(offer: &[u8]) -> Answer
     ensures { λ r. ⌜ r ≡ lengthRefusal (now (offer .entry)) ⌝ }
@@ -123,7 +140,7 @@ pub fn offer_refusal(d: &[u8], index: &[u16], condition: usize, offer: &[u8]) ->
             Answer::Refused { number, place } => Answer::Refused { number, place },
             Answer::Accepted => match malformed(offer) {
                 Answer::Refused { number, place } => Answer::Refused { number, place },
-                Answer::Accepted => above_capacity(d, index, offer),
+                Answer::Accepted => capacity_refusal(d, index, offer),
             },
         },
     }

@@ -1,15 +1,15 @@
 -- The test over levels as code hands them over is the test over the levels, and goes by the arrays' places.
 use mathlib.Core.Path.{_≡_, refl, ap, sym, _∙_}
-use mathlib.Core.Bool.{Bool, true, false, cond, _&&_}
+use mathlib.Core.Bool.{Bool, true, false, cond, _&&_, false≢true}
 use mathlib.Core.List.{List, [], _∷_, _++_, map}
 use Prim.Native.Nat.{ℕ, zero, suc, _+_, _-_, _≤_, _<_, min}
 use native.Mathlib.Decide.{ℕ-discrete}
 use native.Mathlib.Numerals.{add-one}
 use native.Mathlib.Omega.{arith}
 use lib.Arith.{lt-of-le-ne}
-use lib.Dec.{eqb}
+use lib.Dec.{eqb, leb, ltb}
 use lib.ListN.{getD}
-use borrow.Author.Tests.{eq-eqb, ne-eqb}
+use borrow.Author.Tests.{eq-eqb, ne-eqb, le-leb, lt-ltb, leb-true, ltb-true}
 use Rattle.station.specs.Parameters.{Parameters}
 use Rattle.rules.specs.Fit.{energy, holds}
 use Rattle.reference.specs.declared.HourLevels.{HourLevels}
@@ -19,10 +19,10 @@ use Rattle.limits.specs.declared.Threshold.{Threshold}
 use Rattle.limits.specs.declared.Pair.{Pair}
 use Rattle.verdicts.specs.declared.Verdict.{Verdict}
 use Rattle.verdicts.specs.declared.Verdict.the-variants.{Passes, Fails}
-use Rattle.verdicts.specs.Test.{failsUnder, failing, quantity, priceAt, before, overlap, offerFrom, priceTest}
-use Rattle.limits.specs.Shapes.{thresholdOf, failsAt, failingShown, offerShown, priceShown, failsIn, firstFailing, leastOf, singleLevel}
+use Rattle.verdicts.specs.Test.{limit, fails, failsUnder, failing, quantity, priceAt, before, overlap, offerFrom, priceTest}
+use Rattle.limits.specs.Shapes.{thresholdOf, failsAt, failingShown, offerShown, priceShown, failsIn, firstFailing, leastOf, singleLevel, LastHighest}
 use Rattle.verdicts.proofs.Stays.{pass-stays}
-use Rattle.limits.proofs.Turns.{one-less}
+use Rattle.limits.proofs.Turns.{one-less, all-left}
 
 -- ---- without the formulas
 
@@ -190,6 +190,35 @@ module _ (t : Threshold) (r : HourLevels) (o : List ℕ) (n k : ℕ) (p : Pair) 
 pub pair-end : (t : Threshold) (m : List Shown) (o : List ℕ) (n k : ℕ) → n ≤ k → Passes ≡ offerShown t m o k (n - k)
 unfolding offerShown
 pair-end t m o n k h = let z : n - k ≡ 0 = omega arith in rw z refl
+
+-- a lower price passes where a price does
+module _ (t : Threshold) {p q : ℕ} (x : ℕ) (h : q ≤ p) where
+  pub lower-passes : failsAt t p x ≡ false → failsAt t q x ≡ false
+  unfolding failsAt fails
+  lower-passes e = go (leb floor q) (ltb most q) refl refl
+    where
+      floor : ℕ
+      floor = t .floor + 2147483648
+
+      most : ℕ
+      most = limit x (t .percent) (t .margin) + 2147483648
+
+      go : (a b : Bool) → leb floor q ≡ a → ltb most q ≡ b → a && b ≡ false
+      go true true f g = absurd (false≢true (sym e ∙ rw (le-leb floor p (omega (arith, leb-true floor q f)), lt-ltb most p (omega (arith, ltb-true most q g))) refl))
+      go true false f g = refl
+      go false b f g = refl
+
+-- where the highest price passes at the least level, all pairs pass
+module _ (t : Threshold) (r : HourLevels) (o : List ℕ) (n : ℕ) (h : LastHighest o n) (e : failsAt t (priceAt o (n - 1)) (leastOf (r .cents) (r .count)) ≡ false) where
+  pass-from : (m k : ℕ) → k + m ≡ n → Passes ≡ offerShown t (unpacked r) o k (n - k)
+  pass-from zero k f = pair-end t (unpacked r) o n k (omega arith)
+  pass-from (suc m) k f =
+      let p : Pair = record { low = before o k; high = quantity o k; price = priceAt o k } in
+      let z = lower-passes t (leastOf (r .cents) (r .count)) (h .at k (omega arith)) e in
+      pass-from m (k + 1) (omega arith) ∙ pair-next t r o n k p 0 (omega arith) refl refl refl (least-passes t p (r .from) (r .to) (r .cents) (leastOf (r .cents) (r .count)) z (r .count) refl) refl
+
+  pub all-pass : Passes ≡ offerShown t (unpacked r) o 0 n
+  all-pass = pass-from n 0 (omega arith) ∙ all-left (offerShown t (unpacked r) o 0) n
 
 -- ---- a single price, against the level of a kind that the technology holds
 

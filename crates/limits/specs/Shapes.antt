@@ -2,7 +2,7 @@
 -- laws of proofs/Laminations.antt tie each shape to its definition.
 use mathlib.Core.Bool.{Bool, true, cond, _&&_}
 use mathlib.Core.List.{List, [], _∷_}
-use Prim.Native.Nat.{ℕ, zero, suc, _+_, min}
+use Prim.Native.Nat.{ℕ, zero, suc, _+_, _-_, _≤_, _<_, min}
 use lib.Dec.{eqb}
 use lib.ListN.{getD}
 use Rattle.station.specs.Parameters.{Parameters, percent, margin, floor}
@@ -60,3 +60,7 @@ leastOf cents (suc n) = min (leastOf cents n) (getD cents n 0)
 -- the level of a kind that has no laminations
 unfoldable pub singleLevel : HourLevels → ℕ → ℕ
 singleLevel r v = cond (eqb v start) (r .start) (cond (eqb v noLoad) (r .noload) (r .reserve))
+
+-- of n pairs none has a higher price than the last
+pub record LastHighest (o : List ℕ) (n : ℕ) : Type 0 where
+  pub at : (j : ℕ) → j < n → priceAt o j ≤ priceAt o (n - 1)

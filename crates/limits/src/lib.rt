@@ -8,7 +8,7 @@ ghost use Rattle.fields.specs.Numbers.{number, biasedOf};
 ghost use Rattle.rules.specs.Fit.{holds};
 ghost use Rattle.reference.specs.Packed.{unpacked};
 ghost use Rattle.verdicts.specs.Test.{limit as limitOf, overlap, quantity, priceAt};
-ghost use Rattle.limits.specs.Shapes.{failsAt, failsIn, firstFailing, leastOf, singleLevel, offerShown, priceShown};
+ghost use Rattle.limits.specs.Shapes.{failsAt, failsIn, firstFailing, leastOf, singleLevel, offerShown, priceShown, LastHighest};
 use reference::HourLevels;
 use verdicts::Verdict;
 
@@ -192,6 +192,22 @@ pub fn offer_test(lv: HourLevels, t: Threshold, offer: &[u8]) -> Verdict
         }
         low = high;
         k += 1;
+    }
+    Verdict::Passes
+}
+
+// The same of an offer whose last price is its highest: where that passes at the least level all pass, and most offers do.
+pub fn rising_offer_test(lv: HourLevels, t: Threshold, offer: &[u8]) -> Verdict
+    requires { ⌜ (lv .count ≤ 20) × (length (now offer) ≤ 120) × LastHighest (now offer) (length (now offer) / 6) ⌝ }
+    ensures { λ r. ⌜ r ≡ offerShown t (unpacked lv) (now (offer .entry)) 0 (length (now (offer .entry)) / 6) ⌝ }
+{
+    let pairs = offer.len() / 6;
+    if pairs == 0 {
+        return Verdict::Passes;
+    }
+    let least = least_level(&lv.cents, lv.count);
+    if fails(least, t, price_at(offer, pairs - 1)) {
+        return offer_test(lv, t, offer);
     }
     Verdict::Passes
 }

@@ -1,4 +1,6 @@
 use mathlib.Core.Path.{_≡_, sym, _∙_}
+use Prim.Native.Nat.{_/_}
+use lib.ListN.{length}
 use Rattle.records.specs.declared.Answer.the-variants.{Accepted}
 use Rattle.records.specs.Dossier.{records}
 use Rattle.station.specs.Parameters.{parameters}
@@ -6,6 +8,7 @@ use Rattle.formulas.specs.Levels.{levels}
 use Rattle.verdicts.specs.Refusals.{offerRefusal}
 use Rattle.reference.proofs.Packed.{handed-shown, handed-count}
 use Rattle.verdicts.proofs.Settled.{offer-accepted, offer-refused}
+use Rattle.conduct.proofs.Turns.{last-highest, offer-formed}
 use Rattle.conduct.proofs.Outer.{offer-tested}
 use borrow.Author.Needs.{needs}
 use Rattle.conduct.proofs.offer_verdict.Statement.{statement}
@@ -31,10 +34,11 @@ threshold-of-requires c κs =
     let q = offer-accepted _ _ _ (no-refusal (c .before)) in
     (c .before .before .before .before .before .before .before .pre .0, q .0, q .1, search needs, search needs)
 
-offer-test-requires : tie.Need-offer-test-requires
-offer-test-requires c κs =
+rising-offer-test-requires : tie.Need-rising-offer-test-requires
+rising-offer-test-requires c κs =
     let a = c .before .before .before .before .before .before .before .before .args in
-    (handed-count (a .d .now) (a .hour) _ (c .before .hour-levels .ensures), offer-accepted _ _ _ (no-refusal (c .before .before)) .2)
+    let z = no-refusal (c .before .before) in
+    (handed-count (a .d .now) (a .hour) _ (c .before .hour-levels .ensures), offer-accepted _ _ _ z .2, last-highest (a .offer .now) (length (a .offer .now) / 6) (offer-formed _ _ (a .offer .now) z))
 
 returns : tie.Need-returns
 returns c =
@@ -45,7 +49,7 @@ returns-2 : tie.Need-returns-2
 returns-2 c =
     let a = c .before .before .before .before .before .before .before .before .before .args in
     offer-tested (parameters (records (a .d .now))) (a .condition) (levels (a .d .now) (a .hour)) (a .offer .now) (c .before .before .hour-levels .result) (c .before .threshold-of .result)
-    (no-refusal (c .before .before .before)) (handed-shown (a .d .now) (a .hour) _ (c .before .before .hour-levels .ensures)) (c .before .threshold-of .ensures) (c .offer-test .ensures)
+    (no-refusal (c .before .before .before)) (handed-shown (a .d .now) (a .hour) _ (c .before .before .hour-levels .ensures)) (c .before .threshold-of .ensures) (c .rising-offer-test .ensures)
 
 pub offer-verdict-spec : {M : Type 1} → statement M
 offer-verdict-spec =
@@ -56,6 +60,6 @@ offer-verdict-spec =
     enum-told
     hour-levels-requires
     threshold-of-requires
-    offer-test-requires
+    rising-offer-test-requires
     returns
     returns-2)

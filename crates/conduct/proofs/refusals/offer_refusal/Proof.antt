@@ -33,9 +33,9 @@ enum-known-number-3 c = search needs
 enum-told-3 : tie.Need-enum-told-3
 enum-told-3 c = search needs
 
-above-capacity-requires : tie.Need-above-capacity-requires
-above-capacity-requires c κs =
-    (c .before .before .before .before .before .before .before .before .before .before .before .before .pre, length-accepted _ (sym (c .before .before .before .before .before .length-refusal .ensures) ∙ c .before .before .before .enum-told2 .given .1))
+capacity-refusal-requires : tie.Need-capacity-refusal-requires
+capacity-refusal-requires c κs =
+    (c .before .before .before .before .before .before .before .before .before .before .before .before .pre, length-accepted _ (sym (c .before .before .before .before .before .length-refusal .ensures) ∙ c .before .before .before .enum-told2 .given .1), sym (c .before .before .malformed .ensures) ∙ c .enum-told3 .given .1)
 
 returns : tie.Need-returns
 unfolding offerRefusal
@@ -57,7 +57,7 @@ returns-3 c =
 returns-4 : tie.Need-returns-4
 unfolding offerRefusal
 returns-4 c =
-    c .above-capacity .ensures
+    c .capacity-refusal .ensures
     ∙ accepted-then _ (sym (c .before .before .before .malformed .ensures) ∙ c .before .enum-told3 .given .1)
     ∙ accepted-then _ (sym (c .before .before .before .before .before .before .length-refusal .ensures) ∙ c .before .before .before .before .enum-told2 .given .1)
     ∙ accepted-then _ (sym (c .before .before .before .before .before .before .before .before .before .condition-refusal .ensures) ∙ c .before .before .before .before .before .before .before .enum-told .given .1)
@@ -75,7 +75,7 @@ offer-refusal-spec =
     malformed-requires
     enum-known-number-3
     enum-told-3
-    above-capacity-requires
+    capacity-refusal-requires
     returns
     returns-2
     returns-3

@@ -1,0 +1,60 @@
+use borrow.Author.Needs.{needs}
+use mathlib.Core.Path.{_≡_, sym, ap, ap₂, _∙_}
+use mathlib.Core.Bool.{false}
+use Prim.Native.Nat.{ℕ, _-_, _/_}
+use native.Mathlib.Omega.{arith}
+use lib.ListN.{length}
+use Rattle.reference.specs.Packed.{unpacked}
+use Rattle.verdicts.specs.Test.{priceAt}
+use Rattle.limits.specs.Shapes.{failsAt, offerShown, leastOf}
+use Rattle.limits.proofs.Turns.{all-left}
+use Rattle.limits.proofs.Laminations.{pair-end, all-pass}
+use Rattle.limits.proofs.rising_offer_test.Statement.{statement}
+use Rattle.limits.proofs.rising_offer_test.Tie as tie
+
+returns : tie.Need-returns
+returns c =
+    let a = c .before .before .args in
+    let n = length (a .offer .now) / 6 in
+    pair-end (a .t) (unpacked (a .t1)) (a .offer .now) n 0 (omega (arith, c .if1 .taken)) ∙ all-left (offerShown (a .t) (unpacked (a .t1)) (a .offer .now) 0) n
+
+least-level-requires : tie.Need-least-level-requires
+least-level-requires c κs = search needs
+
+sub-price-at : tie.Need-sub-price-at
+sub-price-at c = search needs
+
+price-at-requires : tie.Need-price-at-requires
+price-at-requires c κs = search needs
+
+fails-requires : tie.Need-fails-requires
+fails-requires c κs = search needs
+
+offer-test-requires : tie.Need-offer-test-requires
+offer-test-requires c κs = search needs
+
+returns-2 : tie.Need-returns-2
+returns-2 c = search needs
+
+returns-3 : tie.Need-returns-3
+returns-3 c =
+    let b = c .before .before .before .before .before .before .before .before in
+    let o = b .args .offer .now in
+    let r = b .args .t1 in
+    let e : failsAt (b .args .t) (priceAt o (length o / 6 - 1)) (leastOf (r .cents) (r .count)) ≡ false =
+    ap₂ (λ (p x : ℕ). failsAt (b .args .t) p x) (sym (c .before .before .price-at .ensures .0)) (sym (c .before .before .before .least-level .ensures)) ∙ sym (c .before .fails .ensures) ∙ c .if2 .left
+    in
+    all-pass (b .args .t) r o (length o / 6) (b .pre .2) e
+
+pub rising-offer-test-spec : {M : Type 1} → statement M
+rising-offer-test-spec =
+    tie.close
+    (tie.spec
+    returns
+    least-level-requires
+    sub-price-at
+    price-at-requires
+    fails-requires
+    offer-test-requires
+    returns-2
+    returns-3)
