@@ -110,14 +110,13 @@ module _ (o : List ℕ) where
   pairs-hold : (n k : ℕ) → malformed o k n ≡ Accepted → (j : ℕ) → k ≤ j → j < k + n → pairHolds o j ≡ true
   unfolding malformed
   pairs-hold zero k e j a b = absurd (omega arith)
-  pairs-hold (suc n) k e j a b = go (ℕ-discrete j k)
+  pairs-hold (suc n) k e j a b =
+      let p = orElse-parts (refuseIf (not (pairHolds o k)) 10 (6 * k)) (malformed o (k + 1) n) e in
+      go (not-false _ (not-refuseIf _ 10 (6 * k) (p .0))) (ℕ-discrete j k) (λ h. pairs-hold n (k + 1) (p .1) j h (omega arith))
     where
-      p : (refuseIf (not (pairHolds o k)) 10 (6 * k) ≡ Accepted) × (malformed o (k + 1) n ≡ Accepted)
-      p = orElse-parts (refuseIf (not (pairHolds o k)) 10 (6 * k)) (malformed o (k + 1) n) e
-
-      go : Dec (j ≡ k) → pairHolds o j ≡ true
-      go (yes z) = rw z (not-false _ (not-refuseIf _ 10 (6 * k) (p .0)))
-      go (no z) = pairs-hold n (k + 1) (p .1) j (omega (arith, lt-of-le-ne a (λ y. z (sym y)))) (omega arith)
+      go : pairHolds o k ≡ true → Dec (j ≡ k) → (k + 1 ≤ j → pairHolds o j ≡ true) → pairHolds o j ≡ true
+      go z (yes y) f = rw y z
+      go z (no y) f = f (omega (arith, lt-of-le-ne a (λ x. y (sym x))))
 
   module _ (n : ℕ) (e : malformed o 0 n ≡ Accepted) where
     pair-rises : (j : ℕ) → suc j < n → (quantity o j ≤ quantity o (suc j)) × (priceAt o j ≤ priceAt o (suc j))

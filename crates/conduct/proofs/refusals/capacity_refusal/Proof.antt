@@ -1,0 +1,67 @@
+use borrow.Author.Needs.{needs}
+use mathlib.Core.Path.{_≡_, ap, sym, _∙_}
+use Prim.Native.Nat.{ℕ, _-_, _/_, _≤_}
+use native.Mathlib.Omega.{arith}
+use lib.ListN.{length}
+use Rattle.fields.specs.Numbers.{number}
+use Rattle.records.specs.Dossier.{records}
+use Rattle.station.specs.Parameters.{parameters, capacity}
+use Rattle.station.proofs.Fields.{capacity-at}
+use Rattle.verdicts.specs.Test.{quantity}
+use Rattle.verdicts.specs.Refusals.{aboveCapacity}
+use Rattle.limits.proofs.Turns.{all-left}
+use Rattle.conduct.proofs.Turns.{above-end, within-capacity}
+use Rattle.conduct.proofs.refusals.capacity_refusal.Statement.{statement}
+use Rattle.conduct.proofs.refusals.capacity_refusal.Tie as tie
+
+returns : tie.Need-returns
+returns c =
+    let a = c .before .before .before .before .args in
+    let s = parameters (records (a .d .now)) in
+    let n = length (a .offer .now) / 6 in
+    above-end s (a .offer .now) n 0 (omega (arith, c .if1 .taken)) ∙ all-left (aboveCapacity s (a .offer .now) 0) n
+
+rs-requires : tie.Need-rs-requires
+rs-requires c κs = search needs
+
+u16-at-requires : tie.Need-u16-at-requires
+u16-at-requires c κs = search needs
+
+cast-capacity : tie.Need-cast-capacity
+cast-capacity c = search needs
+
+sub-quantity-at : tie.Need-sub-quantity-at
+sub-quantity-at c = search needs
+
+quantity-at-requires : tie.Need-quantity-at-requires
+quantity-at-requires c κs = search needs
+
+returns-2 : tie.Need-returns-2
+returns-2 c =
+    let b = c .before .before .before .before .before .before .before .before in
+    let o = b .args .offer .now in
+    let e : c .before .before .u16-at .result ≡ capacity (parameters (records (b .args .d .now))) =
+    c .before .before .u16-at .ensures ∙ ap (number 7 2) (c .before .before .before .rs .ensures) ∙ sym (capacity-at (records (b .args .d .now)))
+    in
+    let f : c .before .quantity-at .result ≡ quantity o (length o / 6 - 1) = c .before .quantity-at .ensures in
+    within-capacity o (length o / 6) (b .pre .2) (parameters (records (b .args .d .now))) (omega (arith, e, f, c .if2 .taken))
+
+above-capacity-requires : tie.Need-above-capacity-requires
+above-capacity-requires c κs = search needs
+
+returns-3 : tie.Need-returns-3
+returns-3 c = search needs
+
+pub capacity-refusal-spec : {M : Type 1} → statement M
+capacity-refusal-spec =
+    tie.close
+    (tie.spec
+    returns
+    rs-requires
+    u16-at-requires
+    cast-capacity
+    sub-quantity-at
+    quantity-at-requires
+    returns-2
+    above-capacity-requires
+    returns-3)
