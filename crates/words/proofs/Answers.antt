@@ -1,18 +1,20 @@
 -- The answer to a call for words, and the words after it.
-use mathlib.Core.Path.{_≡_, refl}
-use mathlib.Core.List.{List, _++_}
-use Prim.Native.Nat.{ℕ, _<_, _≤_}
+use mathlib.Core.Path.{_≡_, refl, sym, subst}
+use mathlib.Core.List.{List, [], _∷_, _++_, map}
+use Prim.Native.Nat.{ℕ, zero, suc, _<_, _≤_}
+use native.Mathlib.Omega.{arith}
 use borrow.Author.Tests.{lt-ltb, le-ltb}
-use lib.ListN.{length, drop}
+use lib.ListN.{length, getD, drop, length-map}
 use Rattle.records.specs.declared.Answer.{Answer}
 use Rattle.records.specs.declared.Answer.the-variants.{Accepted, Refused}
 use Rattle.records.specs.Answers.{orElse, refuseIf, isAccepted}
 use Rattle.station.specs.Parameters.{technology}
 use Rattle.rules.specs.Answer.{answer}
 use Rattle.reference.specs.declared.HourLevels.{HourLevels}
-use Rattle.formulas.specs.Levels.{parametersIn, profile, levels}
-use Rattle.reference.specs.Packed.{packed}
-use Rattle.words.specs.Words.{wordsOf, wordsAnswer, wordsAfter}
+use Rattle.formulas.specs.Levels.{parametersIn, Line, amount, profile, levels}
+use Rattle.reference.specs.Packed.{energyLines, padded, packed}
+use Rattle.reference.proofs.Packed.{handed-count}
+use Rattle.words.specs.Words.{Blank, wordsOf, wordsAnswer, wordsAfter}
 
 -- what a call for dossier d at hour h answers, and what it leaves of words that held e
 abbrev pub Told : List ℕ → ℕ → List ℕ → Answer → List ℕ → Type 0
@@ -34,3 +36,28 @@ module _ (d : List ℕ) (h : ℕ) (e : List ℕ) where
   pub told-refusal : (k p : ℕ) → answer d ≡ Refused k p → Told d h e (Refused k p) e
   unfolding wordsAnswer wordsAfter orElse isAccepted
   told-refusal k p a = rw a (refl, refl)
+
+-- ---- what `hour_levels` hands over has nothing past its laminations
+
+padded-past : (k i : ℕ) (l : List ℕ) → length l ≤ i → getD (padded k l) i 0 ≡ 0
+unfolding padded
+padded-past zero i l h = refl
+padded-past (suc k) zero [] h = refl
+padded-past (suc k) (suc i) [] h = padded-past k i [] (omega arith)
+padded-past (suc k) zero (x ∷ l) h = absurd (omega arith)
+padded-past (suc k) (suc i) (x ∷ l) h = padded-past k i l (omega arith)
+
+column-past : (g : Line → ℕ) (l : List Line) (i : ℕ) → length l ≤ i → getD (padded 20 (map g l)) i 0 ≡ 0
+column-past g l i h = padded-past 20 i (map g l) (rw length-map h)
+
+packed-blank : (t p : ℕ) (l : List Line) → packed t p l .count ≤ 20 → Blank (packed t p l)
+unfolding packed
+packed-blank t p l h =
+    record {
+      few = h;
+      none = λ i g. rw (column-past (λ x. x .from) (energyLines l) i g, column-past (λ x. x .to) (energyLines l) i g, column-past (λ x. amount x) (energyLines l) i g) refl;
+    }
+
+pub handed-blank : (d : List ℕ) (h : ℕ) {r : HourLevels} → r ≡ packed (technology (parametersIn d)) (profile (parametersIn d) h) (levels d h) → Blank r
+handed-blank d h {r} e =
+    subst Blank (sym e) (packed-blank _ _ _ (subst (λ (x : HourLevels). x .count ≤ 20) e (handed-count d h r e)))

@@ -1,14 +1,15 @@
 -- The words of an hour's levels, stored from the front on.
-use mathlib.Core.Path.{_≡_, refl, ap, _∙_}
+use mathlib.Core.Path.{_≡_, refl, ap, sym, _∙_}
 use mathlib.Core.List.{List, [], _∷_, _++_, append-assoc}
-use Prim.Native.Nat.{ℕ, zero, suc, _+_, _*_, _<_, _≤_}
+use Prim.Native.Nat.{ℕ, zero, suc, _+_, _*_, _-_, _<_, _≤_}
 use native.Mathlib.Numerals.{add-one}
 use native.Mathlib.Omega.{arith}
-use lib.ListN.{length, getD, drop, set, length-append, length-drop, length-set}
+use lib.ListN.{length, getD, take, drop, set, replicate, length-append, length-drop, length-set, length-replicate, getD-replicate, replicate-append-replicate}
+use lib.Seq.{drop-cons, getD-take}
 use Rattle.reference.specs.declared.HourLevels.{HourLevels}
 use Rattle.text.specs.Text.{over}
 use Rattle.text.proofs.Over.{Wrote, byte}
-use Rattle.words.specs.Words.{heldBits, wordsTo, wordsOf}
+use Rattle.words.specs.Words.{heldBits, laminationWords, Blank, wordsTo, wordsOf}
 
 -- ---- how many there are
 
@@ -28,6 +29,18 @@ wordsOf-length r = simp length-append (omega (arith, wordsTo-length r 20))
 pub within : (l : List ℕ) (i v : ℕ) {n : ℕ} → n < length l → n < length (set l i v)
 within l i v h = rw length-set h
 
+-- one more word that is cleared
+pub clear-next : (e : List ℕ) (i : ℕ) {w : List ℕ} → i < length e → Wrote (replicate i 0) e i w → Wrote (replicate (i + 1) 0) e (i + 1) (set w i 0)
+clear-next e i {w} h p =
+    let q : Wrote (replicate i 0 ++ (0 ∷ [])) e (i + 1) (set w i 0) = byte (replicate i 0) e 0 h p in
+    rw (← replicate-append-replicate {A = ℕ} i 1 0) q
+
+pub cleared-length : (e : List ℕ) (i : ℕ) {w : List ℕ} → i ≤ length e → Wrote (replicate i 0) e i w → length w ≡ length e
+cleared-length e i h (p, q) = rw (q, length-append, length-drop) (omega (arith, length-replicate {A = ℕ} i 0))
+
+pub all-cleared : (e : List ℕ) {i : ℕ} {w : List ℕ} → i ≡ 62 → Wrote (replicate i 0) e i w → w ≡ replicate 62 0 ++ drop 62 e
+all-cleared e k (p, q) = rw k at q
+
 -- three words past those that stand
 three : (x e : List ℕ) (a b c : ℕ) {at : ℕ} {w : List ℕ} → at + 2 < length e → Wrote x e at w
     → Wrote (x ++ (a ∷ b ∷ c ∷ [])) e (at + 3) (set (set (set w at a) (at + 1) b) (at + 2) c)
@@ -40,6 +53,9 @@ three x e a b c {at} {w} h p =
     let l : at + 3 ≡ at + 1 + 1 + 1 = omega arith in
     rw (← j, k, l) s
 
+add-two : (n : ℕ) → n + 2 ≡ suc (suc n)
+add-two n = omega arith
+
 -- the first two, which the loop over the places starts from
 abbrev begun : HourLevels → List ℕ → List ℕ
 begun r e = set (set e 0 (r .profile)) 1 (r .count)
@@ -50,14 +66,40 @@ first-words r [] h = absurd (omega arith)
 first-words r (x ∷ []) h = absurd (omega arith)
 first-words r (x ∷ y ∷ e) h = (refl, refl)
 
-begun-rest : (r : HourLevels) (e : List ℕ) → drop 62 (begun r e) ≡ drop 62 e
-begun-rest r [] = refl
-begun-rest r (x ∷ []) = refl
-begun-rest r (x ∷ y ∷ e) = refl
+begun-rest : (r : HourLevels) (e : List ℕ) (n : ℕ) → drop (n + 2) (begun r e) ≡ drop (n + 2) e
+begun-rest r e n = rw (add-two n) (go e)
+  where
+    go : (e : List ℕ) → drop (suc (suc n)) (begun r e) ≡ drop (suc (suc n)) e
+    go [] = refl
+    go (x ∷ []) = refl
+    go (x ∷ y ∷ e) = refl
 
--- and what it ends with
-pub all-places : (r : HourLevels) (e : List ℕ) {i : ℕ} {w : List ℕ} → i ≡ 20 → Wrote (wordsTo r i) (begun r e) (3 * i + 2) w → w ≡ wordsTo r 20 ++ drop 62 e
-all-places r e {i} k (p, q) = q ∙ rw (k, wordsTo-length r 20, begun-rest r e) refl
+-- the places behind the laminations have nothing, as the words that were there
+module _ (r : HourLevels) (h : Blank r) (e : List ℕ) (k : 62 ≤ length e) (z : take 62 e ≡ replicate 62 0) where
+  nothing : (j : ℕ) → j < 62 → getD e j 0 ≡ 0
+  nothing j g = sym (getD-take 62 e j 0 g) ∙ ap (λ (l : List ℕ). getD l j 0) z ∙ getD-replicate 62 j 0 0 g
+
+  three-left : (i : ℕ) → i < 20 → drop (3 * i + 2) e ≡ 0 ∷ 0 ∷ 0 ∷ drop (3 * (i + 1) + 2) e
+  three-left i g =
+      let a : suc (suc (suc (3 * i + 2))) ≡ 3 * (i + 1) + 2 = omega arith in
+      rw (drop-cons e (3 * i + 2) 0 (omega arith), drop-cons e (suc (3 * i + 2)) 0 (omega arith), drop-cons e (suc (suc (3 * i + 2))) 0 (omega arith), nothing (3 * i + 2) (omega arith), nothing (suc (3 * i + 2)) (omega arith), nothing (suc (suc (3 * i + 2))) (omega arith), a) refl
+
+  blank-places : (m i : ℕ) → i + m ≡ 20 → r .count ≤ i → wordsTo r i ++ drop (3 * i + 2) e ≡ wordsTo r 20 ++ drop 62 e
+  unfolding wordsTo
+  blank-places zero i f g = let a : i ≡ 20 = omega arith in rw a refl
+  blank-places (suc m) i f g =
+      ap (λ (l : List ℕ). wordsTo r i ++ l) (three-left i (omega arith))
+      ∙ sym (append-assoc (wordsTo r i) (0 ∷ 0 ∷ 0 ∷ []) (drop (3 * (i + 1) + 2) e))
+      ∙ ap (λ (l : List ℕ). wordsTo r i ++ l ++ drop (3 * (i + 1) + 2) e) (sym (h .none i g))
+      ∙ one-more (blank-places m (i + 1) (omega arith) (omega arith))
+    where
+      one-more : wordsTo r (i + 1) ++ drop (3 * (i + 1) + 2) e ≡ wordsTo r 20 ++ drop 62 e → wordsTo r i ++ laminationWords r i ++ drop (3 * (i + 1) + 2) e ≡ wordsTo r 20 ++ drop 62 e
+      one-more q = ap (λ (n : ℕ). wordsTo r n ++ drop (3 * (i + 1) + 2) e) (sym (add-one i)) ∙ q
+
+  -- and what it ends with
+  pub all-places : {i : ℕ} {w : List ℕ} → i ≡ r .count → Wrote (wordsTo r i) (begun r e) (3 * i + 2) w → w ≡ wordsTo r 20 ++ drop 62 e
+  all-places {i} f (p, q) =
+      q ∙ rw (wordsTo-length r i, begun-rest r e (3 * i)) (blank-places (20 - i) i (omega (arith, h .few)) (omega arith))
 
 -- those of one place more
 pub next-words : (r : HourLevels) (e : List ℕ) (i : ℕ) {w : List ℕ} → i < 20 → 62 ≤ length e → Wrote (wordsTo r i) (begun r e) (3 * i + 2) w
@@ -72,6 +114,9 @@ next-words r e i h k p =
 pub wrote-length : (r : HourLevels) (e : List ℕ) (i : ℕ) {w : List ℕ} → i ≤ 20 → 62 ≤ length e → Wrote (wordsTo r i) (begun r e) (3 * i + 2) w → length w ≡ length e
 wrote-length r e i h k (p, q) =
     rw (q, length-append, length-drop, length-set, length-set) (omega (arith, wordsTo-length r i))
+
+pub placed-length : (r : HourLevels) (e : List ℕ) {w : List ℕ} → 62 ≤ length e → w ≡ wordsTo r 20 ++ drop 62 e → length w ≡ length e
+placed-length r e h q = rw (q, length-append, length-drop) (omega (arith, wordsTo-length r 20))
 
 -- the last four
 pub last-words : (r : HourLevels) (e : List ℕ) {b : ℕ} {w : List ℕ} → 66 ≤ length e → b ≡ heldBits (r .technology) → w ≡ wordsTo r 20 ++ drop 62 e

@@ -1,7 +1,8 @@
 -- The levels at an hour as 66 numbers, for callers in other languages.
+use mathlib.Core.Path.{_≡_}
 use mathlib.Core.Bool.{cond}
 use mathlib.Core.List.{List, [], _∷_, _++_}
-use Prim.Native.Nat.{ℕ, zero, suc, _+_}
+use Prim.Native.Nat.{ℕ, zero, suc, _+_, _≤_}
 use lib.Dec.{ltb}
 use lib.ListN.{length, getD, drop}
 use Rattle.records.specs.declared.Answer.{Answer}
@@ -20,6 +21,11 @@ heldBits t = cond (holds t energy) 1 0 + cond (holds t start) 2 0 + cond (holds 
 -- from, to and level of the lamination at place i of the arrays, from 0
 abbrev pub laminationWords : HourLevels → ℕ → List ℕ
 laminationWords r i = getD (r .from) i 0 ∷ getD (r .to) i 0 ∷ getD (r .cents) i 0 ∷ []
+
+-- past its laminations an hour's levels have nothing
+pub record Blank (r : HourLevels) : Type 0 where
+  pub few : r .count ≤ 20
+  pub none : (i : ℕ) → r .count ≤ i → laminationWords r i ≡ 0 ∷ 0 ∷ 0 ∷ []
 
 -- the profile, the number of laminations, and the words of the first n places
 unfoldable pub wordsTo : HourLevels → ℕ → List ℕ

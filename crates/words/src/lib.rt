@@ -3,8 +3,8 @@
 ghost use mathlib.Core.Path.{_≡_};
 ghost use mathlib.Core.List.{_++_};
 ghost use Prim.Native.Nat.{_≤_};
-ghost use lib.ListN.{length, drop};
-ghost use Rattle.words.specs.Words.{heldBits, wordsTo, wordsOf, wordsAnswer, wordsAfter};
+ghost use lib.ListN.{length, take, drop, replicate};
+ghost use Rattle.words.specs.Words.{heldBits, Blank, wordsTo, wordsOf, wordsAnswer, wordsAfter};
 use lists::choose;
 use records::Answer;
 use reference::HourLevels;
@@ -21,15 +21,28 @@ fn held_bits(technology: u8) -> u64
     (energy + start + noload + reserve) as u64
 }
 
-// The profile, the number of laminations, and from, to and level of each place.
-fn put_laminations(lv: HourLevels, words: &mut [u64])
+// Nothing in the profile, the number of laminations and their places.
+fn clear_words(words: &mut [u64])
     requires { ⌜ 62 ≤ length (now words) ⌝ }
+    ensures { λ r. ⌜ now (words .exit) ≡ replicate 62 0 ++ drop 62 (now (words .entry)) ⌝ }
+{
+    let mut i = 0;
+    while i < 62 {
+        words[i] = 0;
+        i += 1;
+    }
+}
+
+// The profile, the number of laminations, and from, to and level of each; the places behind them have nothing, and few have anything.
+fn put_laminations(lv: HourLevels, words: &mut [u64])
+    requires { ⌜ (62 ≤ length (now words)) × (take 62 (now words) ≡ replicate 62 0) × Blank lv ⌝ }
     ensures { λ r. ⌜ now (words .exit) ≡ wordsTo lv 20 ++ drop 62 (now (words .entry)) ⌝ }
 {
     words[0] = lv.profile as u64;
     words[1] = lv.count as u64;
+    let count = lv.count;
     let mut i = 0;
-    while i < 20 {
+    while i < count {
         let at = 3 * i + 2;
         words[at] = lv.from[i];
         words[at + 1] = lv.to[i];
@@ -40,9 +53,10 @@ fn put_laminations(lv: HourLevels, words: &mut [u64])
 
 // All 66 words.
 fn put_words(lv: HourLevels, words: &mut [u64])
-    requires { ⌜ 66 ≤ length (now words) ⌝ }
+    requires { ⌜ (66 ≤ length (now words)) × Blank lv ⌝ }
     ensures { λ r. ⌜ now (words .exit) ≡ wordsOf lv ++ drop 66 (now (words .entry)) ⌝ }
 {
+    clear_words(words);
     put_laminations(lv, words);
     words[62] = held_bits(lv.technology);
     words[63] = lv.start;

@@ -3,7 +3,7 @@ use mathlib.Core.Path.{_≡_, sym, _∙_}
 use borrow.Author.Needs.{needs}
 use Rattle.records.specs.declared.Answer.{Answer}
 use Rattle.rules.specs.Answer.{answer}
-use Rattle.words.proofs.Answers.{told-words, told-few, told-refusal}
+use Rattle.words.proofs.Answers.{handed-blank, told-words, told-few, told-refusal}
 use Rattle.words.proofs.levels_words.Statement.{statement}
 use Rattle.words.proofs.levels_words.Tie as tie
 
@@ -35,7 +35,9 @@ hour-levels-requires c κs =
     let e = c .before .before .enum-told .given .1 in (record { clean = answer-is j e }, j .judge .ensures .1 e)
 
 put-words-requires : tie.Need-put-words-requires
-put-words-requires c κs = search needs
+put-words-requires c κs =
+    let a = c .before .before .before .before .before .before .before .before .before .before .before .args in
+    (search needs, handed-blank (a .d .now) (a .hour) (c .before .hour-levels .ensures))
 
 enum-known-number : tie.Need-enum-known-number
 enum-known-number c = search needs

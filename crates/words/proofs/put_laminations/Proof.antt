@@ -12,10 +12,10 @@ use Rattle.words.proofs.put_laminations.Statement.{statement}
 use Rattle.words.proofs.put_laminations.Tie as tie
 
 abbrev Inv-loop : tie.InvT-loop
-Inv-loop words₀ lv i₀ words i = (i ≤ 20) × Wrote (wordsTo lv i) words₀ (3 * i + 2) words
+Inv-loop words₀ lv count i₀ words i = (i ≤ lv .count) × Wrote (wordsTo lv i) words₀ (3 * i + 2) words
 
 abbrev μ-loop : tie.MeasureT-loop
-μ-loop words₀ lv i₀ words i = 20 - i
+μ-loop words₀ lv count i₀ words i = lv .count - i
 
 slice-write-words : tie.Need-slice-write-words Inv-loop μ-loop
 slice-write-words c = search needs
@@ -24,21 +24,25 @@ slice-write-words-2 : tie.Need-slice-write-words-2 Inv-loop μ-loop
 slice-write-words-2 c = within (c .args .words .now) 0 (c .args .t1 .profile) (omega arith)
 
 loop-holds : tie.Need-loop-holds Inv-loop μ-loop
-loop-holds c = (omega arith, first-words (c .args .t1) (c .args .words .now) (c .pre))
+loop-holds c = (omega arith, first-words (c .args .t1) (c .args .words .now) (c .pre .0))
 
 abbrev At : Type 0
 At = tie.At-loop Inv-loop μ-loop
 
+-- there are no more laminations than places
+few : (c : At) → c .before .args .t1 .count ≤ 20
+few c = c .before .pre .2 .few
+
 -- a turn leaves the list as long as it was
 words-long : (c : At) → length (c .loop .words) ≡ length (c .before .args .words .now)
 words-long c =
-    wrote-length (c .before .args .t1) (c .before .args .words .now) (c .loop .i) (c .loop .inv .0) (c .before .pre) (c .loop .inv .1)
+    wrote-length (c .before .args .t1) (c .before .args .words .now) (c .loop .i) (omega (arith, c .loop .inv .0, few c)) (c .before .pre .0) (c .loop .inv .1)
 
 mul-at : tie.Need-mul-at Inv-loop μ-loop
-mul-at c = search needs
+mul-at c = omega (arith, few (c .before))
 
 add-at : tie.Need-add-at Inv-loop μ-loop
-add-at c = search needs
+add-at c = omega (arith, few (c .before))
 
 mul-words : tie.Need-mul-words Inv-loop μ-loop
 mul-words c = search needs
@@ -50,7 +54,7 @@ mul-words-2 : tie.Need-mul-words-2 Inv-loop μ-loop
 mul-words-2 c = search needs
 
 slice-write-words-3 : tie.Need-slice-write-words-3 Inv-loop μ-loop
-slice-write-words-3 c = omega (arith, words-long (c .before .before))
+slice-write-words-3 c = omega (arith, words-long (c .before .before), few (c .before .before))
 
 mul-words-3 : tie.Need-mul-words-3 Inv-loop μ-loop
 mul-words-3 c = search needs
@@ -67,7 +71,7 @@ mul-words-4 c = search needs
 slice-write-words-4 : tie.Need-slice-write-words-4 Inv-loop μ-loop
 slice-write-words-4 c =
     let l = c .before .before .before in
-    within (l .loop .words) (3 * l .loop .i + 2) _ (omega (arith, words-long l))
+    within (l .loop .words) (3 * l .loop .i + 2) _ (omega (arith, words-long l, few l))
 
 mul-words-5 : tie.Need-mul-words-5 Inv-loop μ-loop
 mul-words-5 c = search needs
@@ -85,7 +89,7 @@ slice-write-words-5 : tie.Need-slice-write-words-5 Inv-loop μ-loop
 slice-write-words-5 c =
     let l = c .before .before .before .before in
     let i = 3 * l .loop .i + 2 in
-    within (set (l .loop .words) i _) (i + 1) _ (within (l .loop .words) i _ (omega (arith, words-long l)))
+    within (set (l .loop .words) i _) (i + 1) _ (within (l .loop .words) i _ (omega (arith, words-long l, few l)))
 
 add-i : tie.Need-add-i Inv-loop μ-loop
 add-i c = search needs
@@ -96,13 +100,15 @@ loop-less c = search needs
 loop-again : tie.Need-loop-again Inv-loop μ-loop
 loop-again c =
     let l = c .before .before .before .before in
-    (omega arith, next-words (l .before .args .t1) (l .before .args .words .now) (l .loop .i) (omega arith) (l .before .pre) (l .loop .inv .1))
+    (omega arith, next-words (l .before .args .t1) (l .before .args .words .now) (l .loop .i) (omega (arith, few l)) (l .before .pre .0) (l .loop .inv .1))
 
 same-length : tie.Need-same-length Inv-loop μ-loop
 same-length c = omega (arith, words-long (c .before))
 
 returns : tie.Need-returns Inv-loop μ-loop
-returns c = all-places (c .before .before .args .t1) (c .before .before .args .words .now) (omega arith) (c .before .loop .inv .1)
+returns c =
+    let a = c .before .before in
+    all-places (a .args .t1) (a .pre .2) (a .args .words .now) (a .pre .0) (a .pre .1) (omega (arith, c .before .loop .inv .0, c .loop-test .left)) (c .before .loop .inv .1)
 
 pub put-laminations-spec : {M : Type 1} → statement M
 put-laminations-spec =

@@ -1,18 +1,34 @@
 -- `words::put_words` meets its contract.
-use mathlib.Core.List.{List}
-use Prim.Native.Nat.{ℕ}
+use mathlib.Core.Path.{_≡_, ap, _∙_}
+use mathlib.Core.List.{List, _++_}
+use Prim.Native.Nat.{ℕ, _≤_}
 use native.Mathlib.Omega.{arith}
 use borrow.Author.Needs.{needs}
-use lib.ListN.{set}
-use Rattle.words.proofs.Stores.{within, last-words}
+use lib.ListN.{length, take, drop, set, length-set}
+use Rattle.reference.specs.declared.HourLevels.{HourLevels}
+use Rattle.words.specs.Words.{wordsTo}
+use Rattle.words.proofs.Stores.{within, placed-length, last-words}
 use Rattle.words.proofs.put_words.Statement.{statement}
 use Rattle.words.proofs.put_words.Tie as tie
 
+clear-words-requires : tie.Need-clear-words-requires
+clear-words-requires c κs = omega (arith, c .before .before .pre .0)
+
 put-laminations-requires : tie.Need-put-laminations-requires
-put-laminations-requires c κs = search needs
+put-laminations-requires c κs =
+    let k = c .before .before .before in
+    let s = k .before .before .before in
+    (omega (arith, s .pre .0), ap (take 62) (k .clear-words .ensures), s .pre .1)
 
 held-bits-requires : tie.Need-held-bits-requires
 held-bits-requires c κs = search needs
+
+-- what the function was given
+abbrev lv-of : tie.After-held-bits → HourLevels
+lv-of c = c .before .before .before .before .before .before .before .before .before .before .args .lv
+
+abbrev given : tie.After-held-bits → List ℕ
+given c = c .before .before .before .before .before .before .before .before .before .before .args .words .now
 
 -- the list after `put_laminations`, and after the two stores behind it
 abbrev words-0 : tie.After-held-bits → List ℕ
@@ -22,7 +38,7 @@ abbrev words-1 : tie.After-held-bits → List ℕ
 words-1 c = set (words-0 c) 62 (c .held-bits .result)
 
 abbrev words-2 : tie.After-held-bits → List ℕ
-words-2 c = set (words-1 c) 63 (c .before .before .before .before .before .before .args .lv .start)
+words-2 c = set (words-1 c) 63 (lv-of c .start)
 
 slice-write-words : tie.Need-slice-write-words
 slice-write-words c = search needs
@@ -36,18 +52,26 @@ slice-write-words-3 c = within (words-1 c) 63 _ (within (words-0 c) 62 _ (omega 
 slice-write-words-4 : tie.Need-slice-write-words-4
 slice-write-words-4 c = within (words-2 c) 64 _ (within (words-1 c) 63 _ (within (words-0 c) 62 _ (omega arith)))
 
+-- what stands once the laminations are put
+placed : (c : tie.After-held-bits) → words-0 c ≡ wordsTo (lv-of c) 20 ++ drop 62 (given c)
+placed c =
+    let p = c .before .before .before in
+    p .put-laminations .ensures ∙ ap (λ (l : List ℕ). wordsTo (lv-of c) 20 ++ drop 62 l) (p .before .before .before .before .clear-words .ensures)
+
 same-length : tie.Need-same-length
-same-length c = search needs
+same-length c =
+    let h : 66 ≤ length (given c) = c .before .before .before .before .before .before .before .before .before .before .pre .0 in
+    let l : length (set (set (words-2 c) 64 (lv-of c .noload)) 65 (lv-of c .reserve)) ≡ length (given c) = simp length-set (placed-length (lv-of c) (given c) (omega arith) (placed c)) in
+    omega arith
 
 returns : tie.Need-returns
-returns c =
-    let s = c .before .before .before .before .before .before in
-    last-words (s .args .lv) (s .args .words .now) (s .pre) (c .held-bits .ensures) (c .before .before .before .put-laminations .ensures)
+returns c = last-words (lv-of c) (given c) (c .before .before .before .before .before .before .before .before .before .before .pre .0) (c .held-bits .ensures) (placed c)
 
 pub put-words-spec : {M : Type 1} → statement M
 put-words-spec =
     tie.close
     (tie.spec
+    clear-words-requires
     put-laminations-requires
     held-bits-requires
     slice-write-words
