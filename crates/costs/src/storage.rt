@@ -60,7 +60,32 @@ fn with_block(d: &[u8], index: &[u16], n: usize, before: Charging) -> Charging
     with_each(d, index, n, before)
 }
 
-// All intervals.
+// The sums over intervals 1 to n, with the nine blocks of the day after them.
+fn with_blocks(d: &[u8], index: &[u16], n: usize, before: Charging) -> Charging
+    requires { ⌜ Indexed (now d) (now index) × (n + 288 ≤ 2016) × Summed (now d) n (before .cost) (before .energy) ⌝ }
+    ensures { λ r. ⌜ Summed (now (d .entry)) (n + 288) (r .cost) (r .energy) ⌝ }
+{
+    let mut sums = before;
+    let mut i = 0;
+    while i < 288 {
+        sums = with_block(d, index, n + i, sums);
+        i += 32;
+    }
+    sums
+}
+
+// The same, sooner where the whole day has no record.
+fn with_day(d: &[u8], index: &[u16], n: usize, before: Charging) -> Charging
+    requires { ⌜ Indexed (now d) (now index) × (n + 288 ≤ 2016) × Summed (now d) n (before .cost) (before .energy) ⌝ }
+    ensures { λ r. ⌜ Summed (now (d .entry)) (n + 288) (r .cost) (r .energy) ⌝ }
+{
+    if index::slots_empty(index, index::keys::slot_ch(n + 1), 288) {
+        return before;
+    }
+    with_blocks(d, index, n, before)
+}
+
+// All intervals, day by day.
 fn intervals(d: &[u8], index: &[u16]) -> Charging
     requires { ⌜ Indexed (now d) (now index) ⌝ }
     ensures { λ r. ⌜ (r .cost ≡ sumTo 2016 (λ n. chargePrice (amountsIn (now (d .entry))) n * chargeEnergy (parametersIn (now (d .entry))) n)) × (r .energy ≡ totalEnergy (parametersIn (now (d .entry)))) × (r .cost ≤ 2147683648 * r .energy) × (r .energy ≤ 2016000000) ⌝ }
@@ -68,8 +93,8 @@ fn intervals(d: &[u8], index: &[u16]) -> Charging
     let mut sums = Charging { cost: 0, energy: 0 };
     let mut n = 0;
     while n < 2016 {
-        sums = with_block(d, index, n, sums);
-        n += 32;
+        sums = with_day(d, index, n, sums);
+        n += 288;
     }
     sums
 }

@@ -10,7 +10,7 @@ use Rattle.costs.proofs.storage.intervals.Statement.{statement}
 use Rattle.costs.proofs.storage.intervals.Tie as tie
 
 abbrev Inv-loop : tie.InvT-loop
-Inv-loop d index sums₀ n₀ sums n = (n ≤ 2016) × (n % 32 ≡ 0) × Summed d n (sums .cost) (sums .energy)
+Inv-loop d index sums₀ n₀ sums n = (n ≤ 2016) × (n % 288 ≡ 0) × Summed d n (sums .cost) (sums .energy)
 
 abbrev μ-loop : tie.MeasureT-loop
 μ-loop d index sums₀ n₀ sums n = 2016 - n
@@ -18,8 +18,8 @@ abbrev μ-loop : tie.MeasureT-loop
 loop-holds : tie.Need-loop-holds Inv-loop μ-loop
 loop-holds c = (omega arith, omega arith, summed-none _)
 
-with-block-requires : tie.Need-with-block-requires Inv-loop μ-loop
-with-block-requires c κs = (search needs, omega arith, c .before .loop .inv .2)
+with-day-requires : tie.Need-with-day-requires Inv-loop μ-loop
+with-day-requires c κs = (search needs, omega arith, c .before .loop .inv .2)
 
 add-n : tie.Need-add-n Inv-loop μ-loop
 add-n c = omega arith
@@ -28,7 +28,7 @@ loop-less : tie.Need-loop-less Inv-loop μ-loop
 loop-less c = omega arith
 
 loop-again : tie.Need-loop-again Inv-loop μ-loop
-loop-again c = (omega arith, omega arith, c .with-block .ensures)
+loop-again c = (omega arith, omega arith, c .with-day .ensures)
 
 returns : tie.Need-returns Inv-loop μ-loop
 unfolding totalEnergy
@@ -40,4 +40,4 @@ returns c =
 pub intervals-spec : {M : Type 1} → statement M
 intervals-spec =
     tie.close
-    (tie.spec Inv-loop μ-loop loop-holds with-block-requires add-n loop-less loop-again returns)
+    (tie.spec Inv-loop μ-loop loop-holds with-day-requires add-n loop-less loop-again returns)

@@ -1,0 +1,45 @@
+use borrow.Author.Needs.{needs}
+use mathlib.Core.Path.{_≡_, subst}
+use Prim.Native.Nat.{ℕ, _+_, _-_, _%_, _≤_}
+use native.Mathlib.Omega.{arith}
+use Rattle.costs.specs.Intervals.{Summed}
+use Rattle.costs.proofs.storage.with_blocks.Statement.{statement}
+use Rattle.costs.proofs.storage.with_blocks.Tie as tie
+
+abbrev Inv-loop : tie.InvT-loop
+Inv-loop d index n sums₀ i₀ sums i = (i ≤ 288) × (i % 32 ≡ 0) × Summed d (n + i) (sums .cost) (sums .energy)
+
+abbrev μ-loop : tie.MeasureT-loop
+μ-loop d index n sums₀ i₀ sums i = 288 - i
+
+loop-holds : tie.Need-loop-holds Inv-loop μ-loop
+loop-holds c =
+    let a = c .before .before in
+    (omega arith, omega arith, subst (λ (k : ℕ). Summed (a .args .d .now) k (a .args .before .cost) (a .args .before .energy)) (omega arith) (a .pre .2))
+
+add-with-block : tie.Need-add-with-block Inv-loop μ-loop
+add-with-block c = omega arith
+
+with-block-requires : tie.Need-with-block-requires Inv-loop μ-loop
+with-block-requires c κs = (search needs, omega arith, c .before .loop .inv .2)
+
+add-i : tie.Need-add-i Inv-loop μ-loop
+add-i c = omega arith
+
+loop-less : tie.Need-loop-less Inv-loop μ-loop
+loop-less c = omega arith
+
+loop-again : tie.Need-loop-again Inv-loop μ-loop
+loop-again c =
+    let r = c .with-block .result in
+    (omega arith, omega arith, subst (λ (k : ℕ). Summed (c .before .before .before .before .before .args .d .now) k (r .cost) (r .energy)) (omega arith) (c .with-block .ensures))
+
+returns : tie.Need-returns Inv-loop μ-loop
+returns c =
+    let l = c .before .loop in
+    subst (λ (k : ℕ). Summed (c .before .before .before .before .args .d .now) k (l .sums .cost) (l .sums .energy)) (omega arith) (l .inv .2)
+
+pub with-blocks-spec : {M : Type 1} → statement M
+with-blocks-spec =
+    tie.close
+    (tie.spec Inv-loop μ-loop loop-holds add-with-block with-block-requires add-i loop-less loop-again returns)
