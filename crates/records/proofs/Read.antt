@@ -2,13 +2,13 @@
 use mathlib.Core.Path.{_≡_, refl, ap, ap₂, sym, _∙_}
 use mathlib.Core.Bool.{Bool, true, false, cond, _&&_}
 use mathlib.Core.List.{List}
-use Prim.Native.Nat.{ℕ, _+_, _≤_, _<_}
+use Prim.Native.Nat.{ℕ, _+_, _*_, _≤_, _<_}
 use native.Mathlib.Omega.{arith}
 use lib.Dec.{ltb, eqb}
 use lib.ListN.{length, getD, take, length-take}
 use lib.Seq.{getD-take}
-use borrow.Author.Tests.{lt-ltb, le-ltb, ltb-true, ltb-false, eqb-true}
-use Rattle.lists.proofs.Tests.{and-left, and-right, below-same}
+use borrow.Author.Tests.{lt-ltb, le-ltb, ltb-true, ltb-false, eqb-true, eqb-false, eq-eqb, ne-eqb}
+use Rattle.lists.proofs.Tests.{and-left, and-right, split, below-same}
 use Rattle.fields.specs.Numbers.{number}
 use Rattle.fields.proofs.Numbers.{number-same}
 use Rattle.records.specs.declared.Found.the-variants.{Record, Faulty}
@@ -75,3 +75,14 @@ begun a b s e =
     ap₂ (λ (x y : ℕ). markIn 1 table x y)
     (eqb-true (getD s 0 0) a (and-left (eqb (getD s 0 0) a) (eqb (getD s 1 0) b) e))
     (eqb-true (getD s 1 0) b (and-right (eqb (getD s 0 0) a) (eqb (getD s 1 0) b) e))
+
+-- two letters as one number are alike if each is
+pub two-letters : (x y a b : ℕ) → y < 256 → b < 256 → eqb (x * 256 + y) (a * 256 + b) ≡ eqb x a && eqb y b
+two-letters x y a b p q =
+    split (eqb x a)
+    (λ e. rw (e, eqb-true x a e) (alike (eqb y b) refl))
+    (λ e. rw e (ne-eqb (x * 256 + y) (a * 256 + b) (λ z. eqb-false x a e (omega (arith, p, q, z)))))
+  where
+    alike : (t : Bool) → eqb y b ≡ t → eqb (a * 256 + y) (a * 256 + b) ≡ t
+    alike true e = eq-eqb (a * 256 + y) (a * 256 + b) (rw (eqb-true y b e) refl)
+    alike false e = ne-eqb (a * 256 + y) (a * 256 + b) (λ z. eqb-false y b e (omega (arith, z)))

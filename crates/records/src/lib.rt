@@ -1,7 +1,7 @@
 // The records of a dossier. The table of marks, what one record may draw, and a raise are in specs/, their laws in proofs/.
 ghost use mathlib.Core.Path.{_≡_};
 ghost use mathlib.Core.Bool.{_||_};
-ghost use Prim.Native.Nat.{_+_, _<_};
+ghost use Prim.Native.Nat.{_+_, _*_, _<_};
 ghost use lib.Dec.{eqb};
 ghost use lib.ListN.{getD};
 ghost use Rattle.lists.specs.Tests.{between};
@@ -158,11 +158,18 @@ pub fn in_key(kind: usize, n: usize) -> bool
     (0 < kind) & in_fields(mark_shape(kind), n)
 }
 
+// Two letters as one number, the first high: code that tries mark after mark then compares one number with constants.
+fn letters(a: u8, b: u8) -> u16
+    ensures { λ r. ⌜ (r ≡ a * 256 + b) × (b < 256) ⌝ }
+{
+    (a as u16) * 256 + (b as u16)
+}
+
 // The mark is compared as two fixed bytes.
 pub fn is_mark(s: &[u8], m: &[u8; 2]) -> bool
     ensures { λ r. ⌜ r ≡ begins (now (s .entry)) (getD (now (m .entry)) 0 0) (getD (now (m .entry)) 1 0) ⌝ }
 {
-    (fields::byte_at(s, 0) == m[0]) & (fields::byte_at(s, 1) == m[1])
+    letters(fields::byte_at(s, 0), fields::byte_at(s, 1)) == letters(m[0], m[1])
 }
 
 // The kind of a record, 0 if its mark is unknown. The commonest marks come first.
