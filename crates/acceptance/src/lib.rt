@@ -3,16 +3,16 @@ ghost use mathlib.Core.Path.{_≡_};
 ghost use mathlib.Core.Bool.{true};
 ghost use Rattle.records.specs.declared.Answer.the-variants.{Accepted};
 ghost use Rattle.station.specs.Current.{readable};
-ghost use Rattle.lookup.specs.Parts.{Empty, Indexed, Complete};
+ghost use Rattle.lookup.specs.Parts.{Empty, Indexed, Complete, UpTo};
 ghost use Rattle.rules.specs.Answer.{answer};
 use index::Passed;
 use records::Answer;
 use support::unsupported_of;
 use technology::unfit_of;
 
-// 5 to 9 and 17, of a dossier that draws none before them.
-fn beyond_reading(d: &[u8], index: &[u16]) -> Answer
-    requires { ⌜ Indexed (now d) (now index) × Complete (now d) (now index) × (readable (now d) ≡ Accepted) ⌝ }
+// 5 to 9 and 17, of a dossier that draws none before them, given the highest slot of a record.
+fn beyond_reading(d: &[u8], index: &[u16], top: usize) -> Answer
+    requires { ⌜ Indexed (now d) (now index) × Complete (now d) (now index) × UpTo (now d) top × (readable (now d) ≡ Accepted) ⌝ }
     ensures { λ r. ⌜ r ≡ answer (now (d .entry)) ⌝ }
 {
     let rs = lookup::rs(d, index);
@@ -22,7 +22,7 @@ fn beyond_reading(d: &[u8], index: &[u16]) -> Answer
             place: d.len(),
         };
     }
-    match unfit_of(d, index, fields::u8_at(rs, 6)) {
+    match unfit_of(d, index, rs, fields::u8_at(rs, 6), top) {
         Answer::Accepted => unsupported_of(d, index),
         Answer::Refused { number, place } => Answer::Refused { number, place },
     }
@@ -34,21 +34,21 @@ fn judge_forecast(d: &[u8]) -> Answer
 {
     let mut index = [0u16; index::WIDE];
     match lookup::open(d, &mut index) {
-        Answer::Accepted => beyond_reading(d, &index),
+        Answer::Accepted => beyond_reading(d, &index, index::WIDE),
         Answer::Refused { number, place } => Answer::Refused { number, place },
     }
 }
 
-// The answer to a dossier that draws none of 13 and 1 to 3, with an index of all its records, given whether every issue rose.
-fn indexed_answer(d: &[u8], index: &[u16], rising: bool) -> Answer
-    requires { ⌜ Indexed (now d) (now index) × Complete (now d) (now index) × (rising ≡ true → readable (now d) ≡ Accepted) ⌝ }
+// The answer to a dossier that draws none of 13 and 1 to 3, with an index of all its records, given what the pass says.
+fn indexed_answer(d: &[u8], index: &[u16], rising: bool, top: usize) -> Answer
+    requires { ⌜ Indexed (now d) (now index) × Complete (now d) (now index) × UpTo (now d) top × (rising ≡ true → readable (now d) ≡ Accepted) ⌝ }
     ensures { λ r. ⌜ r ≡ answer (now (d .entry)) ⌝ }
 {
     if rising {
-        return beyond_reading(d, index);
+        return beyond_reading(d, index, top);
     }
     match twins::first_twin(d) {
-        Answer::Accepted => beyond_reading(d, index),
+        Answer::Accepted => beyond_reading(d, index, top),
         Answer::Refused { number, place } => Answer::Refused { number, place },
     }
 }
@@ -59,9 +59,9 @@ pub fn judge(d: &[u8], index: &mut [u16]) -> Answer
     ensures { λ r. ⌜ (r ≡ answer (now (d .entry))) × (r ≡ Accepted → Indexed (now (d .entry)) (now (index .exit))) ⌝ }
 {
     match lookup::scan(d, index) {
-        Passed::Ended { rising, complete } => {
-            if complete {
-                indexed_answer(d, index, rising)
+        Passed::Ended { rising, top } => {
+            if top < index.len() {
+                indexed_answer(d, index, rising, top)
             } else {
                 judge_forecast(d)
             }
@@ -76,9 +76,9 @@ pub fn accept(d: &[u8]) -> Answer
 {
     let mut index = [0u16; index::NARROW];
     match lookup::scan(d, &mut index) {
-        Passed::Ended { rising, complete } => {
-            if complete {
-                indexed_answer(d, &index, rising)
+        Passed::Ended { rising, top } => {
+            if top < index::NARROW {
+                indexed_answer(d, &index, rising, top)
             } else {
                 judge_forecast(d)
             }

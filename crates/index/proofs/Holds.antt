@@ -3,13 +3,13 @@ use mathlib.Core.Path.{_≡_, refl, ap, ap₂, sym, subst, _∙_}
 use mathlib.Core.Bool.{Bool, true, false, cond, _&&_, false≢true, _||_}
 use mathlib.Core.List.{List, [], _∷_, _++_, append-assoc}
 use Prim.Native.Nat.{ℕ, _+_, _≤_, _<_}
-use native.Mathlib.Nat.{zero-add, le-refl}
+use native.Mathlib.Nat.{zero-add, le-refl, le-trans, lt-of-le-of-lt}
 use native.Mathlib.Decide.{ℕ-discrete}
 use native.Mathlib.Omega.{arith}
 use lib.Dec.{leb, ltb, eqb}
 use lib.ListN.{length, getD, set, take, drop, length-append, length-set, length-replicate, getD-replicate}
 use lib.Seq.{take-at, drop-at, getD-set-same, getD-set-other}
-use borrow.Author.Tests.{le-ltb, le-leb, lt-leb, ne-eqb, ltb-true, leb-true, leb-false, eqb-true}
+use borrow.Author.Tests.{le-ltb, le-leb, lt-leb, ne-eqb, ltb-true, ltb-false, leb-true, leb-false, eqb-true}
 use Rattle.lists.specs.Lists.{Each, done, also, joined}
 use Rattle.lists.proofs.Lists.{each-map}
 use Rattle.lists.proofs.Tests.{and-left, and-right, split}
@@ -195,27 +195,31 @@ module _ (d : List ℕ) where
   still p x [] e = e
   still p x (r ∷ l) e = and-left (x .rising) (ltb (held-at (x .slots) r) (issue r + 1)) (still (p + length r) (keepStep d x p r) l e)
 
-  still-complete : (p : ℕ) (x : Kept) (l : List (List ℕ)) → folded (keepStep d) p x l .complete ≡ true → x .complete ≡ true
-  unfolding folded keepStep
-  still-complete p x [] e = e
-  still-complete p x (r ∷ l) e = and-left (x .complete) (ltb (slot (mark r) (keyOf r)) (length (x .slots))) (still-complete (p + length r) (keepStep d x p r) l e)
+  -- the highest slot after a record is no lower than that before it, nor than the record's
+  step-top : (p : ℕ) (x : Kept) (r : List ℕ) → (x .top ≤ keepStep d x p r .top) × (slot (mark r) (keyOf r) ≤ keepStep d x p r .top)
+  unfolding keepStep
+  step-top p x r = go (ltb (x .top) (slot (mark r) (keyOf r))) refl
+    where
+      go : (t : Bool) → ltb (x .top) (slot (mark r) (keyOf r)) ≡ t → (x .top ≤ cond t (slot (mark r) (keyOf r)) (x .top)) × (slot (mark r) (keyOf r) ≤ cond t (slot (mark r) (keyOf r)) (x .top))
+      go true e = let h = ltb-true (x .top) (slot (mark r) (keyOf r)) e in (omega (arith, h), le-refl (slot (mark r) (keyOf r)))
+      go false e = (le-refl (x .top), ltb-false (x .top) (slot (mark r) (keyOf r)) e)
 
-  -- the first record has a slot
-  first-slot : (p : ℕ) (x : Kept) (r : List ℕ) (l : List (List ℕ)) → folded (keepStep d) p x (r ∷ l) .complete ≡ true → slot (mark r) (keyOf r) < length (x .slots)
+  top-grows : (p : ℕ) (x : Kept) (l : List (List ℕ)) → x .top ≤ folded (keepStep d) p x l .top
   unfolding folded
-  first-slot p x r l e =
-      ltb-true (slot (mark r) (keyOf r)) (length (x .slots))
-      (and-right (x .complete) (ltb (slot (mark r) (keyOf r)) (length (x .slots))) (unfold keepStep in (still-complete (p + length r) (keepStep d x p r) l e)))
+  top-grows p x [] = le-refl (x .top)
+  top-grows p x (r ∷ l) = le-trans (step-top p x r .0) (top-grows (p + length r) (keepStep d x p r) l)
 
-  -- where the index is complete, every record has one
-  pub complete-slots : (p : ℕ) (x : Kept) (l : List (List ℕ)) → folded (keepStep d) p x l .complete ≡ true → Each (λ r. slot (mark r) (keyOf r) < length (x .slots)) l
+  first-top : (p : ℕ) (x : Kept) (r : List ℕ) (l : List (List ℕ)) → slot (mark r) (keyOf r) ≤ folded (keepStep d) p x (r ∷ l) .top
   unfolding folded
-  complete-slots p x [] e = done
-  complete-slots p x (r ∷ l) e =
-      also {a = r} (first-slot p x r l e)
-      (each-map (λ s h. rw (← kept-length d x p r) h) (complete-slots (p + length r) (keepStep d x p r) l e))
+  first-top p x r l = le-trans (step-top p x r .1) (top-grows (p + length r) (keepStep d x p r) l)
 
-  rising-from : (front : List ℕ) (x : Kept) (seen : List (List ℕ)) {l : List (List ℕ)} → front ++ joined l ≡ d → Each Good l → Each (Under (x .slots)) seen → folded (keepStep d) (length front) x l .complete ≡ true → folded (keepStep d) (length front) x l .rising ≡ true → twins (length front) seen l ≡ Accepted
+  -- no record has a slot above the highest
+  pub top-slots : (p : ℕ) (x : Kept) (l : List (List ℕ)) → Each (λ r. slot (mark r) (keyOf r) ≤ folded (keepStep d) p x l .top) l
+  unfolding folded
+  top-slots p x [] = done
+  top-slots p x (r ∷ l) = also {a = r} (first-top p x r l) (top-slots (p + length r) (keepStep d x p r) l)
+
+  rising-from : (front : List ℕ) (x : Kept) (seen : List (List ℕ)) {l : List (List ℕ)} → front ++ joined l ≡ d → Each Good l → Each (Under (x .slots)) seen → folded (keepStep d) (length front) x l .top < length (x .slots) → folded (keepStep d) (length front) x l .rising ≡ true → twins (length front) seen l ≡ Accepted
   unfolding folded twins joined
   rising-from front x seen whole done u w e = refl
   rising-from front x seen whole (also {a = r} {l = l} g m) u w e =
@@ -223,7 +227,7 @@ module _ (d : List ℕ) where
       (refuseIf-not (anyTwin r seen) 4 p (no-twin r (x .slots) below u))
       (rw (length-append front r) at
       (rising-from (front ++ r) (keepStep d x p r) (r ∷ seen) (append-assoc front r (joined l) ∙ whole) m
-      (also {a = r} mine (each-map more u)) (rw (length-append front r) w) (rw (length-append front r) e)))
+      (also {a = r} mine (each-map more u)) (rw (length-append front r, kept-length d x p r) w) (rw (length-append front r) e)))
     where
       p : ℕ
       p = length front
@@ -232,7 +236,7 @@ module _ (d : List ℕ) where
       j = slot (mark r) (keyOf r)
 
       j-lt : j < length (x .slots)
-      j-lt = first-slot p x r l w
+      j-lt = lt-of-le-of-lt (first-top p x r l) w
 
       below : held-at (x .slots) r < issue r + 1
       below =
@@ -252,8 +256,8 @@ module _ (d : List ℕ) where
       more : (s : List ℕ) → Under (x .slots) s → Under (keepStep d x p r .slots) s
       more s h = unfold keepStep in (omega (arith, h, grows d (x .slots) j (slot (mark s) (keyOf s)) p j-lt here))
 
-pub rising-twins : (d ix : List ℕ) → scan 0 (records d) ≡ Accepted → folded (keepStep d) 0 (kept ix true true) (records d) .complete ≡ true → folded (keepStep d) 0 (kept ix true true) (records d) .rising ≡ true → twins 0 [] (records d) ≡ Accepted
-rising-twins d ix s w e = rising-from d [] (kept ix true true) [] (joined-records d) (good-records d s) done w e
+pub rising-twins : (d ix : List ℕ) → scan 0 (records d) ≡ Accepted → folded (keepStep d) 0 (kept ix true 0) (records d) .top < length ix → folded (keepStep d) 0 (kept ix true 0) (records d) .rising ≡ true → twins 0 [] (records d) ≡ Accepted
+rising-twins d ix s w e = rising-from d [] (kept ix true 0) [] (joined-records d) (good-records d s) done w e
 
 pub folded-length : (d : List ℕ) (p : ℕ) (x : Kept) (l : List (List ℕ)) → length (folded (keepStep d) p x l .slots) ≡ length (x .slots)
 unfolding folded

@@ -148,10 +148,10 @@ in-key r e =
 
 -- where the slots of a mark begin and end
 unfoldable pub low : ℕ → ℕ
-low k = getD (0 ∷ 0 ∷ 1 ∷ 22 ∷ 26 ∷ 106 ∷ 138 ∷ 154 ∷ 322 ∷ 2338 ∷ 2351 ∷ 2350 ∷ []) k 0
+low k = getD (0 ∷ 0 ∷ 1 ∷ 22 ∷ 26 ∷ 106 ∷ 138 ∷ 166 ∷ 334 ∷ 154 ∷ 2351 ∷ 2350 ∷ []) k 0
 
 unfoldable pub high : ℕ → ℕ
-high k = getD (0 ∷ 0 ∷ 21 ∷ 25 ∷ 105 ∷ 137 ∷ 153 ∷ 321 ∷ 2337 ∷ 2349 ∷ 6350 ∷ 2350 ∷ []) k 0
+high k = getD (0 ∷ 0 ∷ 21 ∷ 25 ∷ 105 ∷ 137 ∷ 153 ∷ 333 ∷ 2349 ∷ 165 ∷ 6350 ∷ 2350 ∷ []) k 0
 
 pub at-mark : (P : ℕ → Type 0) (k n : ℕ) → InKey k n → P 1 → P 2 → P 3 → P 4 → P 5 → P 6 → P 7 → P 8 → P 9 → P 10 → P 11 → P k
 at-mark P k n p a b c d e f g h i j m = by-mark P a b c d e f g h i j m k (λ z. omega (arith, z, p .known)) (p .low)
@@ -168,7 +168,7 @@ unfolding high
 slot-lt k n p = omega (arith, limits k n p .1, high-le k)
   where
     high-le : (k : ℕ) → high k ≤ 6350
-    high-le k = unfold high everyOf in all-le (0 ∷ 0 ∷ 21 ∷ 25 ∷ 105 ∷ 137 ∷ 153 ∷ 321 ∷ 2337 ∷ 2349 ∷ 6350 ∷ 2350 ∷ []) 6350 refl refl k
+    high-le k = unfold high everyOf in all-le (0 ∷ 0 ∷ 21 ∷ 25 ∷ 105 ∷ 137 ∷ 153 ∷ 333 ∷ 2349 ∷ 165 ∷ 6350 ∷ 2350 ∷ []) 6350 refl refl k
 
 three : (a b c x y z : ℕ) → Span (shapeOf 4) 0 a × Span (shapeOf 4) 1 b × Span (shapeOf 4) 2 c → Span (shapeOf 4) 0 x × Span (shapeOf 4) 1 y × Span (shapeOf 4) 2 z → 1 + a * 20 + b * 4 + c ≡ 1 + x * 20 + y * 4 + z → (a ≡ x) × (b ≡ y) × (c ≡ z)
 unfolding shapeOf shape rowOf table

@@ -7,8 +7,8 @@ use native.Mathlib.Omega.{arith}
 use lib.Dec.{ltb}
 use lib.ListN.{length, getD, set, take, drop, length-drop, List·getD-eq-default}
 use lib.Seq.{take-all}
-use borrow.Author.Tests.{lt-ltb, le-ltb}
-use Rattle.lists.proofs.Tests.{and-true, and-false}
+use borrow.Author.Tests.{lt-ltb}
+use Rattle.lists.proofs.Tests.{and-true}
 use Rattle.records.specs.Table.{kinds}
 use Rattle.fields.specs.Numbers.{number}
 use Rattle.records.specs.declared.Found.the-variants.{Record}
@@ -20,7 +20,7 @@ use Rattle.records.proofs.Record.{mark-take, size-ge, key-ends, faultless}
 use Rattle.records.proofs.Marks.{mark-lt, size-least}
 use Rattle.records.proofs.Walk.{found-record, found-within, Rest, next}
 use Rattle.records.proofs.Read.{number-take}
-use Rattle.index.specs.Slots.{slotAt, slot, wide, heldIssue, newer, kept, keepStep}
+use Rattle.index.specs.Slots.{slotAt, slot, wide, heldIssue, newer, higher, kept, keepStep}
 use Rattle.index.proofs.Slots.{in-key, slot-lt}
 
 pub tail : (d : List ℕ) (at : ℕ) → take (length d - at) (drop at d) ≡ drop at d
@@ -60,7 +60,7 @@ module _ (s : List ℕ) (k n : ℕ) (e : found s ≡ Record k n) where
   slot-below : slotAt k s < wide
   slot-below = rw (← its-slot) (slot-lt (mark (take n s)) (keyOf (take n s)) (in-key (take n s) its-fault))
 
-  step-is : (d ix : List ℕ) (b c : Bool) (p : ℕ) → keepStep d (kept ix b c) p (take n s) ≡ kept (set ix (slotAt k s) (newer (heldIssue d (getD ix (slotAt k s) 0)) (number 2 4 s + 1) (getD ix (slotAt k s) 0) (p + 1))) (b && ltb (heldIssue d (getD ix (slotAt k s) 0)) (number 2 4 s + 1)) (c && ltb (slotAt k s) (length ix))
+  step-is : (d ix : List ℕ) (b : Bool) (c p : ℕ) → keepStep d (kept ix b c) p (take n s) ≡ kept (set ix (slotAt k s) (newer (heldIssue d (getD ix (slotAt k s) 0)) (number 2 4 s + 1) (getD ix (slotAt k s) 0) (p + 1))) (b && ltb (heldIssue d (getD ix (slotAt k s) 0)) (number 2 4 s + 1)) (higher c (slotAt k s))
   unfolding keepStep
   step-is d ix b c p = rw (its-slot, its-issue) refl
 
@@ -70,31 +70,29 @@ set-beyond [] i x h = refl
 set-beyond (y ∷ l) zero x h = absurd (omega arith)
 set-beyond (y ∷ l) (suc i) x h = ap (λ (m : List ℕ). y ∷ m) (set-beyond l i x (omega arith))
 
-module _ (d ix₀ ix : List ℕ) (at k n : ℕ) (b c : Bool) (h : at < length d) (r : Rest (keepStep d) (kept ix₀ true true) d at (kept ix b c)) (e : found (drop at d) ≡ Record k n) {j : ℕ} (ej : j ≡ slotAt k (take (length d - at) (drop at d))) where
-  after : Rest (keepStep d) (kept ix₀ true true) d (at + n) (kept (set ix (slotAt k (drop at d)) (newer (heldIssue d (getD ix (slotAt k (drop at d)) 0)) (number 2 4 (drop at d) + 1) (getD ix (slotAt k (drop at d)) 0) (at + 1))) (b && ltb (heldIssue d (getD ix (slotAt k (drop at d)) 0)) (number 2 4 (drop at d) + 1)) (c && ltb (slotAt k (drop at d)) (length ix)))
-  after = subst (Rest (keepStep d) (kept ix₀ true true) d (at + n)) (step-is (drop at d) k n e d ix b c at) (next (keepStep d) (kept ix₀ true true) d at (kept ix b c) k n h r e)
+module _ (d ix₀ ix : List ℕ) (at k n : ℕ) (b : Bool) (c : ℕ) (h : at < length d) (r : Rest (keepStep d) (kept ix₀ true 0) d at (kept ix b c)) (e : found (drop at d) ≡ Record k n) {j : ℕ} (ej : j ≡ slotAt k (take (length d - at) (drop at d))) where
+  after : Rest (keepStep d) (kept ix₀ true 0) d (at + n) (kept (set ix (slotAt k (drop at d)) (newer (heldIssue d (getD ix (slotAt k (drop at d)) 0)) (number 2 4 (drop at d) + 1) (getD ix (slotAt k (drop at d)) 0) (at + 1))) (b && ltb (heldIssue d (getD ix (slotAt k (drop at d)) 0)) (number 2 4 (drop at d) + 1)) (higher c (slotAt k (drop at d))))
+  after = subst (Rest (keepStep d) (kept ix₀ true 0) d (at + n)) (step-is (drop at d) k n e d ix b c at) (next (keepStep d) (kept ix₀ true 0) d at (kept ix b c) k n h r e)
 
   ej′ : j ≡ slotAt k (drop at d)
   ej′ = ej ∙ ap (slotAt k) (tail d at)
 
   -- a record with a slot in the index
-  pub turn : {w a g : ℕ} → j < length ix → w ≡ number 2 4 (take (length d - at) (drop at d)) → a ≡ heldIssue d (getD ix j 0) → g ≡ newer a (w + 1) (getD ix j 0) (at + 1)
-      → Rest (keepStep d) (kept ix₀ true true) d (at + n) (kept (set ix j g) (b && ltb a (w + 1)) c)
-  turn z ew ea eg =
+  pub turn : {w a g m : ℕ} → w ≡ number 2 4 (take (length d - at) (drop at d)) → a ≡ heldIssue d (getD ix j 0) → g ≡ newer a (w + 1) (getD ix j 0) (at + 1) → m ≡ higher c j
+      → Rest (keepStep d) (kept ix₀ true 0) d (at + n) (kept (set ix j g) (b && ltb a (w + 1)) m)
+  turn ew ea eg em =
       let ew′ = ew ∙ ap (number 2 4) (tail d at) in
-      let y : c && ltb (slotAt k (drop at d)) (length ix) ≡ c = rw (lt-ltb (slotAt k (drop at d)) (length ix) (rw ej′ at z)) (and-true c) in
-      rw (eg, ea, ej′, ew′) (rw y at after)
+      rw (em, eg, ea, ej′, ew′) after
 
   -- one without
-  pub turn-beyond : length ix ≤ j → Rest (keepStep d) (kept ix₀ true true) d (at + n) (kept ix b false)
+  pub turn-beyond : {m : ℕ} → length ix ≤ j → m ≡ higher c j → Rest (keepStep d) (kept ix₀ true 0) d (at + n) (kept ix b m)
   unfolding heldIssue
-  turn-beyond z =
+  turn-beyond z em =
       let q : ℕ = slotAt k (drop at d) in
       let m : length ix ≤ q = rw ej′ at z in
       let v : getD ix q 0 ≡ 0 = List·getD-eq-default ix 0 {n = q} m in
       let x : b && ltb (heldIssue d (getD ix q 0)) (number 2 4 (drop at d) + 1) ≡ b = rw (v, lt-ltb 0 (number 2 4 (drop at d) + 1) (omega arith)) (and-true b) in
-      let y : c && ltb q (length ix) ≡ false = rw (le-ltb q (length ix) m) (and-false c) in
-      rw (set-beyond ix q (newer (heldIssue d (getD ix q 0)) (number 2 4 (drop at d) + 1) (getD ix q 0) (at + 1)) m, x, y) at after
+      rw (em, ej′) (rw (set-beyond ix q (newer (heldIssue d (getD ix q 0)) (number 2 4 (drop at d) + 1) (getD ix q 0) (at + 1)) m, x) at after)
 
 pub below : (d : List ℕ) (at k n : ℕ) {j : ℕ} → found (drop at d) ≡ Record k n → j ≡ slotAt k (take (length d - at) (drop at d)) → j < wide
 below d at k n e ej = rw (ej, tail d at) (slot-below (drop at d) k n e)

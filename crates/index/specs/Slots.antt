@@ -11,7 +11,7 @@ use Rattle.records.specs.Walk.{Step, Walked, ended, stopped}
 use Rattle.index.specs.declared.Passed.{Passed}
 use Rattle.index.specs.declared.Passed.the-variants.{Ended, Stopped}
 
--- ---- the slot of a mark and key: mixed radix, the marks one after the other, FP last
+-- ---- the slot of a mark and key: mixed radix, the marks one after the other; HR, CH and LC come behind those that every station may have, FP last
 
 -- by the key as a number; key fields count from 1, so no field is lessened
 unfoldable pub slot : ℕ → ℕ → ℕ
@@ -22,9 +22,9 @@ slot (suc (suc (suc zero))) n = 21 + n
 slot (suc (suc (suc (suc zero)))) n = 1 + n / 65536 * 20 + n / 256 % 256 * 4 + n % 256
 slot (suc (suc (suc (suc (suc zero))))) n = 97 + n / 256 * 8 + n % 256
 slot (suc (suc (suc (suc (suc (suc zero)))))) n = 137 + n
-slot (suc (suc (suc (suc (suc (suc (suc zero))))))) n = 153 + n
-slot (suc (suc (suc (suc (suc (suc (suc (suc zero)))))))) n = 321 + n
-slot (suc (suc (suc (suc (suc (suc (suc (suc (suc zero))))))))) n = 2333 + n / 256 * 4 + n % 256
+slot (suc (suc (suc (suc (suc (suc (suc zero))))))) n = 165 + n
+slot (suc (suc (suc (suc (suc (suc (suc (suc zero)))))))) n = 333 + n
+slot (suc (suc (suc (suc (suc (suc (suc (suc (suc zero))))))))) n = 149 + n / 256 * 4 + n % 256
 slot (suc (suc (suc (suc (suc (suc (suc (suc (suc (suc zero)))))))))) n = 2350 + n
 slot (suc (suc (suc (suc (suc (suc (suc (suc (suc (suc (suc k))))))))))) n = 2350
 
@@ -50,30 +50,34 @@ heldIssue d v = cond (eqb v 0 || ltb (length d) (v + 5)) 0 (number (v + 1) 4 d +
 abbrev pub newer : ℕ → ℕ → ℕ → ℕ → ℕ
 newer a b v w = cond (leb a b) w v
 
--- the index, whether every issue so far was above all earlier ones of its mark and key, and whether every record had a slot in it
+-- the higher of two slots
+abbrev pub higher : ℕ → ℕ → ℕ
+higher a b = cond (ltb a b) b a
+
+-- the index, whether every issue so far was above all earlier ones of its mark and key, and the highest slot of a record
 pub record Kept : Type 0 where
   pub slots : List ℕ
   pub rising : Bool
-  pub complete : Bool
+  pub top : ℕ
 
 -- all three at once
-abbrev pub kept : List ℕ → Bool → Bool → Kept
-kept l b c = record { slots = l; rising = b; complete = c }
+abbrev pub kept : List ℕ → Bool → ℕ → Kept
+kept l b m = record { slots = l; rising = b; top = m }
 
 -- an index of w empty slots, before the first record
 abbrev pub fresh : ℕ → Kept
-fresh w = kept (replicate w 0) true true
+fresh w = kept (replicate w 0) true 0
 
 -- a record r at place p of dossier d goes into the slot of its mark and key, unless a higher issue is there; one without a slot is passed over
 unfoldable pub keepStep : List ℕ → Step Kept
 keepStep d x p r =
     let j = slot (mark r) (keyOf r) in
     let v = getD (x .slots) j 0 in
-    kept (set (x .slots) j (newer (heldIssue d v) (issue r + 1) v (p + 1))) (x .rising && ltb (heldIssue d v) (issue r + 1)) (x .complete && ltb j (length (x .slots)))
+    kept (set (x .slots) j (newer (heldIssue d v) (issue r + 1) v (p + 1))) (x .rising && ltb (heldIssue d v) (issue r + 1)) (higher (x .top) j)
 
 -- what the pass answers
 unfoldable pub passOf : Walked Kept → Passed
-passOf (ended x) = Ended (x .rising) (x .complete)
+passOf (ended x) = Ended (x .rising) (x .top)
 passOf (stopped n p) = Stopped n p
 
 -- and the index that it leaves, l where it stopped

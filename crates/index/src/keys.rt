@@ -29,14 +29,14 @@ pub fn slot_hr(n: usize) -> usize
     requires { ⌜ n < 16777216 ⌝ }
     ensures { λ r. ⌜ r ≡ slot 7 n ⌝ }
 {
-    153 + n
+    165 + n
 }
 
 pub fn slot_ch(n: usize) -> usize
     requires { ⌜ n < 16777216 ⌝ }
     ensures { λ r. ⌜ r ≡ slot 8 n ⌝ }
 {
-    321 + n
+    333 + n
 }
 
 pub fn slot_ad(p: usize, c: usize, v: usize) -> usize
@@ -57,7 +57,7 @@ pub fn slot_th(c: usize, v: usize) -> usize
     requires { ⌜ (c < 65536) × (v < 256) ⌝ }
     ensures { λ r. ⌜ r ≡ slot 9 (c * 256 + v) ⌝ }
 {
-    2333 + c * 4 + v
+    149 + c * 4 + v
 }
 
 pub fn slot_fp(n: usize) -> usize

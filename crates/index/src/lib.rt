@@ -7,7 +7,7 @@ ghost use mathlib.Core.Bool.{true};
 ghost use Prim.Native.Nat.{_+_, _≤_};
 ghost use lib.ListN.{length};
 ghost use Rattle.records.specs.Walk.{walk};
-ghost use Rattle.index.specs.Slots.{heldIssue, newer, kept, keepStep, passOf, slotsOf, slotsEmpty};
+ghost use Rattle.index.specs.Slots.{heldIssue, newer, higher, kept, keepStep, passOf, slotsOf, slotsEmpty};
 use crate::reader::read;
 
 // The slots of all marks but FP, and with them.
@@ -27,10 +27,10 @@ pub enum Reading {
     Fault(u8),
 }
 
-// What a pass answers: whether every issue was above all earlier ones of its mark and key, and whether every record has a slot in the
-// index; or the first fault.
+// What a pass answers: whether every issue was above all earlier ones of its mark and key, and the highest slot of a record; or the
+// first fault.
 pub enum Passed {
-    Ended { rising: bool, complete: bool },
+    Ended { rising: bool, top: usize },
     Stopped { number: u8, place: usize },
 }
 
@@ -53,15 +53,22 @@ fn newer_of(held: u64, issue: u64, v: u16, next: u16) -> u16
     if held <= issue { next } else { v }
 }
 
+// The higher of two slots.
+fn higher_of(a: usize, b: usize) -> usize
+    ensures { λ r. ⌜ r ≡ higher a b ⌝ }
+{
+    if a < b { b } else { a }
+}
+
 // A slot holds the place of its record plus 1, 0 for none: two bytes, so that an empty index is soon made. The issue is read where the record lies.
-// The slots of FP come last, and few dossiers have any, so an index may end before them; a record without a slot is passed over.
+// The slots of FP come last, and few dossiers have any, so an index may end before them; a record without a slot is passed over, as the highest slot tells.
 pub fn pass(d: &[u8], index: &mut [u16]) -> Passed
     requires { ⌜ length (now d) ≤ 60000 ⌝ }
-    ensures { λ r. ⌜ (r ≡ passOf (walk (keepStep (now (d .entry))) (kept (now (index .entry)) true true) (now (d .entry)))) × (now (index .exit) ≡ slotsOf (now (index .exit)) (walk (keepStep (now (d .entry))) (kept (now (index .entry)) true true) (now (d .entry)))) ⌝ }
+    ensures { λ r. ⌜ (r ≡ passOf (walk (keepStep (now (d .entry))) (kept (now (index .entry)) true 0) (now (d .entry)))) × (now (index .exit) ≡ slotsOf (now (index .exit)) (walk (keepStep (now (d .entry))) (kept (now (index .entry)) true 0) (now (d .entry)))) ⌝ }
 {
     let mut at = 0;
     let mut rising = true;
-    let mut complete = true;
+    let mut top = 0;
     while at < d.len() {
         let rest = &d[at..];
         match read(rest) {
@@ -74,14 +81,13 @@ pub fn pass(d: &[u8], index: &mut [u16]) -> Passed
                     };
                 }
                 let j = entry.slot;
+                top = higher_of(top, j);
                 if j < index.len() {
                     let issue = (fields::u32_at(rest, 2) as u64) + 1;
                     let v = index[j];
                     let held = issue_held(d, v);
                     rising = rising & (held < issue);
                     index[j] = newer_of(held, issue, v, (at as u16) + 1);
-                } else {
-                    complete = false;
                 }
                 at += entry.len;
             }
@@ -90,7 +96,7 @@ pub fn pass(d: &[u8], index: &mut [u16]) -> Passed
             }
         }
     }
-    Passed::Ended { rising, complete }
+    Passed::Ended { rising, top }
 }
 
 // Whether n slots from slot j on are empty.

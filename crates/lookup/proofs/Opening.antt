@@ -7,6 +7,7 @@ use native.Mathlib.Omega.{arith}
 use lib.Dec.{ltb}
 use lib.ListN.{length, replicate, length-replicate}
 use borrow.Author.Tests.{lt-ltb, le-ltb, ltb-true, ltb-false}
+use Rattle.lists.proofs.Lists.{each-map}
 use Rattle.lists.proofs.Tests.{split}
 use Rattle.records.specs.declared.Answer.{Answer}
 use Rattle.records.specs.declared.Answer.the-variants.{Accepted, Refused}
@@ -19,8 +20,8 @@ use Rattle.station.specs.Current.{readable, twins}
 use Rattle.index.specs.declared.Passed.{Passed}
 use Rattle.index.specs.declared.Passed.the-variants.{Ended, Stopped}
 use Rattle.index.specs.Slots.{narrow, wide, Kept, kept, fresh, keepStep, passOf, slotsOf}
-use Rattle.index.proofs.Holds.{rising-twins, complete-slots, folded-length}
-use Rattle.lookup.specs.Parts.{scanned, indexOf, Indexed, Complete}
+use Rattle.index.proofs.Holds.{rising-twins, top-slots, folded-length}
+use Rattle.lookup.specs.Parts.{scanned, indexOf, Indexed, Complete, UpTo}
 
 too-long : (d : List ℕ) → 60000 < length d → Refused 13 0 ≡ readable d
 unfolding readable refuseIf orElse
@@ -36,7 +37,7 @@ clean-answer d h e = after d h ∙ rw e refl
 
 -- ---- what the scan says
 
-pub not-ended : {n p : ℕ} {b c : Bool} → Stopped n p ≡ Ended b c → ⊥
+pub not-ended : {n p : ℕ} {b : Bool} {m : ℕ} → Stopped n p ≡ Ended b m → ⊥
 not-ended e = let z : _≡_ {A = ℕ} 0 1 = ap (λ x. elim x [ Ended a b ↦ 1 | Stopped i j ↦ 0 ]) e in omega arith
 
 module _ (d : List ℕ) (w : ℕ) where
@@ -48,7 +49,7 @@ module _ (d : List ℕ) (w : ℕ) where
   unfolding scanned
   scan-pass h = rw (le-ltb 60000 (length d) h) refl
 
-  pub scan-short : {ix : List ℕ} {r : Passed} → ix ≡ replicate w 0 → length d ≤ 60000 → r ≡ passOf (walk (keepStep d) (kept ix true true) d) → r ≡ scanned w d
+  pub scan-short : {ix : List ℕ} {r : Passed} → ix ≡ replicate w 0 → length d ≤ 60000 → r ≡ passOf (walk (keepStep d) (kept ix true 0) d) → r ≡ scanned w d
   scan-short z h e = e ∙ rw z (sym (scan-pass h))
 
   fold : Kept
@@ -59,11 +60,11 @@ module _ (d : List ℕ) (w : ℕ) where
   way a e = walk-is-fold (keepStep d) (fresh w) d ∙ ap (λ (x : Answer). outcome x (folded (keepStep d) 0 (fresh w) (records d))) e
 
   -- the pass ended: nothing was drawn
-  pass-ended : {b c : Bool} → Ended b c ≡ passOf (walk (keepStep d) (fresh w) d) → (scan 0 (records d) ≡ Accepted) × (b ≡ fold .rising) × (c ≡ fold .complete)
+  pass-ended : {b : Bool} {c : ℕ} → Ended b c ≡ passOf (walk (keepStep d) (fresh w) d) → (scan 0 (records d) ≡ Accepted) × (b ≡ fold .rising) × (c ≡ fold .top)
   unfolding passOf outcome
   pass-ended {b} {c} e = go (scan 0 (records d)) refl
     where
-      go : (a : Answer) → scan 0 (records d) ≡ a → (scan 0 (records d) ≡ Accepted) × (b ≡ fold .rising) × (c ≡ fold .complete)
+      go : (a : Answer) → scan 0 (records d) ≡ a → (scan 0 (records d) ≡ Accepted) × (b ≡ fold .rising) × (c ≡ fold .top)
       go Accepted s =
           let z = e ∙ ap passOf (way Accepted s) in
           (s, ap (λ x. elim x [ Ended u v ↦ u | Stopped i j ↦ b ]) z, ap (λ x. elim x [ Ended u v ↦ v | Stopped i j ↦ c ]) z)
@@ -81,7 +82,7 @@ module _ (d : List ℕ) (w : ℕ) where
           ap₂ (λ (x y : ℕ). Refused x y) (ap (λ x. elim x [ Ended u v ↦ n | Stopped i j ↦ i ]) z) (ap (λ x. elim x [ Ended u v ↦ p | Stopped i j ↦ j ]) z) ∙ sym (after d h ∙ rw s refl)
 
   -- the index that the pass leaves, where nothing is drawn
-  pub pass-filled : {ix x : List ℕ} → ix ≡ replicate w 0 → narrow ≤ w → length d ≤ 60000 → scan 0 (records d) ≡ Accepted → x ≡ slotsOf x (walk (keepStep d) (kept ix true true) d) → (Indexed d x) × (length x ≡ w)
+  pub pass-filled : {ix x : List ℕ} → ix ≡ replicate w 0 → narrow ≤ w → length d ≤ 60000 → scan 0 (records d) ≡ Accepted → x ≡ slotsOf x (walk (keepStep d) (kept ix true 0) d) → (Indexed d x) × (length x ≡ w)
   unfolding slotsOf outcome indexOf fold
   pass-filled {x = x} z r h s i =
       let f : x ≡ fold .slots = (rw z at i) ∙ ap (slotsOf x) (way Accepted s) in
@@ -89,12 +90,12 @@ module _ (d : List ℕ) (w : ℕ) where
       (record { short = h; clean = s; roomy = omega (arith, r, n); here = f ∙ ap (λ (v : ℕ). folded (keepStep d) 0 (fresh v) (records d) .slots) (sym n) }, n)
 
   -- and what it says of the slots
-  pub pass-indexed : {ix x : List ℕ} {b c : Bool} → ix ≡ replicate w 0 → narrow ≤ w → length d ≤ 60000 → Ended b c ≡ passOf (walk (keepStep d) (kept ix true true) d) → x ≡ slotsOf x (walk (keepStep d) (kept ix true true) d) → Indexed d x × (c ≡ true → Complete d x)
+  pub pass-indexed : {ix x : List ℕ} {b : Bool} {c : ℕ} → ix ≡ replicate w 0 → narrow ≤ w → length d ≤ 60000 → Ended b c ≡ passOf (walk (keepStep d) (kept ix true 0) d) → x ≡ slotsOf x (walk (keepStep d) (kept ix true 0) d) → Indexed d x × UpTo d c
   unfolding fold
   pass-indexed {c = c} z r h e i =
       let p = pass-ended (rw z at e) in
       let g = pass-filled z r h (p .0) i in
-      (g .0, λ q. rw (g .1 ∙ sym (length-replicate {A = ℕ} w 0)) (complete-slots d 0 (fresh w) (records d) (sym (p .2) ∙ q)))
+      (g .0, rw (p .2) (top-slots d 0 (fresh w) (records d)))
 
   -- ---- from the scan to the answer
 
@@ -107,11 +108,11 @@ module _ (d : List ℕ) (w : ℕ) where
       ap₂ (λ (x y : ℕ). Refused x y) (ap (λ x. elim x [ Ended u v ↦ n | Stopped i j ↦ i ]) z) (ap (λ x. elim x [ Ended u v ↦ p | Stopped i j ↦ j ]) z) ∙ too-long d (ltb-true 60000 (length d) t))
       (λ f. pass-stopped n p (ltb-false 60000 (length d) f) (e ∙ rw f refl))
 
-  pub scan-rising : Ended true true ≡ scanned w d → {x : List ℕ} → Indexed d x → Accepted ≡ readable d
+  pub scan-rising : {m : ℕ} → Ended true m ≡ scanned w d → m < w → {x : List ℕ} → Indexed d x → Accepted ≡ readable d
   unfolding fold
-  scan-rising e h =
+  scan-rising e z h =
       let p = pass-ended (e ∙ scan-pass (h .short)) in
-      sym (clean-answer d (h .short) (h .clean) ∙ rising-twins d (replicate w 0) (h .clean) (sym (p .2)) (sym (p .1)))
+      sym (clean-answer d (h .short) (h .clean) ∙ rising-twins d (replicate w 0) (h .clean) (rw (length-replicate {A = ℕ} w 0, ← p .2) z) (sym (p .1)))
 
 pub scan-twins : (d : List ℕ) {x : List ℕ} → Indexed d x → readable d ≡ twins 0 [] (records d)
 scan-twins d h = clean-answer d (h .short) (h .clean)
@@ -130,3 +131,7 @@ accepted-indexed d e =
       },
       omega (arith, n),
     )
+
+-- an index with more slots than the highest is complete
+pub up-to-complete : (d x : List ℕ) {m : ℕ} → UpTo d m → m < length x → Complete d x
+up-to-complete d x u h = each-map (λ r g. omega (arith, g, h)) u

@@ -22,7 +22,7 @@ use Rattle.records.proofs.Marks.{by-mark}
 use Rattle.index.proofs.Slots.{Spans, InKey, at-mark, in-key, key-test, test-key, slot-lt, slot-narrow}
 use Rattle.index.proofs.Holds.{Holds, absent, there, Good, good-records, index-holds}
 use Rattle.lookup.specs.declared.Part.{Part}
-use Rattle.lookup.specs.Parts.{part, bytesOf, currentPart, indexOf, placeAt, partAt, Indexed, Complete, Covers}
+use Rattle.lookup.specs.Parts.{part, bytesOf, currentPart, indexOf, placeAt, partAt, Indexed, Complete, UpTo, Covers}
 
 -- ---- a part within the dossier
 
@@ -158,6 +158,10 @@ module _ (d ix : List ℕ) (h : Indexed d ix) where
         (λ f. omega (arith, ap (λ (p : Part). p .start) (no-key k n f), ap (λ (p : Part). p .length) (no-key k n f))))
 
 -- every record has a slot in an index of all slots
+-- no slot is above the widest index
+pub wide-up-to : (d ix : List ℕ) → Indexed d ix → UpTo d wide
+wide-up-to d ix h = each-map (λ r g. omega (arith, slot-lt (mark r) (keyOf r) (in-key r (g .0)))) (good-records d (h .clean))
+
 pub wide-complete : (d ix : List ℕ) → Indexed d ix → wide ≤ length ix → Complete d ix
 wide-complete d ix h w = each-map (λ r g. omega (arith, w, slot-lt (mark r) (keyOf r) (in-key r (g .0)))) (good-records d (h .clean))
 

@@ -40,7 +40,7 @@ lookupPart d k n = cond (isAccepted (readable d)) (currentPart k n (records d)) 
 unfoldable pub indexOf : ℕ → List ℕ → List ℕ
 indexOf w d = folded (keepStep d) 0 (fresh w) (records d) .slots
 
--- "13; records in turn with 1, 2, 3": the refusal, or what a pass with w slots says of the issues and the slots
+-- "13; records in turn with 1, 2, 3": the refusal, or what a pass with w slots says of the issues and the highest slot
 unfoldable pub scanned : ℕ → List ℕ → Passed
 scanned w d = cond (ltb longest (length d)) (Stopped 13 0) (passOf (walk (keepStep d) (fresh w) d))
 
@@ -70,6 +70,10 @@ pub record Indexed (d ix : List ℕ) : Type 0 where
 -- every record of the dossier has a slot in the index
 abbrev pub Complete : List ℕ → List ℕ → Type 0
 Complete d ix = Each (λ r. slot (mark r) (keyOf r) < length ix) (records d)
+
+-- no record of the dossier has a slot above m
+abbrev pub UpTo : List ℕ → ℕ → Type 0
+UpTo d m = Each (λ r. slot (mark r) (keyOf r) ≤ m) (records d)
 
 -- the index has the slots of mark k
 abbrev pub Covers : ℕ → List ℕ → Type 0

@@ -1,8 +1,8 @@
 // The current records of a dossier: it is read once, for 13 and 1 to 4, and its index then gives each current record as a part of its bytes.
 ghost use mathlib.Core.Path.{_≡_};
-ghost use mathlib.Core.Bool.{Bool, true};
+ghost use mathlib.Core.Bool.{Bool};
 ghost use mathlib.Core.List.{[], _∷_};
-ghost use Prim.Native.Nat.{_+_, _*_, _/_, _%_, _<_, _≤_};
+ghost use Prim.Native.Nat.{ℕ, _+_, _*_, _/_, _%_, _<_, _≤_};
 ghost use lib.ListN.{length};
 ghost use Rattle.fields.specs.Numbers.{number};
 ghost use Rattle.records.specs.declared.Answer.the-variants.{Accepted};
@@ -12,7 +12,7 @@ ghost use Rattle.records.specs.Dossier.{records, scan};
 ghost use Rattle.station.specs.Current.{current, readable, lookupBytes};
 ghost use Rattle.index.specs.declared.Passed.the-variants.{Ended};
 ghost use Rattle.index.specs.Slots.{slot};
-ghost use Rattle.lookup.specs.Parts.{scanned, placeOf, placeAt, bytesOf, partAt, currentPart, lookupPart, Empty, Indexed, Complete, Covers};
+ghost use Rattle.lookup.specs.Parts.{scanned, placeOf, placeAt, bytesOf, partAt, currentPart, lookupPart, Empty, Indexed, Complete, UpTo, Covers};
 use index::Passed;
 use records::Answer;
 
@@ -25,7 +25,7 @@ pub struct Part {
 // The first part of it: 13, 1 to 3, and the index.
 pub fn scan(d: &[u8], index: &mut [u16]) -> Passed
     requires { ⌜ Empty (now index) ⌝ }
-    ensures { λ r. ⌜ (r ≡ scanned (length (now (index .entry))) (now (d .entry))) × ((b c : Bool) → r ≡ Ended b c → Indexed (now (d .entry)) (now (index .exit)) × (c ≡ true → Complete (now (d .entry)) (now (index .exit)))) ⌝ }
+    ensures { λ r. ⌜ (r ≡ scanned (length (now (index .entry))) (now (d .entry))) × ((b : Bool) (m : ℕ) → r ≡ Ended b m → Indexed (now (d .entry)) (now (index .exit)) × UpTo (now (d .entry)) m) ⌝ }
 {
     if 60000 < d.len() {
         return Passed::Stopped {
@@ -51,8 +51,8 @@ pub fn open(d: &[u8], index: &mut [u16]) -> Answer
     ensures { λ r. ⌜ (r ≡ readable (now (d .entry))) × (r ≡ Accepted → Indexed (now (d .entry)) (now (index .exit))) ⌝ }
 {
     match scan(d, index) {
-        Passed::Ended { rising, complete } => {
-            if rising & complete {
+        Passed::Ended { rising, top } => {
+            if rising & (top < index.len()) {
                 Answer::Accepted
             } else {
                 twins::first_twin(d)
@@ -200,7 +200,7 @@ pub fn fp<'a>(d: &'a [u8], index: &[u16], n: usize) -> &'a [u8]
 }
 
 // The slot of a mark and key.
-fn slot_of(kind: usize, n: usize) -> usize
+pub fn slot_of(kind: usize, n: usize) -> usize
     requires { ⌜ (n < 16777216) × (kind < kinds) ⌝ }
     ensures { λ r. ⌜ r ≡ slot kind n ⌝ }
 {

@@ -9,14 +9,16 @@ use native.Mathlib.Omega.{arith}
 use lib.Dec.{ltb, eqb}
 use lib.ListN.{length, getD, take, drop, length-take, length-drop, drop-of-length-le, List·getD-eq-default}
 use lib.Seq.{drop-drop}
-use borrow.Author.Tests.{eqb-true, eqb-false, eq-eqb, ne-eqb}
+use borrow.Author.Tests.{ltb-true, eqb-true, eqb-false, eq-eqb, ne-eqb}
 use Rattle.lists.specs.Lists.{Each, done, also, Member, here, there}
 use Rattle.lists.specs.Tests.{allBelow}
 use Rattle.lists.proofs.Lists.{member-each}
 use Rattle.lists.proofs.Tests.{and-true, and-left, and-right, split, below-at, below-same}
 use Rattle.fields.specs.Numbers.{number}
+use Rattle.fields.proofs.Numbers.{number-join}
 use Rattle.records.specs.declared.Answer.the-variants.{Accepted, Refused}
 use Rattle.records.specs.Table.{table, rowOf, fieldOf, AD, TH}
+use Rattle.records.specs.declared.MarkShape.{MarkShape}
 use Rattle.records.specs.Shapes.{shape, shapeOf}
 use Rattle.records.specs.Record.{mark, size, issue, keyIn, keyWidth, keyOf, value, rangesHold, fault}
 use Rattle.records.specs.Answers.{orElse, refuseIf}
@@ -24,6 +26,7 @@ use Rattle.records.specs.declared.Found.the-variants.{Record}
 use Rattle.records.specs.Walk.{found}
 use Rattle.records.specs.Dossier.{firstOf, restOf, recordsIn, records, firstDrawn, scan}
 use Rattle.records.proofs.Record.{mark-take, mark-nil, size-ge, faultless}
+use Rattle.records.proofs.Shapes.{shape-width}
 use Rattle.records.proofs.Answers.{orElse-parts}
 use Rattle.records.proofs.Dossier.{first-mark, first-length, records-step, scan-each}
 use Rattle.records.proofs.Read.{number-take, value-take}
@@ -35,13 +38,11 @@ use Rattle.station.proofs.Twins.{twins-distinct}
 use Rattle.index.specs.Slots.{narrow, slotAt, slot, slotsEmpty}
 use Rattle.index.proofs.Slots.{Spans, InKey, in-key, at-mark, low, high, limits}
 use Rattle.index.proofs.Turn.{tail, its-slot as found-slot}
-use Rattle.index.specs.declared.Entry.{Entry}
-use Rattle.index.specs.Entries.{entryAs}
-use Rattle.lookup.specs.Parts.{part, bytesOf, placeAt, partAt, Indexed, Complete}
+use Rattle.lookup.specs.Parts.{part, bytesOf, placeAt, partAt, Indexed, Complete, UpTo}
 use Rattle.lookup.proofs.Parts.{part-current}
 use Rattle.rules.specs.Fit.{Known, holds, fieldFits, ruleFits, fits, isCurrent, unfit}
-use Rattle.technology.specs.Looked.{heldFits, slotFits, slotsFit, thermalFit, otherFit, allFit, notFit}
-use Rattle.rules.proofs.ByMark.{fits-hp, fits-fu, fits-mm, fits-rq, fits-none, fits-hr, fits-ch, fits-fp, thermal-ad, thermal-th}
+use Rattle.technology.specs.Looked.{heldFits, slotFits, slotsFit, thermalFit, pricedFit, otherFit, allFit, notFit}
+use Rattle.rules.proofs.ByMark.{fits-rs, fits-hp, fits-fu, fits-mm, fits-rq, fits-none, fits-hr, fits-ch, fits-fp, thermal-ad, thermal-th}
 use Rattle.rules.proofs.Sound.{each-unfit}
 
 -- ---- a record cut from the rest fits as the rest does
@@ -114,7 +115,7 @@ part-there d ix j n r z = go (eqb (getD ix j 0) 0) (ltb (length d) (getD ix j 0 
     go false true e = absurd (z (sym e))
     go false false e = (refl, e)
 
-module _ (t : ℕ) (d ix : List ℕ) where
+module _ (t : ℕ) (d ix rs : List ℕ) (top : ℕ) where
   region : (a n j : ℕ) → slotsFit t d ix a n ≡ true → a ≤ j → j < a + n → slotFits t d ix j ≡ true
   unfolding slotsFit
   region a n j e p q =
@@ -127,11 +128,11 @@ module _ (t : ℕ) (d ix : List ℕ) where
       let g : eqb (getD ix j 0) 0 ≡ true = rw k at (below-at n (λ i. eqb (getD ix (a + i) 0) 0) e (j - a) (omega arith)) in
       rw g refl
 
-  -- every record of the mark and key fits, or the slot was looked at
+  -- the current record of the mark and key fits if its slot is not above the highest, or the slot was looked at
   abbrev Looked : ℕ → ℕ → Type 0
-  Looked k n = ((s : List ℕ) → rangesHold k s ≡ true → number 6 (keyWidth k) s ≡ n → fits t k s ≡ true) ⊎ (slotFits t d ix (slot k n) ≡ true)
+  Looked k n = ((s : List ℕ) → rangesHold k s ≡ true → number 6 (keyWidth k) s ≡ n → current k n (records d) ≡ s → slot k n ≤ top → fits t k s ≡ true) ⊎ (slotFits t d ix (slot k n) ≡ true)
 
-  module _ (known : Known t) (e : allFit t d ix ≡ true) where
+  module _ (known : Known t) (same : rs ≡ current 1 0 (records d)) (e : allFit t d ix rs top ≡ true) where
     -- a slot beyond the index is empty
     no-place : (n : ℕ) → InKey 10 n → eqb t 4 ≡ false → slotFits t d ix (slot 10 n) ≡ true
     unfolding allFit slotFits low
@@ -140,50 +141,65 @@ module _ (t : ℕ) (d ix : List ℕ) where
         rw (List·getD-eq-default ix 0 {n = slot 10 n} (omega (arith, w, limits 10 n q))) refl
 
     place-looked : (n : ℕ) → InKey 10 n → Looked 10 n
-    place-looked n q = split (eqb t 4) (λ w. inl (λ s _ _. sym (fits-fp t s known) ∙ w)) (λ w. inr (no-place n q w))
+    place-looked n q = split (eqb t 4) (λ w. inl (λ s _ _ _ _. sym (fits-fp t s known) ∙ w)) (λ w. inr (no-place n q w))
 
     module _ (z : eqb t 1 ≡ true) where
       is-thermal : t ≡ 1
       is-thermal = eqb-true t 1 z
 
-      thermal-parts : (slotsFit t d ix 0 1 ≡ true) × (allBelow 4 (λ p. slotsEmpty ix (42 + 20 * p) 4) ≡ true) × (slotsEmpty ix 154 2184 && slotsEmpty ix 2350 1 ≡ true)
+      thermal-parts : (ltb top 166 ≡ true) × (fits 1 1 rs ≡ true) × (allBelow 4 (λ p. slotsEmpty ix (42 + 20 * p) 4) ≡ true)
       unfolding allFit thermalFit
-      thermal-parts = rw is-thermal (three _ _ _ (rw z at (and-right (eqb t 4 || eqb (length ix) narrow) _ e)))
+      thermal-parts = three _ _ _ (rw z at (and-right (eqb t 4 || eqb (length ix) narrow) _ e))
+
+      station-fits : (n : ℕ) → InKey 1 n → (s : List ℕ) → current 1 n (records d) ≡ s → fits t 1 s ≡ true
+      unfolding Spans shapeOf shape rowOf table
+      station-fits n q s c =
+          let z : n ≡ 0 = omega (arith, q .spans) in
+          rw is-thermal (subst (λ (r : List ℕ). fits 1 1 r ≡ true) (same ∙ ap (λ (i : ℕ). current 1 i (records d)) (sym z) ∙ c) (thermal-parts .1))
+
+      -- a slot from 166 on is above the highest
+      above : (k n : ℕ) → 166 ≤ slot k n → Looked k n
+      above k n h = inl (λ s _ _ _ g. absurd (omega (arith, h, g, ltb-true top 166 (thermal-parts .0))))
 
       -- an AD of cost 5 would stand in one of the slots that are empty
       prorated : (n : ℕ) → InKey 4 n → n / 256 % 256 ≡ 5 → slotFits t d ix (slot 4 n) ≡ true
       unfolding slot Spans shapeOf shape rowOf table
       prorated n q five =
           let p = n / 65536 - 1 in
-          empty-fits (42 + 20 * p) 4 (slot 4 n) (below-at 4 (λ p. slotsEmpty ix (42 + 20 * p) 4) (thermal-parts .1) p (omega (arith, q .spans))) (omega (arith, q .spans, five)) (omega (arith, q .spans, five))
+          empty-fits (42 + 20 * p) 4 (slot 4 n) (below-at 4 (λ p. slotsEmpty ix (42 + 20 * p) 4) (thermal-parts .2) p (omega (arith, q .spans))) (omega (arith, q .spans, five)) (omega (arith, q .spans, five))
 
       thermal-looked : (k n : ℕ) → InKey k n → Looked k n
       unfolding low high keyWidth keyIn rowOf table
       thermal-looked k n p =
           at-mark (λ k. InKey k n → Looked k n) k n p
-          (λ q. inr (region 0 1 (slot 1 n) (thermal-parts .0) (omega arith) (omega (arith, limits 1 n q))))
-          (λ q. inl (λ s _ _. sym (fits-hp t s known) ∙ z))
-          (λ q. inl (λ s _ _. sym (fits-fu t s known) ∙ rw is-thermal refl))
-          (λ q. split (eqb (n / 256 % 256) 5) (λ w. inr (prorated n q (eqb-true (n / 256 % 256) 5 w))) (λ w. inl (λ s g i. rw is-thermal (thermal-ad s g (λ c. eqb-false (n / 256 % 256) 5 w (sym (ap (λ (x : ℕ). x / 256 % 256) i) ∙ c))))))
-          (λ q. inl (λ s _ _. sym (fits-mm t s known) ∙ rw z refl))
-          (λ q. inl (λ s _ _. sym (fits-rq t s known)))
-          (λ q. inr (empty-fits 154 2184 (slot 7 n) priced (omega (arith, limits 7 n q)) (omega (arith, limits 7 n q))))
-          (λ q. inr (empty-fits 154 2184 (slot 8 n) priced (omega (arith, limits 8 n q)) (omega (arith, limits 8 n q))))
-          (λ q. inl (λ s g _. rw is-thermal (thermal-th s g)))
+          (λ q. inl (λ s _ _ c _. station-fits n q s c))
+          (λ q. inl (λ s _ _ _ _. sym (fits-hp t s known) ∙ z))
+          (λ q. inl (λ s _ _ _ _. sym (fits-fu t s known) ∙ rw is-thermal refl))
+          (λ q. split (eqb (n / 256 % 256) 5) (λ w. inr (prorated n q (eqb-true (n / 256 % 256) 5 w))) (λ w. inl (λ s g i _ _. rw is-thermal (thermal-ad s g (λ c. eqb-false (n / 256 % 256) 5 w (sym (ap (λ (x : ℕ). x / 256 % 256) i) ∙ c))))))
+          (λ q. inl (λ s _ _ _ _. sym (fits-mm t s known) ∙ rw z refl))
+          (λ q. inl (λ s _ _ _ _. sym (fits-rq t s known)))
+          (λ q. above 7 n (omega (arith, limits 7 n q)))
+          (λ q. above 8 n (omega (arith, limits 8 n q)))
+          (λ q. inl (λ s g _ _ _. rw is-thermal (thermal-th s g)))
           (place-looked n)
-          (λ q. inr (empty-fits 2350 1 (slot 11 n) (and-right (slotsEmpty ix 154 2184) (slotsEmpty ix 2350 1) (thermal-parts .2)) (omega (arith, limits 11 n q)) (omega (arith, limits 11 n q))))
+          (λ q. above 11 n (omega (arith, limits 11 n q)))
           p
-        where
-          priced : slotsEmpty ix 154 2184 ≡ true
-          priced = and-left (slotsEmpty ix 154 2184) (slotsEmpty ix 2350 1) (thermal-parts .2)
 
     module _ (z : eqb t 1 ≡ false) where
-      other-parts : (slotsFit t d ix 0 138 ≡ true) × (slotsFit t d ix 2338 13 ≡ true) × (slotsEmpty ix 154 (cond (eqb t 3) 0 2184) ≡ true)
+      other-parts : (slotsFit t d ix 0 138 ≡ true) × (slotsFit t d ix 154 12 ≡ true) × (pricedFit t d ix top ≡ true)
       unfolding allFit otherFit
       other-parts = three _ _ _ (rw z at (and-right (eqb t 4 || eqb (length ix) narrow) _ e))
 
-      priced : eqb t 3 ≡ false → (j : ℕ) → 154 ≤ j → j < 2338 → slotFits t d ix j ≡ true
-      priced w j p q = empty-fits 154 2184 j (rw w at (other-parts .2)) p (omega arith)
+      -- a slot from 166 on is above the highest, or LC was looked at, and HR and CH are not there
+      priced : (k n : ℕ) → 166 ≤ slot k n → (slotsFit t d ix 2350 1 && slotsEmpty ix 166 (cond (eqb t 3) 0 2184) ≡ true → slotFits t d ix (slot k n) ≡ true) → Looked k n
+      unfolding pricedFit
+      priced k n h f =
+          split (ltb top 166)
+          (λ w. inl (λ s _ _ _ g. absurd (omega (arith, h, g, ltb-true top 166 w))))
+          (λ w. inr (f (rw w at (other-parts .2))))
+
+      unpriced : eqb t 3 ≡ false → (k n : ℕ) → 166 ≤ slot k n → slot k n < 2350 → Looked k n
+      unpriced w k n p q = priced k n p (λ g. empty-fits 166 2184 (slot k n) (rw w at (and-right (slotsFit t d ix 2350 1) _ g)) p (omega (arith, q)))
 
       other-looked : (k n : ℕ) → InKey k n → Looked k n
       unfolding low high
@@ -194,12 +210,12 @@ module _ (t : ℕ) (d ix : List ℕ) where
           (λ q. first 3 n q (omega (arith, limits 3 n q)))
           (λ q. first 4 n q (omega (arith, limits 4 n q)))
           (λ q. first 5 n q (omega (arith, limits 5 n q)))
-          (λ q. inl (λ s _ _. sym (fits-rq t s known)))
-          (λ q. split (eqb t 3) (λ w. inl (λ s _ _. sym (fits-hr t s known) ∙ w)) (λ w. inr (priced w (slot 7 n) (omega (arith, limits 7 n q)) (omega (arith, limits 7 n q)))))
-          (λ q. split (eqb t 3) (λ w. inl (λ s _ _. sym (fits-ch t s known) ∙ w)) (λ w. inr (priced w (slot 8 n) (omega (arith, limits 8 n q)) (omega (arith, limits 8 n q)))))
-          (λ q. inr (region 2338 13 (slot 9 n) (other-parts .1) (omega (arith, limits 9 n q)) (omega (arith, limits 9 n q))))
+          (λ q. inl (λ s _ _ _ _. sym (fits-rq t s known)))
+          (λ q. split (eqb t 3) (λ w. inl (λ s _ _ _ _. sym (fits-hr t s known) ∙ w)) (λ w. unpriced w 7 n (omega (arith, limits 7 n q)) (omega (arith, limits 7 n q))))
+          (λ q. split (eqb t 3) (λ w. inl (λ s _ _ _ _. sym (fits-ch t s known) ∙ w)) (λ w. unpriced w 8 n (omega (arith, limits 8 n q)) (omega (arith, limits 8 n q))))
+          (λ q. inr (region 154 12 (slot 9 n) (other-parts .1) (omega (arith, limits 9 n q)) (omega (arith, limits 9 n q))))
           (place-looked n)
-          (λ q. inr (region 2338 13 (slot 11 n) (other-parts .1) (omega (arith, limits 11 n q)) (omega (arith, limits 11 n q))))
+          (λ q. priced 11 n (omega (arith, limits 11 n q)) (λ g. region 2350 1 (slot 11 n) (and-left (slotsFit t d ix 2350 1) _ g) (omega (arith, limits 11 n q)) (omega (arith, limits 11 n q))))
           p
         where
           first : (k n : ℕ) → InKey k n → slot k n < 138 → Looked k n
@@ -208,7 +224,7 @@ module _ (t : ℕ) (d ix : List ℕ) where
     looked : (k n : ℕ) → InKey k n → Looked k n
     looked k n p = split (eqb t 1) (λ z. thermal-looked z k n p) (λ z. other-looked z k n p)
 
-    module _ (h : Indexed d ix) (complete : Complete d ix) (distinct : Distinct (records d)) where
+    module _ (h : Indexed d ix) (complete : Complete d ix) (highest : UpTo d top) (distinct : Distinct (records d)) where
       slot-record : (r : List ℕ) → fault r ≡ 0 → slot (mark r) (keyOf r) < length ix → current (mark r) (keyOf r) (records d) ≡ r → slotFits t d ix (slot (mark r) (keyOf r)) ≡ true → fits t (mark r) r ≡ true
       unfolding slotFits
       slot-record r f i c w =
@@ -225,7 +241,7 @@ module _ (t : ℕ) (d ix : List ℕ) where
           go f (looked (mark r) (keyOf r) (in-key r f))
         where
           go : fault r ≡ 0 → Looked (mark r) (keyOf r) → fits t (mark r) r ≡ true
-          go f (inl g) = g r (faultless r f .ranges) (unfold keyOf in refl)
+          go f (inl g) = g r (faultless r f .ranges) (unfold keyOf in refl) (is-the-current distinct m c) (member-each m highest)
           go f (inr g) = slot-record r f (member-each m complete) (is-the-current distinct m c) g
 
       pub slots-accepted : t ≡ technology (parameters (records d)) → Accepted ≡ unfit t (records d)
@@ -233,22 +249,29 @@ module _ (t : ℕ) (d ix : List ℕ) where
 
 -- ---- the tests of slots
 
+-- RS of a thermal station
+pub rs-thermal : (s : List ℕ) → ltb 0 (number 9 2 s) && eqb (number 19 4 s) 0 && eqb (number 23 4 s) 0 && eqb (number 27 2 s) 0 && eqb (number 29 2 s) 0 ≡ fits 1 1 s
+rs-thermal s =
+    subst (λ (b : Bool). b && eqb (number 19 4 s) 0 && eqb (number 23 4 s) 0 && eqb (number 27 2 s) 0 && eqb (number 29 2 s) 0 ≡ fits 1 1 s)
+    (and-true (ltb 0 (number 9 2 s) && true) ∙ and-true (ltb 0 (number 9 2 s)))
+    (fits-rs 1 s (omega arith, omega arith))
+
 -- an index with slots for FP, of another station than a hydroelectric one
-pub other-wide : (t : ℕ) (d ix : List ℕ) → not (eqb t 4) && not (eqb (length ix) narrow) ≡ true → false ≡ allFit t d ix
+pub other-wide : (t : ℕ) (d ix rs : List ℕ) (top : ℕ) → not (eqb t 4) && not (eqb (length ix) narrow) ≡ true → false ≡ allFit t d ix rs top
 unfolding allFit
-other-wide t d ix = go (eqb t 4) (eqb (length ix) narrow)
+other-wide t d ix rs top = go (eqb t 4) (eqb (length ix) narrow)
   where
-    go : (a b : Bool) → not a && not b ≡ true → false ≡ (a || b) && cond (eqb t 1) (thermalFit d ix) (otherFit t d ix)
+    go : (a b : Bool) → not a && not b ≡ true → false ≡ (a || b) && cond (eqb t 1) (thermalFit ix rs top) (otherFit t d ix top)
     go true b e = absurd (false≢true e)
     go false true e = absurd (false≢true e)
     go false false e = refl
 
 -- and any other
-pub by-station : (t : ℕ) (d ix : List ℕ) → not (eqb t 4) && not (eqb (length ix) narrow) ≡ false → {x : Bool} → x ≡ cond (eqb t 1) (thermalFit d ix) (otherFit t d ix) → x ≡ allFit t d ix
+pub by-station : (t : ℕ) (d ix rs : List ℕ) (top : ℕ) → not (eqb t 4) && not (eqb (length ix) narrow) ≡ false → {x : Bool} → x ≡ cond (eqb t 1) (thermalFit ix rs top) (otherFit t d ix top) → x ≡ allFit t d ix rs top
 unfolding allFit
-by-station t d ix h {x = x} f = go (eqb t 4) (eqb (length ix) narrow) h
+by-station t d ix rs top h {x = x} f = go (eqb t 4) (eqb (length ix) narrow) h
   where
-    go : (a b : Bool) → not a && not b ≡ false → x ≡ (a || b) && cond (eqb t 1) (thermalFit d ix) (otherFit t d ix)
+    go : (a b : Bool) → not a && not b ≡ false → x ≡ (a || b) && cond (eqb t 1) (thermalFit ix rs top) (otherFit t d ix top)
     go true b e = f
     go false true e = f
     go false false e = absurd (false≢true (sym e))
@@ -287,9 +310,27 @@ fit-passes d ix s f e = rw e (go (eqb (number 2 4 s) (number 2 4 (partAt d ix (s
     go true = refl
     go false = refl
 
-pub unfit-current : (d ix s : List ℕ) (f : Bool) → f ≡ false → {a b : ℕ} {part : List ℕ} {x : Entry} → x ≡ entryAs (mark s) s → part ≡ partAt d ix (x .slot) (x .len) → a ≡ number 2 4 s → b ≡ number 2 4 part → eqb a b ≡ notFit d ix s f
+-- the key of a record, by its width
+module _ (s : List ℕ) (w : ℕ) where
+  pub key-none : w ≡ 0 → 0 ≡ number 6 w s
+  unfolding number
+  key-none e = rw e refl
+
+  pub key-of : {n x : ℕ} → w ≡ n → x ≡ number 6 n s → x ≡ number 6 w s
+  key-of e q = rw e q
+
+  pub key-long : {a b : ℕ} → w ≡ 3 → a ≡ number 6 2 s → b ≡ number 8 1 s → a * 256 + b ≡ number 6 w s
+  key-long e p q = rw (e, p, q) (sym (number-join 6 2 1 s))
+
+-- the slot of a record, by the row of its mark
+pub slot-here : (s : List ℕ) {k n j : ℕ} {m : MarkShape} → k ≡ mark s → m ≡ shapeOf k → n ≡ number 6 (m .width) s → j ≡ slot k n → j ≡ slotAt (mark s) s
+unfolding slotAt
+slot-here s {k = k} {m = m} ek em en ej =
+    ej ∙ ap (slot k) (en ∙ ap (λ (w : ℕ). number 6 w s) (shape-width k em)) ∙ ap (λ (x : ℕ). slot x (number 6 (keyWidth x) s)) ek
+
+pub unfit-current : (d ix s : List ℕ) (f : Bool) → f ≡ false → {a b j n : ℕ} {part : List ℕ} → j ≡ slotAt (mark s) s → n ≡ size (mark s) → part ≡ partAt d ix j n → a ≡ number 2 4 s → b ≡ number 2 4 part → eqb a b ≡ notFit d ix s f
 unfolding notFit
-unfit-current d ix s f e w p q r = rw (e, q, r, p, w, and-true (eqb (number 2 4 s) (number 2 4 (partAt d ix (slotAt (mark s) s) (size (mark s)))))) refl
+unfit-current d ix s f e ej en p q r = rw (e, q, r, p, ej, en, and-true (eqb (number 2 4 s) (number 2 4 (partAt d ix (slotAt (mark s) s) (size (mark s)))))) refl
 
 -- from place p on the first unfit record is that of the whole, no record is at fault, and each has a slot
 pub record Left (t : ℕ) (d ix : List ℕ) (p : ℕ) : Type 0 where

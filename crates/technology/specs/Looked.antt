@@ -3,7 +3,7 @@
 use mathlib.Core.Bool.{Bool, cond, _&&_, _||_, not}
 use mathlib.Core.List.{List}
 use Prim.Native.Nat.{ℕ, _+_, _*_, _-_}
-use lib.Dec.{eqb}
+use lib.Dec.{ltb, eqb}
 use lib.ListN.{length, getD, drop}
 use Rattle.lists.specs.Tests.{allBelow}
 use Rattle.fields.specs.Numbers.{number}
@@ -34,17 +34,21 @@ slotFits t d ix j = heldFits t d (getD ix j 0)
 unfoldable pub slotsFit : ℕ → List ℕ → List ℕ → ℕ → ℕ → Bool
 slotsFit t d ix j n = allBelow n (λ i. slotFits t d ix (j + i))
 
--- of a thermal station: RS fits, and there is no AD of cost 5, no HR, no CH and no LC; all else fits it
-unfoldable pub thermalFit : List ℕ → List ℕ → Bool
-thermalFit d ix = slotsFit thermal d ix 0 1 && allBelow 4 (λ p. slotsEmpty ix (42 + 20 * p) 4) && (slotsEmpty ix 154 2184 && slotsEmpty ix 2350 1)
+-- of a thermal station, whose RS is r, the highest slot of a record being m: r fits, and there is no AD of cost 5, no HR, no CH and no LC; all else fits it
+unfoldable pub thermalFit : List ℕ → List ℕ → ℕ → Bool
+thermalFit ix r m = ltb m 166 && fits thermal 1 r && allBelow 4 (λ p. slotsEmpty ix (42 + 20 * p) 4)
 
--- of any other: the slots of RS, HP, FU, AD, MM and of TH and LC fit, and those of HR and CH are empty unless it is storage, which they fit; RQ fits
-unfoldable pub otherFit : ℕ → List ℕ → List ℕ → Bool
-otherFit t d ix = slotsFit t d ix 0 138 && slotsFit t d ix 2338 13 && slotsEmpty ix 154 (cond (eqb t storage) 0 2184)
+-- of any other there is no HR, no CH and no LC, as the highest slot tells; or LC fits, and the slots of HR and CH are empty unless it is storage, which they fit
+unfoldable pub pricedFit : ℕ → List ℕ → List ℕ → ℕ → Bool
+pricedFit t d ix m = ltb m 166 || (slotsFit t d ix 2350 1 && slotsEmpty ix 166 (cond (eqb t storage) 0 2184))
+
+-- and the slots of RS, HP, FU, AD, MM and of TH fit; RQ fits
+unfoldable pub otherFit : ℕ → List ℕ → List ℕ → ℕ → Bool
+otherFit t d ix m = slotsFit t d ix 0 138 && slotsFit t d ix 154 12 && pricedFit t d ix m
 
 -- every current record fits, as the slots tell; FP has slots where there is an FP, which fits a hydroelectric station alone
-unfoldable pub allFit : ℕ → List ℕ → List ℕ → Bool
-allFit t d ix = (eqb t hydro || eqb (length ix) narrow) && cond (eqb t thermal) (thermalFit d ix) (otherFit t d ix)
+unfoldable pub allFit : ℕ → List ℕ → List ℕ → List ℕ → ℕ → Bool
+allFit t d ix r m = (eqb t hydro || eqb (length ix) narrow) && cond (eqb t thermal) (thermalFit ix r m) (otherFit t d ix m)
 
 -- the record at the front of s has the issue of the current one of its mark and key, and does not fit
 unfoldable pub notFit : List ℕ → List ℕ → List ℕ → Bool → Bool

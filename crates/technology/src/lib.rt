@@ -4,16 +4,17 @@ ghost use mathlib.Core.Bool.{cond, _||_, not};
 ghost use Prim.Native.Nat.{_+_, _<_, _≤_};
 ghost use lib.Dec.{ltb, eqb};
 ghost use lib.ListN.{length};
+ghost use Rattle.fields.specs.Numbers.{number};
 ghost use Rattle.records.specs.declared.Answer.the-variants.{Accepted};
-ghost use Rattle.records.specs.Table.{kinds};
+ghost use Rattle.records.specs.Table.{kinds, RS};
 ghost use Rattle.records.specs.Record.{mark, size, keyWidth};
 ghost use Rattle.index.specs.Slots.{narrow, slotAt};
 ghost use Rattle.records.specs.Dossier.{records};
-ghost use Rattle.station.specs.Current.{readable};
+ghost use Rattle.station.specs.Current.{current, readable};
 ghost use Rattle.station.specs.Parameters.{parameters, technology};
-ghost use Rattle.lookup.specs.Parts.{Indexed, Complete};
+ghost use Rattle.lookup.specs.Parts.{Indexed, Complete, UpTo};
 ghost use Rattle.rules.specs.Fit.{Known, fits, holds, unfit};
-ghost use Rattle.technology.specs.Looked.{tried, triedAs, heldFits, slotsFit, thermalFit, otherFit, allFit, notFit};
+ghost use Rattle.technology.specs.Looked.{tried, triedAs, heldFits, slotsFit, thermalFit, pricedFit, otherFit, allFit, notFit};
 use index::slots_empty;
 use lists::choose;
 use records::Answer;
@@ -52,6 +53,17 @@ fn rs_fits(t: u8, s: &[u8]) -> bool
         & field_fits(t == 3, true, fields::u32_at(s, 23))
         & field_fits(t == 3, true, fields::u16_at(s, 27) as u32)
         & field_fits((t == 3) | (t == 4), true, fields::u16_at(s, 29) as u32)
+}
+
+// The same of a thermal station.
+fn rs_thermal(s: &[u8]) -> bool
+    ensures { λ r. ⌜ r ≡ fits 1 1 (now (s .entry)) ⌝ }
+{
+    (0 < fields::u16_at(s, 9))
+        & (fields::u32_at(s, 19) == 0)
+        & (fields::u32_at(s, 23) == 0)
+        & (fields::u16_at(s, 27) == 0)
+        & (fields::u16_at(s, 29) == 0)
 }
 
 // FU: a hydroelectric station has no fuel, and emission is thermal.
@@ -159,45 +171,73 @@ fn slots_fit(d: &[u8], index: &[u16], t: u8, j: usize, n: usize) -> bool
     true
 }
 
-// Whether the index shows that every current record fits a thermal station: AD of cost 5 has four slots in each of four profiles.
-fn thermal_fit(d: &[u8], index: &[u16]) -> bool
+// Whether every current record fits a thermal station, whose RS is given, by the index and the highest slot of a record. AD of cost 5 has
+// four slots in each of four profiles.
+fn thermal_fit(index: &[u16], rs: &[u8], top: usize) -> bool
     requires { ⌜ narrow ≤ length (now index) ⌝ }
-    ensures { λ r. ⌜ r ≡ thermalFit (now (d .entry)) (now (index .entry)) ⌝ }
+    ensures { λ r. ⌜ r ≡ thermalFit (now (index .entry)) (now (rs .entry)) top ⌝ }
 {
-    slots_fit(d, index, 1, 0, 1)
+    (top < 166)
+        & rs_thermal(rs)
         & (slots_empty(index, 42, 4)
             & slots_empty(index, 62, 4)
             & slots_empty(index, 82, 4)
             & slots_empty(index, 102, 4))
-        & (slots_empty(index, 154, 2184) & slots_empty(index, 2350, 1))
 }
 
-// The same of any other station.
-fn other_fit(d: &[u8], index: &[u16], t: u8) -> bool
+// Whether what any other station has of HR, CH and LC fits it; the highest slot tells at once that it has none.
+fn priced_fit(d: &[u8], index: &[u16], t: u8, top: usize) -> bool
     requires { ⌜ Known t × (narrow ≤ length (now index)) ⌝ }
-    ensures { λ r. ⌜ r ≡ otherFit t (now (d .entry)) (now (index .entry)) ⌝ }
+    ensures { λ r. ⌜ r ≡ pricedFit t (now (d .entry)) (now (index .entry)) top ⌝ }
 {
+    if top < 166 {
+        return true;
+    }
     let priced = choose(t == 3, 0, 2184);
-    slots_fit(d, index, t, 0, 138)
-        & slots_fit(d, index, t, 2338, 13)
-        & slots_empty(index, 154, priced)
+    slots_fit(d, index, t, 2350, 1) & slots_empty(index, 166, priced)
+}
+
+// Whether every current record fits any other station.
+fn other_fit(d: &[u8], index: &[u16], t: u8, top: usize) -> bool
+    requires { ⌜ Known t × (narrow ≤ length (now index)) ⌝ }
+    ensures { λ r. ⌜ r ≡ otherFit t (now (d .entry)) (now (index .entry)) top ⌝ }
+{
+    slots_fit(d, index, t, 0, 138) & slots_fit(d, index, t, 154, 12) & priced_fit(d, index, t, top)
 }
 
 // The same of every station. An index has slots for FP where there is one, and only a hydroelectric station may have it.
-fn all_fit(d: &[u8], index: &[u16], t: u8) -> bool
+fn all_fit(d: &[u8], index: &[u16], rs: &[u8], t: u8, top: usize) -> bool
     requires { ⌜ Known t × (narrow ≤ length (now index)) ⌝ }
-    ensures { λ r. ⌜ r ≡ allFit t (now (d .entry)) (now (index .entry)) ⌝ }
+    ensures { λ r. ⌜ r ≡ allFit t (now (d .entry)) (now (index .entry)) (now (rs .entry)) top ⌝ }
 {
     if (t != 4) & (index.len() != index::NARROW) {
         return false;
     }
     if t == 1 {
-        return thermal_fit(d, index);
+        return thermal_fit(index, rs, top);
     }
-    other_fit(d, index, t)
+    other_fit(d, index, t, top)
 }
 
-// Whether the record at the front of s is current and does not fit.
+// The key of the record at the front of s, as a number.
+fn key_at(s: &[u8], width: usize) -> usize
+    requires { ⌜ width ≤ 3 ⌝ }
+    ensures { λ r. ⌜ (r ≡ number 6 width (now (s .entry))) × (r < 16777216) ⌝ }
+{
+    if width == 0 {
+        return 0;
+    }
+    if width == 1 {
+        return fields::u8_at(s, 6) as usize;
+    }
+    if width == 2 {
+        return fields::u16_at(s, 6) as usize;
+    }
+    (fields::u16_at(s, 6) as usize) * 256 + (fields::u8_at(s, 8) as usize)
+}
+
+// Whether the record at the front of s is current and does not fit. The search for twins keeps `entry_at` for itself, so that the compiler
+// puts it in line there.
 fn not_fit(d: &[u8], index: &[u16], s: &[u8], fits: bool) -> bool
     requires { ⌜ (slotAt (mark (now s)) (now s) < length (now index)) × (size (mark (now s)) < 65536) ⌝ }
     ensures { λ r. ⌜ r ≡ notFit (now (d .entry)) (now (index .entry)) (now (s .entry)) fits ⌝ }
@@ -205,8 +245,10 @@ fn not_fit(d: &[u8], index: &[u16], s: &[u8], fits: bool) -> bool
     if fits {
         return false;
     }
-    let spot = index::reader::entry_at(s);
-    let current = lookup::part_at(d, index, spot.slot, spot.len);
+    let k = records::kind_at(s);
+    let m = records::mark_shape(k);
+    let j = lookup::slot_of(k, key_at(s, m.width));
+    let current = lookup::part_at(d, index, j, m.length);
     fields::u32_at(s, 2) == fields::u32_at(current, 2)
 }
 
@@ -230,12 +272,12 @@ fn first_unfit(d: &[u8], index: &[u16], t: u8) -> Answer
     Answer::Accepted
 }
 
-// 6. Most dossiers have no unfit record, which the index tells; a short one is gone through sooner than the index.
-pub fn unfit_of(d: &[u8], index: &[u16], t: u8) -> Answer
-    requires { ⌜ Indexed (now d) (now index) × Complete (now d) (now index) × (readable (now d) ≡ Accepted) × Known t × (t ≡ technology (parameters (records (now d)))) ⌝ }
+// 6. Most dossiers have no unfit record, which the index tells; but for a thermal station, a short one is gone through sooner than the index.
+pub fn unfit_of(d: &[u8], index: &[u16], rs: &[u8], t: u8, top: usize) -> Answer
+    requires { ⌜ Indexed (now d) (now index) × Complete (now d) (now index) × (readable (now d) ≡ Accepted) × Known t × (t ≡ technology (parameters (records (now d)))) × (now rs ≡ current RS 0 (records (now d))) × UpTo (now d) top ⌝ }
     ensures { λ r. ⌜ r ≡ unfit t (records (now (d .entry))) ⌝ }
 {
-    if 200 < d.len() && all_fit(d, index, t) {
+    if ((t == 1) | (200 < d.len())) && all_fit(d, index, rs, t, top) {
         return Answer::Accepted;
     }
     first_unfit(d, index, t)

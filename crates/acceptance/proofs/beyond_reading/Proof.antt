@@ -15,13 +15,13 @@ rs-requires : tie.Need-rs-requires
 rs-requires c κs = search needs
 
 returns : tie.Need-returns
-returns c = no-station (c .before .before .before .before .args .d .now) (c .before .before .before .before .pre .2) (none-there (records (c .before .before .before .before .args .d .now)) RS 0 (c .before .rs .ensures) (c .if1 .taken))
+returns c = no-station (c .before .before .before .before .args .d .now) (c .before .before .before .before .pre .3) (none-there (records (c .before .before .before .before .args .d .now)) RS 0 (c .before .rs .ensures) (c .if1 .taken))
 
 u8-at-requires : tie.Need-u8-at-requires
 u8-at-requires c κs = search needs
 
 unfit-of-requires : tie.Need-unfit-of-requires
-unfit-of-requires c κs = (c .before .before .before .before .before .pre .0, c .before .before .before .before .before .pre .1, c .before .before .before .before .before .pre .2, subst Known (sym (c .u8-at .ensures ∙ ap (number 6 1) (c .before .before .rs .ensures) ∙ sym (technology-at (records (c .before .before .before .before .before .args .d .now))))) (technology-known _ _ (c .before .before .before .before .before .pre .0) (one-there (records (c .before .before .before .before .before .args .d .now)) RS 0 (c .before .before .rs .ensures) (c .before .if1 .left))), (c .u8-at .ensures ∙ ap (number 6 1) (c .before .before .rs .ensures) ∙ sym (technology-at (records (c .before .before .before .before .before .args .d .now)))))
+unfit-of-requires c κs = (c .before .before .before .before .before .pre .0, c .before .before .before .before .before .pre .1, c .before .before .before .before .before .pre .3, subst Known (sym (c .u8-at .ensures ∙ ap (number 6 1) (c .before .before .rs .ensures) ∙ sym (technology-at (records (c .before .before .before .before .before .args .d .now))))) (technology-known _ _ (c .before .before .before .before .before .pre .0) (one-there (records (c .before .before .before .before .before .args .d .now)) RS 0 (c .before .before .rs .ensures) (c .before .if1 .left))), (c .u8-at .ensures ∙ ap (number 6 1) (c .before .before .rs .ensures) ∙ sym (technology-at (records (c .before .before .before .before .before .args .d .now)))), c .before .before .rs .ensures, c .before .before .before .before .before .pre .2)
 
 enum-told : tie.Need-enum-told
 enum-told c = search needs
@@ -33,10 +33,10 @@ enum-known-number : tie.Need-enum-known-number
 enum-known-number c = search needs
 
 returns-2 : tie.Need-returns-2
-returns-2 c = the-rest (c .before .before .before .before .before .before .before .before .before .args .d .now) (c .before .before .before .before .before .before .before .before .before .pre .2) (one-there (records (c .before .before .before .before .before .before .before .before .before .args .d .now)) RS 0 (c .before .before .before .before .before .before .rs .ensures) (c .before .before .before .before .before .if1 .left)) (sym (c .before .enum-told .given .1) ∙ c .before .before .before .unfit-of .ensures ∙ ap (λ (t : ℕ). unfit t (records (c .before .before .before .before .before .before .before .before .before .args .d .now))) (c .before .before .before .before .u8-at .ensures ∙ ap (number 6 1) (c .before .before .before .before .before .before .rs .ensures) ∙ sym (technology-at (records (c .before .before .before .before .before .before .before .before .before .args .d .now))))) (c .unsupported-of .ensures)
+returns-2 c = the-rest (c .before .before .before .before .before .before .before .before .before .args .d .now) (c .before .before .before .before .before .before .before .before .before .pre .3) (one-there (records (c .before .before .before .before .before .before .before .before .before .args .d .now)) RS 0 (c .before .before .before .before .before .before .rs .ensures) (c .before .before .before .before .before .if1 .left)) (sym (c .before .enum-told .given .1) ∙ c .before .before .before .unfit-of .ensures ∙ ap (λ (t : ℕ). unfit t (records (c .before .before .before .before .before .before .before .before .before .args .d .now))) (c .before .before .before .before .u8-at .ensures ∙ ap (number 6 1) (c .before .before .before .before .before .before .rs .ensures) ∙ sym (technology-at (records (c .before .before .before .before .before .before .before .before .before .args .d .now))))) (c .unsupported-of .ensures)
 
 returns-3 : tie.Need-returns-3
-returns-3 c = draws-6 (c .before .before .before .before .before .before .before .before .before .args .d .now) (c .before .before .before .before .before .before .before .before .before .pre .2) (one-there (records (c .before .before .before .before .before .before .before .before .before .args .d .now)) RS 0 (c .before .before .before .before .before .before .rs .ensures) (c .before .before .before .before .before .if1 .left)) _ _ (sym (c .before .number .given .1) ∙ c .before .before .before .unfit-of .ensures ∙ ap (λ (t : ℕ). unfit t (records (c .before .before .before .before .before .before .before .before .before .args .d .now))) (c .before .before .before .before .u8-at .ensures ∙ ap (number 6 1) (c .before .before .before .before .before .before .rs .ensures) ∙ sym (technology-at (records (c .before .before .before .before .before .before .before .before .before .args .d .now)))))
+returns-3 c = draws-6 (c .before .before .before .before .before .before .before .before .before .args .d .now) (c .before .before .before .before .before .before .before .before .before .pre .3) (one-there (records (c .before .before .before .before .before .before .before .before .before .args .d .now)) RS 0 (c .before .before .before .before .before .before .rs .ensures) (c .before .before .before .before .before .if1 .left)) _ _ (sym (c .before .number .given .1) ∙ c .before .before .before .unfit-of .ensures ∙ ap (λ (t : ℕ). unfit t (records (c .before .before .before .before .before .before .before .before .before .args .d .now))) (c .before .before .before .before .u8-at .ensures ∙ ap (number 6 1) (c .before .before .before .before .before .before .rs .ensures) ∙ sym (technology-at (records (c .before .before .before .before .before .before .before .before .before .args .d .now)))))
 
 pub beyond-reading-spec : {M : Type 1} → statement M
 beyond-reading-spec =

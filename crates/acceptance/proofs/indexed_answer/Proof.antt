@@ -6,7 +6,7 @@ use Rattle.acceptance.proofs.indexed_answer.Statement.{statement}
 use Rattle.acceptance.proofs.indexed_answer.Tie as tie
 
 beyond-reading-requires : tie.Need-beyond-reading-requires
-beyond-reading-requires c κs = let p = c .before .before .before .pre in (p .0, p .1, p .2 (c .if1 .taken))
+beyond-reading-requires c κs = let p = c .before .before .before .pre in (p .0, p .1, p .2, p .3 (c .if1 .taken))
 
 returns : tie.Need-returns
 returns c = search needs
@@ -20,7 +20,7 @@ enum-told c = search needs
 beyond-reading-requires-2 : tie.Need-beyond-reading-requires-2
 beyond-reading-requires-2 c κs =
     let p = c .before .before .before .before .before .before .pre in
-    (p .0, p .1, scan-twins _ (p .0) ∙ sym (c .before .before .first-twin .ensures) ∙ c .enum-told .given .1)
+    (p .0, p .1, p .2, scan-twins _ (p .0) ∙ sym (c .before .before .first-twin .ensures) ∙ c .enum-told .given .1)
 
 enum-known-number : tie.Need-enum-known-number
 enum-known-number c = search needs

@@ -1,8 +1,10 @@
-use mathlib.Core.Path.{ap₂, sym, _∙_}
+use mathlib.Core.Path.{ap, sym, _∙_}
+use mathlib.Core.Bool.{Bool}
+use native.Mathlib.Omega.{arith}
 use borrow.Author.Needs.{needs}
 use Rattle.records.proofs.Answers.{not-refused}
 use Rattle.index.specs.declared.Passed.the-variants.{Ended}
-use Rattle.lookup.proofs.Opening.{scan-stopped, scan-rising}
+use Rattle.lookup.proofs.Opening.{scan-stopped, scan-rising, up-to-complete}
 use Rattle.rules.proofs.Draws.{unreadable}
 use Rattle.acceptance.proofs.judge.Statement.{statement}
 use Rattle.acceptance.proofs.judge.Tie as tie
@@ -18,7 +20,8 @@ indexed-answer-requires c κs =
     let g = c .before .before .before .rising .given .1 in
     let s = c .before .before .before .before .before .before .before .scan .ensures in
     let i = s .1 _ _ g in
-    (i .0, i .1 (c .before .if1 .taken), λ e. sym (scan-rising _ _ (ap₂ Ended (sym e) (sym (c .before .if1 .taken)) ∙ sym g ∙ s .0) (i .0)))
+    let h = c .before .if1 .taken in
+    (i .0, up-to-complete _ _ (i .1) (omega (arith, h, c .before .before .before .before .before .before .before .scan .kept)), i .1, λ e. sym (scan-rising _ _ (ap (λ (b : Bool). Ended b _) (sym e) ∙ sym g ∙ s .0) (omega (arith, h, c .before .before .before .before .before .before .before .scan .kept)) (i .0)))
 
 judge-forecast-requires : tie.Need-judge-forecast-requires
 judge-forecast-requires c κs = search needs

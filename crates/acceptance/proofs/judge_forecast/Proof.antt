@@ -3,7 +3,7 @@ use Prim.Native.Nat.{ℕ}
 use native.Mathlib.Omega.{arith}
 use lib.ListN.{length-replicate}
 use borrow.Author.Needs.{needs}
-use Rattle.lookup.proofs.Parts.{wide-complete}
+use Rattle.lookup.proofs.Parts.{wide-complete, wide-up-to}
 use Rattle.index.specs.Slots.{wide}
 use Rattle.rules.proofs.Draws.{unreadable}
 use Rattle.acceptance.proofs.judge_forecast.Statement.{statement}
@@ -26,7 +26,7 @@ beyond-reading-requires c κs =
     let o = c .before .before .before .before .«open» in
     let a = c .before .enum-told .given .1 in
     let i = o .ensures .1 a in
-    (i, wide-complete _ _ i (omega (arith, o .kept .1 .0, length-replicate {A = ℕ} wide 0)), sym (o .ensures .0) ∙ a)
+    (i, wide-complete _ _ i (omega (arith, o .kept .1 .0, length-replicate {A = ℕ} wide 0)), wide-up-to _ _ i, sym (o .ensures .0) ∙ a)
 
 enum-known-number : tie.Need-enum-known-number
 enum-known-number c = search needs

@@ -19,10 +19,10 @@ use Rattle.index.proofs.pass.Statement.{statement}
 use Rattle.index.proofs.pass.Tie as tie
 
 abbrev Inv-loop : tie.InvT-loop
-Inv-loop d index₀ at₀ rising₀ complete₀ index at rising complete = (at ≤ length d) × (length index ≡ length index₀) × Rest (keepStep d) (kept index₀ true true) d at (kept index rising complete)
+Inv-loop d index₀ at₀ rising₀ top₀ index at rising top = (at ≤ length d) × (length index ≡ length index₀) × Rest (keepStep d) (kept index₀ true 0) d at (kept index rising top)
 
 abbrev μ-loop : tie.MeasureT-loop
-μ-loop d index₀ at₀ rising₀ complete₀ index at rising complete = length d - at
+μ-loop d index₀ at₀ rising₀ top₀ index at rising top = length d - at
 
 loop-holds : tie.Need-loop-holds Inv-loop μ-loop
 loop-holds c = (search needs, refl, start _ _ _)
@@ -75,6 +75,9 @@ same-length c = search needs
 returns : tie.Need-returns Inv-loop μ-loop
 returns c = let k = c .before in absurd (omega (arith, its k, long _ _ _ (its-found k .1), c .if1 .taken))
 
+higher-of-requires : tie.Need-higher-of-requires Inv-loop μ-loop
+higher-of-requires c κs = search needs
+
 u32-at-requires : tie.Need-u32-at-requires Inv-loop μ-loop
 u32-at-requires c κs = search needs
 
@@ -109,20 +112,21 @@ slice-write-index : tie.Need-slice-write-index Inv-loop μ-loop
 slice-write-index c = search needs
 
 add-at : tie.Need-add-at Inv-loop μ-loop
-add-at c = omega (arith, its (c .before .before .before))
+add-at c = omega (arith, its (c .before .before .before .before))
 
 loop-less : tie.Need-loop-less Inv-loop μ-loop
-loop-less c = omega (arith, its (c .before .before .before))
+loop-less c = omega (arith, its (c .before .before .before .before))
 
 loop-again : tie.Need-loop-again Inv-loop μ-loop
 loop-again c =
-    let k = c .before .before .before in
+    let k = c .before .before .before .before in
     let i = In k in
     let l = i .before .loop in
     let j = c .before .if2 in
+    let m = c .before .before .higher-of .ensures in
     elim (j .came) [
-      | inl x ↦ (omega (arith, its k), rw (x .5) (simp length-set (l .inv .1)), rw (x .5, x .6, x .7) (turn (d-of i) _ (l .index) (l .at) (its-found k .0) (len-of k) (l .rising) (l .complete) (i .loop-test .taken) (l .inv .2) (its-found k .1) (its-found k .2) (x .0 .taken) (x .1 .ensures) (x .3 .ensures) (x .4 .ensures)))
-      | inr x ↦ (omega (arith, its k), rw (x .1) (l .inv .1), rw (x .1, x .2, x .3) (turn-beyond (d-of i) _ (l .index) (l .at) (its-found k .0) (len-of k) (l .rising) (l .complete) (i .loop-test .taken) (l .inv .2) (its-found k .1) (its-found k .2) (x .0 .left)))
+      | inl x ↦ (omega (arith, its k), rw (x .5) (simp length-set (l .inv .1)), rw (x .5, x .6) (turn (d-of i) _ (l .index) (l .at) (its-found k .0) (len-of k) (l .rising) (l .top) (i .loop-test .taken) (l .inv .2) (its-found k .1) (its-found k .2) (x .1 .ensures) (x .3 .ensures) (x .4 .ensures) m))
+      | inr x ↦ (omega (arith, its k), rw (x .1) (l .inv .1), rw (x .1, x .2) (turn-beyond (d-of i) _ (l .index) (l .at) (its-found k .0) (len-of k) (l .rising) (l .top) (i .loop-test .taken) (l .inv .2) (its-found k .1) (its-found k .2) (x .0 .left) m))
     ]
 
 enum-known-number : tie.Need-enum-known-number Inv-loop μ-loop
@@ -136,7 +140,7 @@ unfolding passOf slotsOf
 returns-2 c =
     let r = c .before .before .before in
     let i = r .before .before in
-    let e = stop (keepStep (d-of i)) (kept (i .before .before .before .before .args .index .now) true true) (d-of i) (at-of i) _ _ (i .loop-test .taken) (i .before .loop .inv .2) (fault-found (drop (at-of i) (d-of i)) _ (read-of r (c .before .number .given .1))) in
+    let e = stop (keepStep (d-of i)) (kept (i .before .before .before .before .args .index .now) true 0) (d-of i) (at-of i) _ _ (i .loop-test .taken) (i .before .loop .inv .2) (fault-found (drop (at-of i) (d-of i)) _ (read-of r (c .before .number .given .1))) in
     (sym (ap passOf e), sym (ap (slotsOf (i .before .loop .index)) e))
 
 same-length-3 : tie.Need-same-length-3 Inv-loop μ-loop
@@ -147,7 +151,7 @@ unfolding passOf slotsOf
 returns-3 c =
     let l = c .before .loop in
     let a = c .before .before .before .before .args in
-    let e = end (keepStep (a .d .now)) (kept (a .index .now) true true) (a .d .now) (l .at) (kept (l .index) (l .rising) (l .complete)) (c .loop-test .left) (l .inv .2) in
+    let e = end (keepStep (a .d .now)) (kept (a .index .now) true 0) (a .d .now) (l .at) (kept (l .index) (l .rising) (l .top)) (c .loop-test .left) (l .inv .2) in
     (sym (ap passOf e), sym (ap (slotsOf (l .index)) e))
 
 pub pass-spec : {M : Type 1} → statement M
@@ -164,6 +168,7 @@ pass-spec =
     enum-known-entry
     same-length
     returns
+    higher-of-requires
     u32-at-requires
     cast-issue
     add-issue

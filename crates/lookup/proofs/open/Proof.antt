@@ -1,4 +1,7 @@
-use mathlib.Core.Path.{ap₂, sym, _∙_}
+use mathlib.Core.Path.{ap, sym, _∙_}
+use mathlib.Core.Bool.{Bool}
+use native.Mathlib.Omega.{arith}
+use borrow.Author.Tests.{ltb-true}
 use borrow.Author.Needs.{needs}
 use Rattle.lists.proofs.Tests.{and-left, and-right}
 use Rattle.records.proofs.Answers.{not-refused}
@@ -28,7 +31,8 @@ returns c =
     let g = c .before .before .rising .given in
     let i = s .ensures .1 _ _ (g .1) .0 in
     let t = c .if1 .taken in
-    (scan-rising _ _ (ap₂ Ended (sym (and-left (g .0 .0) (g .0 .1 .0) t)) (sym (and-right (g .0 .0) (g .0 .1 .0) t)) ∙ sym (g .1) ∙ s .ensures .0) i, λ _. i)
+    let z = ltb-true (g .0 .1 .0) _ (and-right (g .0 .0) _ t) in
+    (scan-rising _ _ (ap (λ (b : Bool). Ended b (g .0 .1 .0)) (sym (and-left (g .0 .0) _ t)) ∙ sym (g .1) ∙ s .ensures .0) (omega (arith, z, s .kept)) i, λ _. i)
 
 same-length-2 : tie.Need-same-length-2
 same-length-2 c = search needs
