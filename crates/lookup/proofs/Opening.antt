@@ -133,5 +133,5 @@ accepted-indexed d e =
     )
 
 -- an index with more slots than the highest is complete
-pub up-to-complete : (d x : List ℕ) {m : ℕ} → UpTo d m → m < length x → Complete d x
-up-to-complete d x u h = each-map (λ r g. omega (arith, g, h)) u
+pub up-to-complete : {d x : List ℕ} {m : ℕ} → Indexed d x → UpTo d m → m < length x → Complete d x
+up-to-complete i u h = each-map (λ r g. omega (arith, g, h)) u
