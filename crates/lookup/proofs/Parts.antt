@@ -1,13 +1,13 @@
 -- The part at a slot is the current record.
 use mathlib.Core.Path.{_≡_, refl, ap, ap₂, sym, subst, _∙_}
-use mathlib.Core.Bool.{Bool, true, false, cond, true≢false, _||_}
+use mathlib.Core.Bool.{Bool, true, false, cond, true≢false, _||_, not}
 use mathlib.Core.List.{List, []}
 use Prim.Native.Nat.{ℕ, _+_, _-_, _*_, _/_, _%_, _≤_, _<_}
 use native.Mathlib.Nat.{add-sub-cancel-left}
 use native.Mathlib.Omega.{arith}
 use lib.Dec.{ltb, eqb, lit<, lit≤}
 use lib.ListN.{length, getD, take, drop}
-use borrow.Author.Tests.{ne-eqb, le-ltb, eqb-true, eqb-false, ltb-false}
+use borrow.Author.Tests.{ne-eqb, lt-ltb, le-ltb, eqb-true, eqb-false, ltb-false}
 use Rattle.lists.specs.Lists.{Each, done, also}
 use Rattle.lists.proofs.Lists.{each-map}
 use Rattle.lists.proofs.Tests.{split, or-false-right}
@@ -18,6 +18,7 @@ use Rattle.records.specs.Dossier.{records}
 use Rattle.station.specs.Current.{matches, better, currentFrom, current, startFrom, startOf}
 use Rattle.station.proofs.Current.{matches-mark, matches-key}
 use Rattle.index.specs.Slots.{slot, wide}
+use Rattle.records.proofs.Record.{size-ge}
 use Rattle.records.proofs.Marks.{by-mark}
 use Rattle.index.proofs.Slots.{Spans, InKey, at-mark, in-key, key-test, test-key, slot-lt, slot-narrow}
 use Rattle.index.proofs.Holds.{Holds, absent, there, Good, good-records, index-holds}
@@ -83,6 +84,14 @@ module _ (d ix : List ℕ) (h : Indexed d ix) where
 
     pub current-none : getD ix (slot k n) 0 ≡ 0 → current k n (records d) ≡ []
     current-none e = sym (part-current refl refl) ∙ part-none d ix (slot k n) (size k) e
+
+    -- a slot that is not empty tells that there is one
+    pub slot-tells : ltb 0 (length (current k n (records d))) ≡ not (eqb (getD ix (slot k n) 0) 0)
+    slot-tells = go holds
+      where
+        go : {v q : ℕ} {c : List ℕ} → Holds (size k) d (length d) v c q → ltb 0 (length c) ≡ not (eqb v 0)
+        go (absent e z _) = rw (e, z) refl
+        go {v} {q} {c} (there e w l g) = rw (lt-ltb 0 (length c) (omega (arith, l, size-ge k)), ne-eqb v 0 (λ x. omega (arith, e, x))) refl
 
   -- every mark but FP has its slots in it
   pub fits : (k n : ℕ) → InKey k n → eqb k FP ≡ false → slot k n < length ix
@@ -157,11 +166,11 @@ module _ (d ix : List ℕ) (h : Indexed d ix) where
         (λ t. held-ends (size k) d (getD ix (slot k n) 0) (current k n (records d)) (startOf k n (records d)) (at-key t))
         (λ f. omega (arith, ap (λ (p : Part). p .start) (no-key k n f), ap (λ (p : Part). p .length) (no-key k n f))))
 
--- every record has a slot in an index of all slots
--- no slot is above the widest index
+-- no record has a slot above the widest index
 pub wide-up-to : (d ix : List ℕ) → Indexed d ix → UpTo d wide
 wide-up-to d ix h = each-map (λ r g. omega (arith, slot-lt (mark r) (keyOf r) (in-key r (g .0)))) (good-records d (h .clean))
 
+-- every record has a slot in an index of all slots
 pub wide-complete : (d ix : List ℕ) → Indexed d ix → wide ≤ length ix → Complete d ix
 wide-complete d ix h w = each-map (λ r g. omega (arith, w, slot-lt (mark r) (keyOf r) (in-key r (g .0)))) (good-records d (h .clean))
 
@@ -199,6 +208,10 @@ pub three-field : (x y z : ℕ) → 1 ≤ x → x ≤ 4 → 1 ≤ y → y ≤ 5 
 unfolding Spans shapeOf shape rowOf table
 three-field x y z p q r s t u =
     record { known = lit≤ tt; low = lit< tt; spans = ((omega arith, omega arith), (omega arith, omega arith), (omega arith, omega arith)) }
+
+pub point-key : (n : ℕ) → 1 ≤ n → n ≤ 21 → InKey 2 n
+unfolding shapeOf shape rowOf table
+point-key n a b = one-field 2 n (lit≤ tt) (lit< tt) refl a b
 
 pub request-key : (n : ℕ) → 1 ≤ n → n ≤ 16 → InKey 6 n
 unfolding shapeOf shape rowOf table

@@ -25,7 +25,7 @@ use Rattle.station.proofs.Parameters.{says-high}
 use Rattle.station.proofs.Fields.{technology-at, capacity-at, charge-at, output-at, heat-at, requested-at}
 use Rattle.index.specs.Slots.{slot, slotsEmpty}
 use Rattle.lookup.specs.Parts.{Indexed}
-use Rattle.lookup.proofs.Parts.{request-key, current-none, fits}
+use Rattle.lookup.proofs.Parts.{point-key, request-key, current-none, slot-tells, fits}
 use Rattle.rules.specs.Fit.{Known}
 use Rattle.rules.specs.Curve.{points, rise, curveHolds, curveFits, fuelHolds, fullHours, hoursHold, windowFits, placesHold, forecastFits}
 use Rattle.support.specs.Legs.{lastRise, legHolds, fuelled}
@@ -289,6 +289,17 @@ module _ (l : List (List ℕ)) (n p : ℕ) {part : List ℕ} (e : part ≡ curre
 pub fuel-whole : (l : List (List ℕ)) {a b : Bool} → a ≡ parameters l .has FU 1 → b ≡ allTo 16 (fuelled (parameters l)) → a && b ≡ fuelHolds (parameters l)
 unfolding fuelHolds
 fuel-whole l p q = rw (p, q) refl
+
+-- a point is counted by its slot
+pub point-counted : (d ix : List ℕ) → Indexed d ix → (n : ℕ) → 1 ≤ n → n ≤ 21 → {j a : ℕ} → j ≡ slot HP n → a ≡ cond (eqb (getD ix j 0) 0) 0 1 → a ≡ cond (parameters (records d) .has HP n) 1 0
+point-counted d ix h n p q {j} ej ea =
+    let i = point-key n p q in
+    let e : parameters (records d) .has HP n ≡ not (eqb (getD ix j 0) 0) = sym (there-is (records d) HP n refl) ∙ slot-tells d ix h HP n i (fits d ix h HP n i refl) ∙ ap (λ (k : ℕ). not (eqb (getD ix k 0) 0)) (sym ej) in
+    ea ∙ rw e (go (eqb (getD ix j 0) 0))
+  where
+    go : (b : Bool) → _≡_ {A = ℕ} (cond b 0 1) (cond (not b) 1 0)
+    go true = refl
+    go false = refl
 
 -- where the slots of all requests are empty, there is none
 module _ (d ix : List ℕ) (h : Indexed d ix) {j : ℕ} (first : j ≡ slot RQ 1) (empty : slotsEmpty ix j 16 ≡ true) where

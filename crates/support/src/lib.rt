@@ -1,6 +1,7 @@
 // 7, 8, 9 and 17: the curve, the fuel, the window and the forecast.
 ghost use mathlib.Core.Path.{_≡_};
-ghost use mathlib.Core.Bool.{true};
+ghost use mathlib.Core.Bool.{true, cond};
+ghost use lib.Dec.{eqb};
 ghost use Prim.Native.Nat.{_*_, _-_, _≤_};
 ghost use lib.ListN.{length};
 ghost use Rattle.lists.specs.Tests.{allTo};
@@ -12,21 +13,27 @@ ghost use Rattle.support.specs.Legs.{fuelled};
 ghost use Rattle.rules.specs.Curve.{points, curveHolds, curveFits, fuelHolds, fullHours, windowFits, forecastFits};
 ghost use Rattle.rules.specs.Answer.{unsupported};
 use index::slots_empty;
-use lists::choose;
 use records::Answer;
 
-// How many points there are.
+// 1 of a slot that holds a record, 0 of an empty one.
+fn counted(v: u16) -> u16
+    ensures { λ r. ⌜ r ≡ cond (eqb v 0) 0 1 ⌝ }
+{
+    if v == 0 { 0 } else { 1 }
+}
+
+// How many points there are: the slots of HP that are not empty, counted in two bytes, so that the compiler does several at a time.
 pub fn points_of(d: &[u8], index: &[u16]) -> usize
     requires { ⌜ Indexed (now d) (now index) ⌝ }
     ensures { λ r. ⌜ (r ≡ points (parameters (records (now (d .entry))))) × (r ≤ 21) ⌝ }
 {
-    let mut n = 0;
+    let mut n = 0u16;
     let mut i = 0;
     while i < 21 {
         i += 1;
-        n += choose(0 < lookup::hp(d, index, i).len(), 1, 0);
+        n += counted(index[index::keys::slot_hp(i)]);
     }
-    n
+    n as usize
 }
 
 // What output rises by from one point to the next, 0 where it doesn't.

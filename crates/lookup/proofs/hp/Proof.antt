@@ -1,28 +1,20 @@
 use mathlib.Core.Path.{refl, _∙_}
-use Prim.Native.Nat.{ℕ, _≤_}
-use lib.Dec.{lit≤, lit<}
 use Rattle.records.specs.Table.{table, rowOf}
 use Rattle.records.specs.Record.{widths, size}
-use Rattle.records.specs.Shapes.{shape, shapeOf}
-use Rattle.index.proofs.Slots.{InKey}
-use Rattle.lookup.proofs.Parts.{one-field, slot-fits, part-found}
+use Rattle.lookup.proofs.Parts.{point-key, slot-fits, part-found}
 use borrow.Author.Needs.{needs}
 use Rattle.lookup.proofs.hp.Statement.{statement}
 use Rattle.lookup.proofs.hp.Tie as tie
-
-key : (n : ℕ) → 1 ≤ n → n ≤ 21 → InKey 2 n
-unfolding shapeOf shape rowOf table
-key n a b = one-field 2 n (lit≤ tt) (lit< tt) refl a b
 
 slot-hp-requires : tie.Need-slot-hp-requires
 slot-hp-requires c κs = search needs
 
 part-at-requires : tie.Need-part-at-requires
-part-at-requires c κs = (slot-fits _ _ (c .before .before .before .pre .0) 2 _ refl (key _ (c .before .before .before .pre .1) (c .before .before .before .pre .2)) (c .slot-hp .ensures), search needs)
+part-at-requires c κs = (slot-fits _ _ (c .before .before .before .pre .0) 2 _ refl (point-key _ (c .before .before .before .pre .1) (c .before .before .before .pre .2)) (c .slot-hp .ensures), search needs)
 
 returns : tie.Need-returns
 unfolding size widths rowOf table
-returns c = c .part-at .ensures ∙ part-found _ _ (c .before .before .before .before .pre .0) 2 _ refl (key _ (c .before .before .before .before .pre .1) (c .before .before .before .before .pre .2)) (c .before .slot-hp .ensures) refl
+returns c = c .part-at .ensures ∙ part-found _ _ (c .before .before .before .before .pre .0) 2 _ refl (point-key _ (c .before .before .before .before .pre .1) (c .before .before .before .before .pre .2)) (c .before .slot-hp .ensures) refl
 
 pub hp-spec : {M : Type 1} → statement M
 hp-spec = tie.close (tie.spec slot-hp-requires part-at-requires returns)
