@@ -3,6 +3,7 @@ ghost use mathlib.Core.Path.{_≡_};
 ghost use Prim.Native.Nat.{_≤_};
 ghost use lib.ListN.{length};
 ghost use Rattle.records.specs.Record.{mark, keyWidth};
+ghost use Rattle.records.specs.Shapes.{begins};
 ghost use Rattle.index.specs.Entries.{entryAs, readingAs, readingOf};
 use crate::Entry;
 use crate::Reading;
@@ -305,6 +306,13 @@ fn entry_keyless(rest: &[u8]) -> Entry
     }
 }
 
+// Whether the mark is CH, byte by byte: the commonest mark is tried by itself, before the others, which the compiler tries together.
+fn is_ch(rest: &[u8]) -> bool
+    ensures { λ r. ⌜ r ≡ begins (now (rest .entry)) 67 72 ⌝ }
+{
+    (fields::byte_at(rest, 0) == 67) & (fields::byte_at(rest, 1) == 72)
+}
+
 // The record reader: the rest of a dossier, starting at the cursor, is tried for its mark, its length and its ranges.
 pub fn read(rest: &[u8]) -> Reading
     ensures { λ r. ⌜ r ≡ readingOf (now (rest .entry)) ⌝ }
@@ -312,7 +320,7 @@ pub fn read(rest: &[u8]) -> Reading
     if rest.len() < 2 {
         return Reading::Fault(2);
     }
-    if records::is_mark(rest, b"CH") {
+    if is_ch(rest) {
         return read_ch(rest);
     }
     if records::is_mark(rest, b"HP") {
