@@ -310,7 +310,7 @@ fn entry_keyless(rest: &[u8]) -> Entry
 fn is_ch(rest: &[u8]) -> bool
     ensures { λ r. ⌜ r ≡ begins (now (rest .entry)) 67 72 ⌝ }
 {
-    (fields::byte_at(rest, 0) == 67) & (fields::byte_at(rest, 1) == 72)
+    (fields::byte_at(rest, 0) == b'C') & (fields::byte_at(rest, 1) == b'H')
 }
 
 // The record reader: the rest of a dossier, starting at the cursor, is tried for its mark, its length and its ranges.
