@@ -3,7 +3,7 @@ use mathlib.Core.Path.{_≡_, refl, ap, sym, subst, _∙_}
 use mathlib.Core.Bool.{Bool, true, false, cond, _&&_, _||_, not, false≢true}
 use mathlib.Core.List.{List, [], _∷_}
 use mathlib.Core.Logic.{_⊎_, inl, inr}
-use Prim.Native.Nat.{ℕ, _+_, _-_, _*_, _/_, _%_, _≤_, _<_}
+use Prim.Native.Nat.{ℕ, zero, suc, _+_, _-_, _*_, _/_, _%_, _≤_, _<_}
 use native.Mathlib.Numerals.{add-one}
 use native.Mathlib.Omega.{arith}
 use lib.Dec.{ltb, eqb}
@@ -186,7 +186,7 @@ module _ (t : ℕ) (d ix rs : List ℕ) (top : ℕ) where
           p
 
     module _ (z : eqb t 1 ≡ false) where
-      other-parts : (slotsFit t d ix 0 138 ≡ true) × (slotsFit t d ix 154 12 ≡ true) × (pricedFit t d ix top ≡ true)
+      other-parts : (slotsFit t d ix 0 26 && slotsFit t d ix 26 112 ≡ true) × (slotsFit t d ix 154 12 ≡ true) × (pricedFit t d ix top ≡ true)
       unfolding allFit otherFit
       other-parts = three _ _ _ (rw z at (and-right (eqb t 4 || eqb (length ix) narrow) _ e))
 
@@ -208,8 +208,8 @@ module _ (t : ℕ) (d ix rs : List ℕ) (top : ℕ) where
           (λ q. first 1 n q (omega (arith, limits 1 n q)))
           (λ q. first 2 n q (omega (arith, limits 2 n q)))
           (λ q. first 3 n q (omega (arith, limits 3 n q)))
-          (λ q. first 4 n q (omega (arith, limits 4 n q)))
-          (λ q. first 5 n q (omega (arith, limits 5 n q)))
+          (λ q. added 4 n q (omega (arith, limits 4 n q)) (omega (arith, limits 4 n q)))
+          (λ q. added 5 n q (omega (arith, limits 5 n q)) (omega (arith, limits 5 n q)))
           (λ q. inl (λ s _ _ _ _. sym (fits-rq t s known)))
           (λ q. split (eqb t 3) (λ w. inl (λ s _ _ _ _. sym (fits-hr t s known) ∙ w)) (λ w. unpriced w 7 n (omega (arith, limits 7 n q)) (omega (arith, limits 7 n q))))
           (λ q. split (eqb t 3) (λ w. inl (λ s _ _ _ _. sym (fits-ch t s known) ∙ w)) (λ w. unpriced w 8 n (omega (arith, limits 8 n q)) (omega (arith, limits 8 n q))))
@@ -218,8 +218,11 @@ module _ (t : ℕ) (d ix rs : List ℕ) (top : ℕ) where
           (λ q. priced 11 n (omega (arith, limits 11 n q)) (λ g. region 2350 1 (slot 11 n) (and-left (slotsFit t d ix 2350 1) _ g) (omega (arith, limits 11 n q)) (omega (arith, limits 11 n q))))
           p
         where
-          first : (k n : ℕ) → InKey k n → slot k n < 138 → Looked k n
-          first k n q h = inr (region 0 138 (slot k n) (other-parts .0) (omega arith) (omega (arith, h)))
+          first : (k n : ℕ) → InKey k n → slot k n < 26 → Looked k n
+          first k n q h = inr (region 0 26 (slot k n) (and-left (slotsFit t d ix 0 26) (slotsFit t d ix 26 112) (other-parts .0)) (omega arith) (omega (arith, h)))
+
+          added : (k n : ℕ) → InKey k n → 26 ≤ slot k n → slot k n < 138 → Looked k n
+          added k n q p h = inr (region 26 112 (slot k n) (and-right (slotsFit t d ix 0 26) (slotsFit t d ix 26 112) (other-parts .0)) p (omega (arith, h)))
 
     looked : (k n : ℕ) → InKey k n → Looked k n
     looked k n p = split (eqb t 1) (λ z. thermal-looked z k n p) (λ z. other-looked z k n p)
@@ -291,6 +294,14 @@ module _ (t : ℕ) (d : List ℕ) (v : ℕ) where
   held-there z e = rw (ne-eqb v 0 z) (e ∙ ap (λ (s : List ℕ). fits t (mark s) s) (tail d (v - 1)))
 
 module _ (t : ℕ) (d ix : List ℕ) (j : ℕ) where
+  pub slots-none : (n : ℕ) → slotsEmpty ix j n ≡ true → true ≡ slotsFit t d ix j n
+  unfolding slotsEmpty slotsFit slotFits allBelow
+  slots-none zero e = refl
+  slots-none (suc n) e =
+      let a = and-left (allBelow n (λ i. eqb (getD ix (j + i) 0) 0)) (eqb (getD ix (j + n) 0) 0) e in
+      let b = and-right (allBelow n (λ i. eqb (getD ix (j + i) 0) 0)) (eqb (getD ix (j + n) 0) 0) e in
+      rw (← slots-none n a, b) refl
+
   pub slots-one-not : (n i : ℕ) → i < n → false ≡ slotFits t d ix (j + i) → false ≡ slotsFit t d ix j n
   unfolding slotsFit
   slots-one-not n i h e =

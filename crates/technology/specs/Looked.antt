@@ -42,9 +42,9 @@ thermalFit ix r m = ltb m 166 && fits thermal 1 r && allBelow 4 (λ p. slotsEmpt
 unfoldable pub pricedFit : ℕ → List ℕ → List ℕ → ℕ → Bool
 pricedFit t d ix m = ltb m 166 || (slotsFit t d ix 2350 1 && slotsEmpty ix 166 (cond (eqb t storage) 0 2184))
 
--- and the slots of RS, HP, FU, AD, MM and of TH fit; RQ fits
+-- and the slots of RS, HP, FU, those of AD, MM, and those of TH fit; RQ fits
 unfoldable pub otherFit : ℕ → List ℕ → List ℕ → ℕ → Bool
-otherFit t d ix m = slotsFit t d ix 0 138 && slotsFit t d ix 154 12 && pricedFit t d ix m
+otherFit t d ix m = slotsFit t d ix 0 26 && slotsFit t d ix 26 112 && slotsFit t d ix 154 12 && pricedFit t d ix m
 
 -- every current record fits, as the slots tell; FP has slots where there is an FP, which fits a hydroelectric station alone
 unfoldable pub allFit : ℕ → List ℕ → List ℕ → List ℕ → ℕ → Bool

@@ -197,12 +197,26 @@ fn priced_fit(d: &[u8], index: &[u16], t: u8, top: usize) -> bool
     slots_fit(d, index, t, 2350, 1) & slots_empty(index, 166, priced)
 }
 
+// Whether what a station has of AD and MM fits it; empty slots tell at once that it has none.
+fn added_fit(d: &[u8], index: &[u16], t: u8) -> bool
+    requires { ⌜ Known t × (narrow ≤ length (now index)) ⌝ }
+    ensures { λ r. ⌜ r ≡ slotsFit t (now (d .entry)) (now (index .entry)) 26 112 ⌝ }
+{
+    if slots_empty(index, 26, 112) {
+        return true;
+    }
+    slots_fit(d, index, t, 26, 112)
+}
+
 // Whether every current record fits any other station.
 fn other_fit(d: &[u8], index: &[u16], t: u8, top: usize) -> bool
     requires { ⌜ Known t × (narrow ≤ length (now index)) ⌝ }
     ensures { λ r. ⌜ r ≡ otherFit t (now (d .entry)) (now (index .entry)) top ⌝ }
 {
-    slots_fit(d, index, t, 0, 138) & slots_fit(d, index, t, 154, 12) & priced_fit(d, index, t, top)
+    slots_fit(d, index, t, 0, 26)
+        & added_fit(d, index, t)
+        & slots_fit(d, index, t, 154, 12)
+        & priced_fit(d, index, t, top)
 }
 
 // The same of every station. An index has slots for FP where there is one, and only a hydroelectric station may have it.
