@@ -18,7 +18,7 @@
  * length is 0 any pointer but null will do.
  *
  * Threads. There is no state: any number of threads may call at once, with the same dossier too. Of other functions the library calls memcpy and
- * memset alone. A call takes at most 124,000 bytes of stack, so a thread should have 256 KiB; the 128 KiB that some systems give
+ * memset alone. A call takes at most 130,000 bytes of stack, so a thread should have 256 KiB; the 128 KiB that some systems give
  * a thread may be too few, and the process then ends.
  */
 #ifndef BENCH_H

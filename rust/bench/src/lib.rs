@@ -76,7 +76,7 @@
 //! # Memory and threads
 //!
 //! The library has no state and allocates nothing; here only [`levels`] does, for its list. Any
-//! number of threads may call at once. A call takes at most 124,000 bytes of stack, so that a thread
+//! number of threads may call at once. A call takes at most 130,000 bytes of stack, so that a thread
 //! should have 256 KiB; those that `std` starts have 2 MiB.
 #![warn(missing_docs)]
 
