@@ -1,6 +1,6 @@
 -- Laws of the slots: where they lie, and no two keys share one.
 use mathlib.Core.Path.{_≡_, refl, ap, sym, subst, _∙_}
-use mathlib.Core.Bool.{Bool, true, false, cond, _&&_, _||_, false≢true}
+use mathlib.Core.Bool.{Bool, true, false, cond, _&&_, _||_, not, false≢true}
 use mathlib.Core.List.{List, [], _∷_}
 use Prim.Native.Nat.{ℕ, _+_, _*_, _/_, _%_, _≤_, _<_}
 use native.Mathlib.Omega.{arith}
@@ -11,12 +11,12 @@ use Rattle.lists.specs.Tests.{allBelow, between, everyOf}
 use Rattle.lists.proofs.Tests.{and-left, and-right, and-both, between-low, between-high, in-between, below-at, everyOf-at}
 use Rattle.fields.specs.Numbers.{number}
 use Rattle.records.specs.declared.MarkShape.{MarkShape}
-use Rattle.records.specs.Table.{table, rowOf, fieldOf, FP, kinds}
+use Rattle.records.specs.Table.{table, rowOf, fieldOf, HR, TH, FP, kinds}
 use Rattle.records.specs.Record.{mark, offsetIn, offset, read, value, keyIn, keyWidth, keyOf, inRange, rangesHold, fault}
 use Rattle.records.specs.Shapes.{shape, shapeOf, keyField, keyFits, keyTest}
 use Rattle.records.proofs.Record.{faultless, field-in}
 use Rattle.records.proofs.Marks.{mark-lt, by-mark}
-use Rattle.index.specs.Slots.{slot, narrow, wide}
+use Rattle.index.specs.Slots.{slot, short, narrow, wide}
 
 -- ---- keys: the numbers within the bounds of the code's table
 
@@ -200,6 +200,20 @@ apart k j a b c d e =
     let t : eqb k 0 || eqb j 0 || eqb k j || ltb (high k) (low j) || ltb (high j) (low k) ≡ true =
     below-at kinds (λ x. apartTest x j) (below-at kinds (λ y. allBelow kinds (λ x. apartTest x y)) refl j d) k c in
     rw (ne-eqb k 0 (λ z. omega (arith, z)), ne-eqb j 0 (λ z. omega (arith, z)), e) at t
+
+-- the marks that every station may have
+abbrev pub early : ℕ → Bool
+early k = ltb k HR || eqb k TH
+
+shortTest : ℕ → Bool
+shortTest k = not (early k) || ltb (high k) short
+
+-- of every mark that every station may have
+pub slot-short : (k n : ℕ) → InKey k n → early k ≡ true → slot k n < short
+unfolding shortTest
+slot-short k n p h =
+    let t : not (early k) || ltb (high k) short ≡ true = below-at kinds shortTest (unfold shortTest high allBelow in refl) k (p .low) in
+    omega (arith, limits k n p .1, ltb-true (high k) short (rw h at t))
 
 narrowTest : ℕ → Bool
 narrowTest k = eqb k FP || ltb (high k) narrow

@@ -28,6 +28,10 @@ slot (suc (suc (suc (suc (suc (suc (suc (suc (suc zero))))))))) n = 149 + n / 25
 slot (suc (suc (suc (suc (suc (suc (suc (suc (suc (suc zero)))))))))) n = 2350 + n
 slot (suc (suc (suc (suc (suc (suc (suc (suc (suc (suc (suc k))))))))))) n = 2350
 
+-- the slots of marks that every station may have, which come first: an index may end behind them
+abbrev pub short : ℕ
+short = 166
+
 -- the slots of all marks but FP, whose slots come last: an index may do without them
 abbrev pub narrow : ℕ
 narrow = 2351

@@ -10,7 +10,9 @@ ghost use Rattle.records.specs.Walk.{walk};
 ghost use Rattle.index.specs.Slots.{heldIssue, newer, higher, kept, keepStep, passOf, slotsOf, slotsEmpty};
 use crate::reader::read;
 
-// The slots of all marks but FP, and with them.
+// The slots of marks that every station may have, of all marks but FP, and with them.
+pub const SHORT: usize = 166;
+
 pub const NARROW: usize = 2351;
 
 pub const WIDE: usize = 6351;

@@ -54,10 +54,10 @@ module _ (d : List ℕ) (k n : ℕ) (b : k < kinds) where
 
   -- its bytes are the part that the lookup hands back
   pub lookup-bytes : bytesOf d (lookupPart d k n) ≡ lookup d k n
-  lookup-bytes = by-answer (λ p l. bytesOf d p ≡ l) (λ e. let a = accepted-indexed d e in current-bytes d (indexOf wide d) (a .0) k n b (λ z. a .1)) (unfold bytesOf in refl)
+  lookup-bytes = by-answer (λ p l. bytesOf d p ≡ l) (λ e. let a = accepted-indexed d e in current-bytes d (indexOf wide d) (a .0) k n b ((λ z. a .1), omega (arith, a .1))) (unfold bytesOf in refl)
 
   pub lookup-ends : {p : Part} → p ≡ lookupPart d k n → p .start + p .length ≤ length d
-  lookup-ends q = rw q (by-answer (λ p l. p .start + p .length ≤ length d) (λ e. let a = accepted-indexed d e in current-ends d (indexOf wide d) (a .0) k n b (λ z. a .1) refl) (omega arith))
+  lookup-ends q = rw q (by-answer (λ p l. p .start + p .length ≤ length d) (λ e. let a = accepted-indexed d e in current-ends d (indexOf wide d) (a .0) k n b ((λ z. a .1), omega (arith, a .1)) refl) (omega arith))
 
 pub part-accepted : (d : List ℕ) (k n : ℕ) → Accepted ≡ readable d → currentPart k n (records d) ≡ lookupPart d k n
 unfolding lookupPart isAccepted

@@ -19,7 +19,7 @@ use Rattle.records.proofs.Walk.{walk-is-fold, outcome}
 use Rattle.station.specs.Current.{readable, twins}
 use Rattle.index.specs.declared.Passed.{Passed}
 use Rattle.index.specs.declared.Passed.the-variants.{Ended, Stopped}
-use Rattle.index.specs.Slots.{narrow, wide, Kept, kept, fresh, keepStep, passOf, slotsOf}
+use Rattle.index.specs.Slots.{short, wide, Kept, kept, fresh, keepStep, passOf, slotsOf}
 use Rattle.index.proofs.Holds.{rising-twins, top-slots, folded-length}
 use Rattle.lookup.specs.Parts.{scanned, indexOf, Indexed, Complete, UpTo}
 
@@ -82,7 +82,7 @@ module _ (d : List ℕ) (w : ℕ) where
           ap₂ (λ (x y : ℕ). Refused x y) (ap (λ x. elim x [ Ended u v ↦ n | Stopped i j ↦ i ]) z) (ap (λ x. elim x [ Ended u v ↦ p | Stopped i j ↦ j ]) z) ∙ sym (after d h ∙ rw s refl)
 
   -- the index that the pass leaves, where nothing is drawn
-  pub pass-filled : {ix x : List ℕ} → ix ≡ replicate w 0 → narrow ≤ w → length d ≤ 60000 → scan 0 (records d) ≡ Accepted → x ≡ slotsOf x (walk (keepStep d) (kept ix true 0) d) → (Indexed d x) × (length x ≡ w)
+  pub pass-filled : {ix x : List ℕ} → ix ≡ replicate w 0 → short ≤ w → length d ≤ 60000 → scan 0 (records d) ≡ Accepted → x ≡ slotsOf x (walk (keepStep d) (kept ix true 0) d) → (Indexed d x) × (length x ≡ w)
   unfolding slotsOf outcome indexOf fold
   pass-filled {x = x} z r h s i =
       let f : x ≡ fold .slots = (rw z at i) ∙ ap (slotsOf x) (way Accepted s) in
@@ -90,7 +90,7 @@ module _ (d : List ℕ) (w : ℕ) where
       (record { short = h; clean = s; roomy = omega (arith, r, n); here = f ∙ ap (λ (v : ℕ). folded (keepStep d) 0 (fresh v) (records d) .slots) (sym n) }, n)
 
   -- and what it says of the slots
-  pub pass-indexed : {ix x : List ℕ} {b : Bool} {c : ℕ} → ix ≡ replicate w 0 → narrow ≤ w → length d ≤ 60000 → Ended b c ≡ passOf (walk (keepStep d) (kept ix true 0) d) → x ≡ slotsOf x (walk (keepStep d) (kept ix true 0) d) → Indexed d x × UpTo d c
+  pub pass-indexed : {ix x : List ℕ} {b : Bool} {c : ℕ} → ix ≡ replicate w 0 → short ≤ w → length d ≤ 60000 → Ended b c ≡ passOf (walk (keepStep d) (kept ix true 0) d) → x ≡ slotsOf x (walk (keepStep d) (kept ix true 0) d) → Indexed d x × UpTo d c
   unfolding fold
   pass-indexed {c = c} z r h e i =
       let p = pass-ended (rw z at e) in

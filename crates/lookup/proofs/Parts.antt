@@ -17,10 +17,10 @@ use Rattle.records.specs.Shapes.{shape, shapeOf, keyTest}
 use Rattle.records.specs.Dossier.{records}
 use Rattle.station.specs.Current.{matches, better, currentFrom, current, startFrom, startOf}
 use Rattle.station.proofs.Current.{matches-mark, matches-key}
-use Rattle.index.specs.Slots.{slot, wide}
+use Rattle.index.specs.Slots.{slot, narrow, wide}
 use Rattle.records.proofs.Record.{size-ge}
 use Rattle.records.proofs.Marks.{by-mark}
-use Rattle.index.proofs.Slots.{Spans, InKey, at-mark, in-key, key-test, test-key, slot-lt, slot-narrow}
+use Rattle.index.proofs.Slots.{Spans, InKey, at-mark, in-key, key-test, test-key, slot-lt, early, slot-short, slot-narrow}
 use Rattle.index.proofs.Holds.{Holds, absent, there, Good, good-records, index-holds}
 use Rattle.lookup.specs.declared.Part.{Part}
 use Rattle.lookup.specs.Parts.{part, bytesOf, currentPart, indexOf, placeAt, partAt, Indexed, Complete, UpTo, Covers}
@@ -93,11 +93,15 @@ module _ (d ix : List ℕ) (h : Indexed d ix) where
         go (absent e z _) = rw (e, z) refl
         go {v} {q} {c} (there e w l g) = rw (lt-ltb 0 (length c) (omega (arith, l, size-ge k)), ne-eqb v 0 (λ x. omega (arith, e, x))) refl
 
-  -- every mark but FP has its slots in it
-  pub fits : (k n : ℕ) → InKey k n → eqb k FP ≡ false → slot k n < length ix
-  fits k n i b = omega (arith, h .roomy, slot-narrow k n i b)
+  -- every mark that every station may have has its slots in it
+  pub fits : (k n : ℕ) → InKey k n → early k ≡ true → slot k n < length ix
+  fits k n i b = omega (arith, h .roomy, slot-short k n i b)
 
-  module _ (k n : ℕ) (b : eqb k FP ≡ false) (i : InKey k n) where
+  -- and every mark but FP, if it is not a short one
+  pub narrow-fits : narrow ≤ length ix → (k n : ℕ) → InKey k n → eqb k FP ≡ false → slot k n < length ix
+  narrow-fits w k n i b = omega (arith, w, slot-narrow k n i b)
+
+  module _ (k n : ℕ) (b : early k ≡ true) (i : InKey k n) where
     pub slot-fits : {j : ℕ} → j ≡ slot k n → j < length ix
     slot-fits a = rw a (fits k n i b)
 
@@ -108,8 +112,8 @@ module _ (d ix : List ℕ) (h : Indexed d ix) where
   pub covered : (k n : ℕ) → InKey k n → Covers k ix → slot k n < length ix
   covered k n i c =
       split (eqb k FP)
-      (λ t. omega (arith, slot-lt k n i, c (eqb-true k FP t)))
-      (λ f. fits k n i f)
+      (λ t. omega (arith, slot-lt k n i, c .0 (eqb-true k FP t)))
+      (λ f. narrow-fits (c .1) k n i f)
 
   -- ---- no key: a clean dossier has no such record
 

@@ -1,21 +1,23 @@
 -- The current records through the index, and where they lie in the dossier.
-use mathlib.Core.Bool.{cond, _||_}
+use mathlib.Core.Bool.{Bool, cond, _&&_, _||_}
 use mathlib.Core.List.{List}
 use mathlib.Core.Path.{_≡_}
 use Prim.Native.Nat.{ℕ, _+_, _-_, _≤_, _<_}
 use lib.Dec.{ltb, eqb}
 use lib.ListN.{length, getD, take, drop, replicate}
 use Rattle.lists.specs.Lists.{Each}
+use Rattle.fields.specs.Numbers.{number}
 use Rattle.records.specs.declared.Answer.the-variants.{Accepted}
-use Rattle.records.specs.Table.{FP}
+use Rattle.records.specs.Table.{FP, thermal, nuclear}
 use Rattle.records.specs.Record.{mark, keyOf}
+use Rattle.records.specs.Shapes.{begins}
 use Rattle.records.specs.Answers.{isAccepted}
 use Rattle.records.specs.Dossier.{records, scan}
 use Rattle.records.specs.Walk.{folded, walk}
 use Rattle.station.specs.Current.{current, startOf, longest, readable}
 use Rattle.index.specs.declared.Passed.{Passed}
 use Rattle.index.specs.declared.Passed.the-variants.{Stopped}
-use Rattle.index.specs.Slots.{slot, narrow, wide, fresh, keepStep, passOf}
+use Rattle.index.specs.Slots.{slot, short, narrow, wide, fresh, keepStep, passOf}
 use Rattle.lookup.specs.declared.Part.{Part}
 
 -- a part by its start and its length
@@ -44,9 +46,13 @@ indexOf w d = folded (keepStep d) 0 (fresh w) (records d) .slots
 unfoldable pub scanned : ℕ → List ℕ → Passed
 scanned w d = cond (ltb longest (length d)) (Stopped 13 0) (passOf (walk (keepStep d) (fresh w) d))
 
--- an index before the pass: empty slots, with or without FP's
+-- an index before the pass: empty slots, those that come first or more
 abbrev pub Empty : List ℕ → Type 0
-Empty ix = (narrow ≤ length ix) × (ix ≡ replicate (length ix) 0)
+Empty ix = (short ≤ length ix) × (ix ≡ replicate (length ix) 0)
+
+-- a dossier begins with the RS of a thermal or nuclear station, so that a short index is likely enough; nothing rests on it
+unfoldable pub lean : List ℕ → Bool
+lean d = begins d 82 83 && (eqb (number 6 1 d) thermal || eqb (number 6 1 d) nuclear)
 
 -- where the record of a slot of value v stands in a dossier of e bytes, n being its length; nowhere if there is none
 abbrev pub placeOf : ℕ → ℕ → ℕ → Part
@@ -62,9 +68,9 @@ partAt d ix j n = bytesOf d (placeAt (length d) ix j n)
 
 -- a dossier that draws none of 1 to 3 and 13, with its index
 pub record Indexed (d ix : List ℕ) : Type 0 where
+  pub roomy : short ≤ length ix
   pub short : length d ≤ 60000
   pub clean : scan 0 (records d) ≡ Accepted
-  pub roomy : narrow ≤ length ix
   pub here : ix ≡ indexOf (length ix) d
 
 -- every record of the dossier has a slot in the index
@@ -77,4 +83,4 @@ UpTo d m = Each (λ r. slot (mark r) (keyOf r) ≤ m) (records d)
 
 -- the index has the slots of mark k
 abbrev pub Covers : ℕ → List ℕ → Type 0
-Covers k ix = k ≡ FP → wide ≤ length ix
+Covers k ix = (k ≡ FP → wide ≤ length ix) × (narrow ≤ length ix)

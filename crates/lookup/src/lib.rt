@@ -11,8 +11,8 @@ ghost use Rattle.records.specs.Record.{mark};
 ghost use Rattle.records.specs.Dossier.{records, scan};
 ghost use Rattle.station.specs.Current.{current, readable, lookupBytes};
 ghost use Rattle.index.specs.declared.Passed.the-variants.{Ended};
-ghost use Rattle.index.specs.Slots.{slot};
-ghost use Rattle.lookup.specs.Parts.{scanned, placeOf, placeAt, bytesOf, partAt, currentPart, lookupPart, Empty, Indexed, Complete, UpTo, Covers};
+ghost use Rattle.index.specs.Slots.{slot, narrow};
+ghost use Rattle.lookup.specs.Parts.{scanned, lean, placeOf, placeAt, bytesOf, partAt, currentPart, lookupPart, Empty, Indexed, Complete, UpTo, Covers};
 use index::Passed;
 use records::Answer;
 
@@ -20,6 +20,14 @@ use records::Answer;
 pub struct Part {
     pub start: usize,
     pub length: usize,
+}
+
+// Whether a short index is likely enough: the dossier begins with the RS of a thermal or nuclear station. Nothing rests on it.
+pub fn lean(d: &[u8]) -> bool
+    ensures { λ r. ⌜ r ≡ lean (now (d .entry)) ⌝ }
+{
+    let t = fields::u8_at(d, 6);
+    records::is_mark(d, b"RS") & ((t == 1) | (t == 2))
 }
 
 // The first part of it: 13, 1 to 3, and the index.
@@ -157,7 +165,7 @@ pub fn rq<'a>(d: &'a [u8], index: &[u16], n: usize) -> &'a [u8]
 
 // The current HR of an hour of the window.
 pub fn hr<'a>(d: &'a [u8], index: &[u16], n: usize) -> &'a [u8]
-    requires { ⌜ Indexed (now d) (now index) × (1 ≤ n) × (n ≤ 168) ⌝ }
+    requires { ⌜ Indexed (now d) (now index) × (narrow ≤ length (now index)) × (1 ≤ n) × (n ≤ 168) ⌝ }
     ensures { λ r. ⌜ now r ≡ current 7 n (records (now (d .entry))) ⌝ }
 {
     part_at(d, index, index::keys::slot_hr(n), records::HR.length)
@@ -165,7 +173,7 @@ pub fn hr<'a>(d: &'a [u8], index: &[u16], n: usize) -> &'a [u8]
 
 // The current CH of an interval.
 pub fn ch<'a>(d: &'a [u8], index: &[u16], n: usize) -> &'a [u8]
-    requires { ⌜ Indexed (now d) (now index) × (1 ≤ n) × (n ≤ 2016) ⌝ }
+    requires { ⌜ Indexed (now d) (now index) × (narrow ≤ length (now index)) × (1 ≤ n) × (n ≤ 2016) ⌝ }
     ensures { λ r. ⌜ now r ≡ current 8 n (records (now (d .entry))) ⌝ }
 {
     part_at(d, index, index::keys::slot_ch(n), records::CH.length)
@@ -181,7 +189,7 @@ pub fn th<'a>(d: &'a [u8], index: &[u16], c: usize, v: usize) -> &'a [u8]
 
 // The current LC.
 pub fn lc<'a>(d: &'a [u8], index: &[u16]) -> &'a [u8]
-    requires { ⌜ Indexed (now d) (now index) ⌝ }
+    requires { ⌜ Indexed (now d) (now index) × (narrow ≤ length (now index)) ⌝ }
     ensures { λ r. ⌜ now r ≡ current 11 0 (records (now (d .entry))) ⌝ }
 {
     part_at(d, index, index::keys::slot_lc(), records::LC.length)

@@ -4,7 +4,7 @@ use Rattle.records.specs.Table.{table, rowOf}
 use Rattle.records.specs.Record.{widths, size}
 use Rattle.records.specs.Shapes.{shape, shapeOf}
 use Rattle.index.proofs.Slots.{InKey}
-use Rattle.lookup.proofs.Parts.{one-field, slot-fits, part-found}
+use Rattle.lookup.proofs.Parts.{one-field, narrow-fits, part-current}
 use borrow.Author.Needs.{needs}
 use Rattle.lookup.proofs.lc.Statement.{statement}
 use Rattle.lookup.proofs.lc.Tie as tie
@@ -17,11 +17,15 @@ slot-lc-requires : tie.Need-slot-lc-requires
 slot-lc-requires c κs = search needs
 
 part-at-requires : tie.Need-part-at-requires
-part-at-requires c κs = (slot-fits _ _ (c .before .before .before .pre) 11 _ refl key (c .slot-lc .ensures), search needs)
+part-at-requires c κs =
+    let p = c .before .before .before .pre in
+    (rw (c .slot-lc .ensures) (narrow-fits _ _ (p .0) (p .1) 11 _ key refl), search needs)
 
 returns : tie.Need-returns
 unfolding size widths rowOf table
-returns c = c .part-at .ensures ∙ part-found _ _ (c .before .before .before .before .pre) 11 _ refl key (c .before .slot-lc .ensures) refl
+returns c =
+    let p = c .before .before .before .before .pre in
+    c .part-at .ensures ∙ part-current _ _ (p .0) 11 _ key (narrow-fits _ _ (p .0) (p .1) 11 _ key refl) (c .before .slot-lc .ensures) refl
 
 pub lc-spec : {M : Type 1} → statement M
 lc-spec = tie.close (tie.spec slot-lc-requires part-at-requires returns)

@@ -14,7 +14,7 @@ enum-told c = search needs
 place-of-requires : tie.Need-place-of-requires
 place-of-requires c κs =
     let p = c .before .before .before .before .before .before .before .before .before .pre in
-    (c .before .before .before .before .before .«open» .ensures .1 (c .before .enum-told .given .1), p .1, λ e. omega (arith, p .2 e, c .before .before .before .before .before .«open» .kept .1 .0))
+    (c .before .before .before .before .before .«open» .ensures .1 (c .before .enum-told .given .1), p .1, ((λ e. omega (arith, p .2 .0 e, c .before .before .before .before .before .«open» .kept .1 .0)), omega (arith, p .2 .1, c .before .before .before .before .before .«open» .kept .1 .0)))
 
 enum-told-2 : tie.Need-enum-told-2
 enum-told-2 c = search needs
