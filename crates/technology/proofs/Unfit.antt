@@ -9,7 +9,7 @@ use native.Mathlib.Omega.{arith}
 use lib.Dec.{ltb, eqb}
 use lib.ListN.{length, getD, take, drop, length-take, length-drop, drop-of-length-le, List·getD-eq-default}
 use lib.Seq.{drop-drop}
-use borrow.Author.Tests.{ltb-true, eqb-true, eqb-false, eq-eqb, ne-eqb}
+use borrow.Author.Tests.{ltb-true, ltb-false, eqb-true, eqb-false, eq-eqb, ne-eqb}
 use Rattle.lists.specs.Lists.{Each, done, also, Member, here, there}
 use Rattle.lists.specs.Tests.{allBelow}
 use Rattle.lists.proofs.Lists.{member-each}
@@ -137,8 +137,9 @@ module _ (t : ℕ) (d ix rs : List ℕ) (top : ℕ) where
     no-place : (n : ℕ) → InKey 10 n → eqb t 4 ≡ false → slotFits t d ix (slot 10 n) ≡ true
     unfolding allFit slotFits low
     no-place n q z =
-        let w : length ix ≡ narrow = eqb-true (length ix) narrow (rw z at (and-left (eqb t 4 || eqb (length ix) narrow) _ e)) in
-        rw (List·getD-eq-default ix 0 {n = slot 10 n} (omega (arith, w, limits 10 n q))) refl
+        split (ltb narrow (length ix))
+        (λ x. absurd (false≢true (rw (z, x) at (and-left (eqb t 4 || not (ltb narrow (length ix))) _ e))))
+        (λ x. rw (List·getD-eq-default ix 0 {n = slot 10 n} (omega (arith, ltb-false narrow (length ix) x, limits 10 n q))) refl)
 
     place-looked : (n : ℕ) → InKey 10 n → Looked 10 n
     place-looked n q = split (eqb t 4) (λ w. inl (λ s _ _ _ _. sym (fits-fp t s known) ∙ w)) (λ w. inr (no-place n q w))
@@ -149,7 +150,7 @@ module _ (t : ℕ) (d ix rs : List ℕ) (top : ℕ) where
 
       thermal-parts : (ltb top 166 ≡ true) × (fits 1 1 rs ≡ true) × (allBelow 4 (λ p. slotsEmpty ix (42 + 20 * p) 4) ≡ true)
       unfolding allFit thermalFit
-      thermal-parts = three _ _ _ (rw z at (and-right (eqb t 4 || eqb (length ix) narrow) _ e))
+      thermal-parts = three _ _ _ (rw z at (and-right (eqb t 4 || not (ltb narrow (length ix))) _ e))
 
       station-fits : (n : ℕ) → InKey 1 n → (s : List ℕ) → current 1 n (records d) ≡ s → fits t 1 s ≡ true
       unfolding Spans shapeOf shape rowOf table
@@ -188,7 +189,7 @@ module _ (t : ℕ) (d ix rs : List ℕ) (top : ℕ) where
     module _ (z : eqb t 1 ≡ false) where
       other-parts : (slotsFit t d ix 0 26 && slotsFit t d ix 26 112 ≡ true) × (slotsFit t d ix 154 12 ≡ true) × (pricedFit t d ix top ≡ true)
       unfolding allFit otherFit
-      other-parts = three _ _ _ (rw z at (and-right (eqb t 4 || eqb (length ix) narrow) _ e))
+      other-parts = three _ _ _ (rw z at (and-right (eqb t 4 || not (ltb narrow (length ix))) _ e))
 
       -- a slot from 166 on is above the highest, or LC was looked at, and HR and CH are not there
       priced : (k n : ℕ) → 166 ≤ slot k n → (slotsFit t d ix 2350 1 && slotsEmpty ix 166 (cond (eqb t 3) 0 2184) ≡ true → slotFits t d ix (slot k n) ≡ true) → Looked k n
@@ -196,7 +197,7 @@ module _ (t : ℕ) (d ix rs : List ℕ) (top : ℕ) where
       priced k n h f =
           split (ltb top 166)
           (λ w. inl (λ s _ _ _ g. absurd (omega (arith, h, g, ltb-true top 166 w))))
-          (λ w. inr (f (rw w at (other-parts .2))))
+          (λ w. inr (f (and-right (not (ltb (length ix) narrow)) _ (rw w at (other-parts .2)))))
 
       unpriced : eqb t 3 ≡ false → (k n : ℕ) → 166 ≤ slot k n → slot k n < 2350 → Looked k n
       unpriced w k n p q = priced k n p (λ g. empty-fits 166 2184 (slot k n) (rw w at (and-right (slotsFit t d ix 2350 1) _ g)) p (omega (arith, q)))
@@ -260,24 +261,24 @@ rs-thermal s =
     (fits-rs 1 s (omega arith, omega arith))
 
 -- an index with slots for FP, of another station than a hydroelectric one
-pub other-wide : (t : ℕ) (d ix rs : List ℕ) (top : ℕ) → not (eqb t 4) && not (eqb (length ix) narrow) ≡ true → false ≡ allFit t d ix rs top
+pub other-wide : (t : ℕ) (d ix rs : List ℕ) (top : ℕ) → not (eqb t 4) && ltb narrow (length ix) ≡ true → false ≡ allFit t d ix rs top
 unfolding allFit
-other-wide t d ix rs top = go (eqb t 4) (eqb (length ix) narrow)
+other-wide t d ix rs top = go (eqb t 4) (ltb narrow (length ix))
   where
-    go : (a b : Bool) → not a && not b ≡ true → false ≡ (a || b) && cond (eqb t 1) (thermalFit ix rs top) (otherFit t d ix top)
+    go : (a b : Bool) → not a && b ≡ true → false ≡ (a || not b) && cond (eqb t 1) (thermalFit ix rs top) (otherFit t d ix top)
     go true b e = absurd (false≢true e)
-    go false true e = absurd (false≢true e)
-    go false false e = refl
+    go false true e = refl
+    go false false e = absurd (false≢true e)
 
 -- and any other
-pub by-station : (t : ℕ) (d ix rs : List ℕ) (top : ℕ) → not (eqb t 4) && not (eqb (length ix) narrow) ≡ false → {x : Bool} → x ≡ cond (eqb t 1) (thermalFit ix rs top) (otherFit t d ix top) → x ≡ allFit t d ix rs top
+pub by-station : (t : ℕ) (d ix rs : List ℕ) (top : ℕ) → not (eqb t 4) && ltb narrow (length ix) ≡ false → {x : Bool} → x ≡ cond (eqb t 1) (thermalFit ix rs top) (otherFit t d ix top) → x ≡ allFit t d ix rs top
 unfolding allFit
-by-station t d ix rs top h {x = x} f = go (eqb t 4) (eqb (length ix) narrow) h
+by-station t d ix rs top h {x = x} f = go (eqb t 4) (ltb narrow (length ix)) h
   where
-    go : (a b : Bool) → not a && not b ≡ false → x ≡ (a || b) && cond (eqb t 1) (thermalFit ix rs top) (otherFit t d ix top)
+    go : (a b : Bool) → not a && b ≡ false → x ≡ (a || not b) && cond (eqb t 1) (thermalFit ix rs top) (otherFit t d ix top)
     go true b e = f
-    go false true e = f
-    go false false e = absurd (false≢true (sym e))
+    go false true e = absurd (false≢true (sym e))
+    go false false e = f
 
 module _ (t : ℕ) (d : List ℕ) (v : ℕ) where
   pub held-empty : v ≡ 0 → true ≡ heldFits t d v

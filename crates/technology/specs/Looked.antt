@@ -38,9 +38,9 @@ slotsFit t d ix j n = allBelow n (λ i. slotFits t d ix (j + i))
 unfoldable pub thermalFit : List ℕ → List ℕ → ℕ → Bool
 thermalFit ix r m = ltb m 166 && fits thermal 1 r && allBelow 4 (λ p. slotsEmpty ix (42 + 20 * p) 4)
 
--- of any other there is no HR, no CH and no LC, as the highest slot tells; or LC fits, and the slots of HR and CH are empty unless it is storage, which they fit
+-- of any other there is no HR, no CH and no LC, as the highest slot tells; or the index has their slots, LC fits, and the slots of HR and CH are empty unless it is storage, which they fit
 unfoldable pub pricedFit : ℕ → List ℕ → List ℕ → ℕ → Bool
-pricedFit t d ix m = ltb m 166 || (slotsFit t d ix 2350 1 && slotsEmpty ix 166 (cond (eqb t storage) 0 2184))
+pricedFit t d ix m = ltb m 166 || (not (ltb (length ix) narrow) && (slotsFit t d ix 2350 1 && slotsEmpty ix 166 (cond (eqb t storage) 0 2184)))
 
 -- and the slots of RS, HP, FU, those of AD, MM, and those of TH fit; RQ fits
 unfoldable pub otherFit : ℕ → List ℕ → List ℕ → ℕ → Bool
@@ -48,7 +48,7 @@ otherFit t d ix m = slotsFit t d ix 0 26 && slotsFit t d ix 26 112 && slotsFit t
 
 -- every current record fits, as the slots tell; FP has slots where there is an FP, which fits a hydroelectric station alone
 unfoldable pub allFit : ℕ → List ℕ → List ℕ → List ℕ → ℕ → Bool
-allFit t d ix r m = (eqb t hydro || eqb (length ix) narrow) && cond (eqb t thermal) (thermalFit ix r m) (otherFit t d ix m)
+allFit t d ix r m = (eqb t hydro || not (ltb narrow (length ix))) && cond (eqb t thermal) (thermalFit ix r m) (otherFit t d ix m)
 
 -- the record at the front of s has the issue of the current one of its mark and key, and does not fit
 unfoldable pub notFit : List ℕ → List ℕ → List ℕ → Bool → Bool

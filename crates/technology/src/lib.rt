@@ -8,7 +8,7 @@ ghost use Rattle.fields.specs.Numbers.{number};
 ghost use Rattle.records.specs.declared.Answer.the-variants.{Accepted};
 ghost use Rattle.records.specs.Table.{kinds, RS};
 ghost use Rattle.records.specs.Record.{mark, size, keyWidth};
-ghost use Rattle.index.specs.Slots.{narrow, slotAt};
+ghost use Rattle.index.specs.Slots.{short, slotAt};
 ghost use Rattle.records.specs.Dossier.{records};
 ghost use Rattle.station.specs.Current.{current, readable};
 ghost use Rattle.station.specs.Parameters.{parameters, technology};
@@ -174,7 +174,7 @@ fn slots_fit(d: &[u8], index: &[u16], t: u8, j: usize, n: usize) -> bool
 // Whether every current record fits a thermal station, whose RS is given, by the index and the highest slot of a record. AD of cost 5 has
 // four slots in each of four profiles.
 fn thermal_fit(index: &[u16], rs: &[u8], top: usize) -> bool
-    requires { ⌜ narrow ≤ length (now index) ⌝ }
+    requires { ⌜ short ≤ length (now index) ⌝ }
     ensures { λ r. ⌜ r ≡ thermalFit (now (index .entry)) (now (rs .entry)) top ⌝ }
 {
     (top < 166)
@@ -185,13 +185,17 @@ fn thermal_fit(index: &[u16], rs: &[u8], top: usize) -> bool
             & slots_empty(index, 102, 4))
 }
 
-// Whether what any other station has of HR, CH and LC fits it; the highest slot tells at once that it has none.
+// Whether what any other station has of HR, CH and LC fits it; the highest slot tells at once that it has none. A short index
+// does not tell.
 fn priced_fit(d: &[u8], index: &[u16], t: u8, top: usize) -> bool
-    requires { ⌜ Known t × (narrow ≤ length (now index)) ⌝ }
+    requires { ⌜ Known t × (short ≤ length (now index)) ⌝ }
     ensures { λ r. ⌜ r ≡ pricedFit t (now (d .entry)) (now (index .entry)) top ⌝ }
 {
     if top < 166 {
         return true;
+    }
+    if index.len() < index::NARROW {
+        return false;
     }
     let priced = choose(t == 3, 0, 2184);
     slots_fit(d, index, t, 2350, 1) & slots_empty(index, 166, priced)
@@ -199,7 +203,7 @@ fn priced_fit(d: &[u8], index: &[u16], t: u8, top: usize) -> bool
 
 // Whether what a station has of AD and MM fits it; empty slots tell at once that it has none.
 fn added_fit(d: &[u8], index: &[u16], t: u8) -> bool
-    requires { ⌜ Known t × (narrow ≤ length (now index)) ⌝ }
+    requires { ⌜ Known t × (short ≤ length (now index)) ⌝ }
     ensures { λ r. ⌜ r ≡ slotsFit t (now (d .entry)) (now (index .entry)) 26 112 ⌝ }
 {
     if slots_empty(index, 26, 112) {
@@ -210,7 +214,7 @@ fn added_fit(d: &[u8], index: &[u16], t: u8) -> bool
 
 // Whether every current record fits any other station.
 fn other_fit(d: &[u8], index: &[u16], t: u8, top: usize) -> bool
-    requires { ⌜ Known t × (narrow ≤ length (now index)) ⌝ }
+    requires { ⌜ Known t × (short ≤ length (now index)) ⌝ }
     ensures { λ r. ⌜ r ≡ otherFit t (now (d .entry)) (now (index .entry)) top ⌝ }
 {
     slots_fit(d, index, t, 0, 26)
@@ -221,10 +225,10 @@ fn other_fit(d: &[u8], index: &[u16], t: u8, top: usize) -> bool
 
 // The same of every station. An index has slots for FP where there is one, and only a hydroelectric station may have it.
 fn all_fit(d: &[u8], index: &[u16], rs: &[u8], t: u8, top: usize) -> bool
-    requires { ⌜ Known t × (narrow ≤ length (now index)) ⌝ }
+    requires { ⌜ Known t × (short ≤ length (now index)) ⌝ }
     ensures { λ r. ⌜ r ≡ allFit t (now (d .entry)) (now (index .entry)) (now (rs .entry)) top ⌝ }
 {
-    if (t != 4) & (index.len() != index::NARROW) {
+    if (t != 4) & (index::NARROW < index.len()) {
         return false;
     }
     if t == 1 {
