@@ -8,7 +8,7 @@ use native.Mathlib.Decide.{ℕ-discrete}
 use native.Mathlib.Numerals.{add-one}
 use native.Mathlib.Omega.{arith}
 use lib.Arith.{lt-of-le-ne}
-use lib.Dec.{leb, ltb, eqb, lit≤}
+use lib.Dec.{leb, ltb, eqb, lit≤, lit<}
 use lib.ListN.{length, getD}
 use borrow.Author.Tests.{lt-ltb, le-ltb, le-leb, lt-leb, leb-true, eqb-true, eq-eqb, ne-eqb}
 use Rattle.lists.specs.Tests.{allTo, countTo}
@@ -17,6 +17,7 @@ use Rattle.fields.specs.Numbers.{number}
 use Rattle.fields.proofs.Numbers.{number-nil}
 use Rattle.records.specs.Table.{table, rowOf, fieldOf, RS, HP, FU, RQ, HR, FP}
 use Rattle.records.specs.Record.{value, inRange, agrees}
+use Rattle.records.specs.Shapes.{shape, shapeOf}
 use Rattle.records.specs.Dossier.{records}
 use Rattle.records.proofs.Dossier.{scan-each}
 use Rattle.station.specs.Current.{current, present}
@@ -24,8 +25,9 @@ use Rattle.station.specs.Parameters.{Parameters, parameters, technology, capaci
 use Rattle.station.proofs.Parameters.{says-high}
 use Rattle.station.proofs.Fields.{technology-at, capacity-at, charge-at, output-at, heat-at, requested-at}
 use Rattle.index.specs.Slots.{slot, slotsEmpty}
-use Rattle.lookup.specs.Parts.{Indexed}
-use Rattle.lookup.proofs.Parts.{point-key, request-key, current-none, slot-tells, fits}
+use Rattle.index.proofs.Slots.{InKey}
+use Rattle.lookup.specs.Parts.{Indexed, Complete}
+use Rattle.lookup.proofs.Parts.{one-field, point-key, request-key, current-none, slot-tells, fits, beyond-index}
 use Rattle.rules.specs.Fit.{Known}
 use Rattle.rules.specs.Curve.{points, rise, curveHolds, curveFits, fuelHolds, fullHours, hoursHold, windowFits, placesHold, forecastFits}
 use Rattle.support.specs.Legs.{lastRise, legHolds, fuelled}
@@ -300,6 +302,17 @@ point-counted d ix h n p q {j} ej ea =
     go : (b : Bool) → _≡_ {A = ℕ} (cond b 0 1) (cond (not b) 1 0)
     go true = refl
     go false = refl
+
+-- an hour is there as its slot tells; one without a slot in a complete index is not
+module _ (d ix : List ℕ) (h : Indexed d ix) (n : ℕ) {j : ℕ} (ej : j ≡ slot HR n) where
+  pub hour-beyond : Complete d ix → length ix ≤ j → false ≡ parameters (records d) .has HR n
+  hour-beyond c b = sym (none-there (records d) HR n {r = []} (sym (beyond-index d ix h c HR n (omega (arith, b, ej)))) refl)
+
+  pub hour-told : 1 ≤ n → n ≤ 168 → j < length ix → not (eqb (getD ix j 0) 0) ≡ parameters (records d) .has HR n
+  unfolding shapeOf shape rowOf table
+  hour-told p q b =
+      let i : InKey HR n = one-field HR n (lit≤ tt) (lit< tt) refl p q in
+      ap (λ (k : ℕ). not (eqb (getD ix k 0) 0)) ej ∙ sym (slot-tells d ix h HR n i (omega (arith, b, ej))) ∙ there-is (records d) HR n refl
 
 -- where the slots of all requests are empty, there is none
 module _ (d ix : List ℕ) (h : Indexed d ix) {j : ℕ} (first : j ≡ slot RQ 1) (empty : slotsEmpty ix j 16 ≡ true) where

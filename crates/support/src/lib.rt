@@ -137,16 +137,28 @@ fn fuel_holds(d: &[u8], index: &[u16]) -> bool
     (0 < lookup::fu(d, index, 1).len()) & requests_fuelled(d, index)
 }
 
+// Whether an hour of the window is there, as its slot tells; an hour without a slot is not.
+fn hour_there(d: &[u8], index: &[u16], n: usize) -> bool
+    requires { ⌜ Indexed (now d) (now index) × Complete (now d) (now index) × (1 ≤ n) × (n ≤ 168) ⌝ }
+    ensures { λ r. ⌜ r ≡ parameters (records (now (d .entry))) .has HR n ⌝ }
+{
+    let j = index::keys::slot_hr(n);
+    if index.len() <= j {
+        return false;
+    }
+    index[j] != 0
+}
+
 // Whether hours 1 to n of the window are there.
 fn hours_there(d: &[u8], index: &[u16], n: usize) -> bool
-    requires { ⌜ Indexed (now d) (now index) × (n ≤ 168) ⌝ }
+    requires { ⌜ Indexed (now d) (now index) × Complete (now d) (now index) × (n ≤ 168) ⌝ }
     ensures { λ r. ⌜ r ≡ allTo n (parameters (records (now (d .entry))) .has HR) ⌝ }
 {
     let mut ok = true;
     let mut i = 0;
     while i < n {
         i += 1;
-        ok = ok & (0 < lookup::hr(d, index, i).len());
+        ok = ok & hour_there(d, index, i);
     }
     ok
 }
@@ -166,7 +178,7 @@ pub fn full_hours(d: &[u8], index: &[u16]) -> u32
 
 // What 9 asks.
 fn window_fits(d: &[u8], index: &[u16]) -> bool
-    requires { ⌜ Indexed (now d) (now index) ⌝ }
+    requires { ⌜ Indexed (now d) (now index) × Complete (now d) (now index) ⌝ }
     ensures { λ r. ⌜ r ≡ windowFits (parameters (records (now (d .entry)))) ⌝ }
 {
     let rs = lookup::rs(d, index);

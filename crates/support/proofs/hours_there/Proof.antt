@@ -1,4 +1,4 @@
-use Rattle.support.proofs.Curve.{to-next, there-is}
+use Rattle.support.proofs.Curve.{to-next}
 use Rattle.records.specs.Table.{HR}
 use Rattle.lists.specs.Tests.{allTo}
 use Rattle.station.specs.Parameters.{parameters}
@@ -21,18 +21,18 @@ loop-holds c = (omega arith, unfold allTo in refl)
 add-i : tie.Need-add-i Inv-loop μ-loop
 add-i c = omega arith
 
-hr-requires : tie.Need-hr-requires Inv-loop μ-loop
-hr-requires c κs = (c .before .before .before .before .pre .0, omega arith, omega arith)
+hour-there-requires : tie.Need-hour-there-requires Inv-loop μ-loop
+hour-there-requires c κs = (c .before .before .before .before .pre .0, c .before .before .before .before .pre .1, omega arith, omega arith)
 
 loop-less : tie.Need-loop-less Inv-loop μ-loop
 loop-less c = omega arith
 
 loop-again : tie.Need-loop-again Inv-loop μ-loop
-loop-again c = (omega arith, to-next (c .before .before .loop .i) (parameters (records (c .before .before .before .before .before .args .d .now)) .has HR) (c .before .before .loop .inv .1) (there-is (records (c .before .before .before .before .before .args .d .now)) HR (c .before .before .loop .i + 1) (c .hr .ensures)))
+loop-again c = (omega arith, to-next (c .before .before .loop .i) (parameters (records (c .before .before .before .before .before .args .d .now)) .has HR) (c .before .before .loop .inv .1) (c .hour-there .ensures))
 
 returns : tie.Need-returns Inv-loop μ-loop
 returns c = c .before .loop .inv .1 ∙ ap (λ (i : ℕ). allTo i (parameters (records (c .before .before .before .before .args .d .now)) .has HR)) (omega arith)
 
 pub hours-there-spec : {M : Type 1} → statement M
 hours-there-spec =
-    tie.close (tie.spec Inv-loop μ-loop loop-holds add-i hr-requires loop-less loop-again returns)
+    tie.close (tie.spec Inv-loop μ-loop loop-holds add-i hour-there-requires loop-less loop-again returns)

@@ -40,7 +40,7 @@ window-is c =
 hours-there-requires : tie.Need-hours-there-requires
 hours-there-requires c κs =
     let s = c .before .before .before .before .before .before .before in
-    (s .pre, omega (arith, storage-window _ _ (s .pre) (sym (technology-is (c .before .before .before)) ∙ c .before .before .if1 .left), window-is c))
+    (s .pre .0, s .pre .1, omega (arith, storage-window _ _ (s .pre .0) (sym (technology-is (c .before .before .before)) ∙ c .before .before .if1 .left), window-is c))
 
 returns-2 : tie.Need-returns-2
 returns-2 c =
