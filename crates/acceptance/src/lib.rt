@@ -28,7 +28,7 @@ fn beyond_reading(d: &[u8], index: &[u16], top: usize) -> Answer
     }
 }
 
-// The answer to a dossier with an FP: it is read once more, with a slot for every record.
+// The answer to a dossier with a record that the index has no slot for, as an FP: it is read once more, with a slot for every record.
 fn judge_forecast(d: &[u8]) -> Answer
     ensures { λ r. ⌜ r ≡ answer (now (d .entry)) ⌝ }
 {
@@ -70,19 +70,32 @@ pub fn judge(d: &[u8], index: &mut [u16]) -> Answer
     }
 }
 
-// The answer to a dossier. It goes as `judge` does: the wide index of `judge_forecast`, which is called from two functions, then costs nothing where there is no FP.
-pub fn accept(d: &[u8]) -> Answer
+// The answer to a dossier, with an empty index for it. It goes as `judge` does: the wide index of `judge_forecast`, which is called from two
+// functions, then costs nothing where the index has a slot for every record.
+fn accept_in(d: &[u8], index: &mut [u16]) -> Answer
+    requires { ⌜ Empty (now index) ⌝ }
     ensures { λ r. ⌜ r ≡ answer (now (d .entry)) ⌝ }
 {
-    let mut index = [0u16; index::NARROW];
-    match lookup::scan(d, &mut index) {
+    match lookup::scan(d, index) {
         Passed::Ended { rising, top } => {
-            if top < index::NARROW {
-                indexed_answer(d, &index, rising, top)
+            if top < index.len() {
+                indexed_answer(d, index, rising, top)
             } else {
                 judge_forecast(d)
             }
         }
         Passed::Stopped { number, place } => Answer::Refused { number, place },
     }
+}
+
+// The answer to a dossier. For a thermal or nuclear station a short index is likely enough, and sooner made.
+pub fn accept(d: &[u8]) -> Answer
+    ensures { λ r. ⌜ r ≡ answer (now (d .entry)) ⌝ }
+{
+    if lookup::lean(d) {
+        let mut index = [0u16; index::SHORT];
+        return accept_in(d, &mut index);
+    }
+    let mut index = [0u16; index::NARROW];
+    accept_in(d, &mut index)
 }

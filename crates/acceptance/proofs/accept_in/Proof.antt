@@ -1,0 +1,63 @@
+use mathlib.Core.Path.{ap, sym, _∙_}
+use mathlib.Core.Bool.{Bool}
+use native.Mathlib.Omega.{arith}
+use borrow.Author.Needs.{needs}
+use Rattle.index.specs.declared.Passed.the-variants.{Ended}
+use Rattle.lookup.proofs.Opening.{scan-stopped, scan-rising, up-to-complete}
+use Rattle.rules.proofs.Draws.{unreadable}
+use Rattle.acceptance.proofs.accept_in.Statement.{statement}
+use Rattle.acceptance.proofs.accept_in.Tie as tie
+
+scan-requires : tie.Need-scan-requires
+scan-requires c κs = search needs
+
+enum-known-rising : tie.Need-enum-known-rising
+enum-known-rising c = search needs
+
+indexed-answer-requires : tie.Need-indexed-answer-requires
+indexed-answer-requires c κs =
+    let g = c .before .before .before .rising .given .1 in
+    let s = c .before .before .before .before .before .before .before .scan .ensures in
+    let i = s .1 _ _ g in
+    let h = c .before .if1 .taken in
+    (i .0, up-to-complete (i .0) (i .1) (omega (arith, h, c .before .before .before .before .before .before .before .scan .kept)), i .1, λ e. sym (scan-rising _ _ (ap (λ (b : Bool). Ended b (c .before .before .before .rising .given .0 .1 .0)) (sym e) ∙ sym g ∙ s .0) (omega (arith, h, c .before .before .before .before .before .before .before .scan .kept)) (i .0)))
+
+judge-forecast-requires : tie.Need-judge-forecast-requires
+judge-forecast-requires c κs = search needs
+
+enum-known-number : tie.Need-enum-known-number
+enum-known-number c = search needs
+
+same-length : tie.Need-same-length
+same-length c = search needs
+
+returns : tie.Need-returns
+returns c = c .indexed-answer .ensures
+
+same-length-2 : tie.Need-same-length-2
+same-length-2 c = search needs
+
+returns-2 : tie.Need-returns-2
+returns-2 c = c .judge-forecast .ensures
+
+same-length-3 : tie.Need-same-length-3
+same-length-3 c = search needs
+
+returns-3 : tie.Need-returns-3
+returns-3 c = unreadable _ _ _ (scan-stopped _ _ (sym (c .before .number .given .1) ∙ c .before .before .before .before .before .scan .ensures .0))
+
+pub accept-in-spec : {M : Type 1} → statement M
+accept-in-spec =
+    tie.close
+    (tie.spec
+    scan-requires
+    enum-known-rising
+    indexed-answer-requires
+    judge-forecast-requires
+    enum-known-number
+    same-length
+    returns
+    same-length-2
+    returns-2
+    same-length-3
+    returns-3)
