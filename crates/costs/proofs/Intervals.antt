@@ -5,7 +5,7 @@ use mathlib.Core.List.{List}
 use Prim.Native.Nat.{ℕ, suc, _+_, _*_, _≤_, _<_}
 use native.Mathlib.Omega.{arith}
 use lib.Dec.{eqb}
-use lib.ListN.{getD}
+use lib.ListN.{length, getD}
 use borrow.Author.Tests.{eqb-true}
 use Rattle.lists.proofs.Tests.{below-at}
 use Rattle.fields.specs.Numbers.{number}
@@ -14,9 +14,10 @@ use Rattle.records.specs.Table.{CH}
 use Rattle.records.specs.Dossier.{records}
 use Rattle.station.specs.Parameters.{chargePrice, chargeEnergy}
 use Rattle.station.proofs.Fields.{chargeEnergy-at}
-use Rattle.index.specs.Slots.{slot, slotsEmpty}
+use Rattle.index.specs.Slots.{slot, narrow, slotsEmpty}
+use Rattle.index.proofs.Slots.{slot-narrow}
 use Rattle.lookup.specs.Parts.{Indexed}
-use Rattle.lookup.proofs.Parts.{current-none, fits, interval-key}
+use Rattle.lookup.proofs.Parts.{current-none, interval-key}
 use Rattle.formulas.specs.Sums.{sumTo}
 use Rattle.formulas.specs.Levels.{parametersIn, amountsIn}
 use Rattle.costs.specs.Intervals.{Summed}
@@ -35,12 +36,12 @@ summed-more h p q a b =
       energy-high = omega (arith, h .energy-high);
     }
 
-module _ {d ix : List ℕ} (h : Indexed d ix) where
+module _ {d ix : List ℕ} (h : Indexed d ix) (roomy : narrow ≤ length ix) where
   -- an interval whose slot is empty has no record, so no energy
   uncharged : (n : ℕ) → 1 ≤ n → n ≤ 2016 → getD ix (slot CH n) 0 ≡ 0 → chargeEnergy (parametersIn d) n ≡ 0
   uncharged n a b e =
       chargeEnergy-at (records d) n
-      ∙ ap (number 12 4) (current-none d ix h CH n (interval-key n a b) (fits d ix h CH n (interval-key n a b) refl) e)
+      ∙ ap (number 12 4) (current-none d ix h CH n (interval-key n a b) (omega (arith, roomy, slot-narrow CH n (interval-key n a b) refl)) e)
       ∙ number-nil 12 4
 
   module _ (n m : ℕ) {j : ℕ} (first : j ≡ slot CH (n + 1)) (last : n + m ≤ 2016) (empty : slotsEmpty ix j m ≡ true) where

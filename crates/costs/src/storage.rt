@@ -3,6 +3,7 @@ ghost use mathlib.Core.Path.{_≡_};
 ghost use Prim.Native.Nat.{_+_, _*_, _-_, _≤_};
 ghost use lib.ListN.{length, drop};
 ghost use Rattle.station.specs.Parameters.{window, hourPrice, chargePrice, chargeEnergy};
+ghost use Rattle.index.specs.Slots.{narrow};
 ghost use Rattle.lookup.specs.Parts.{Indexed};
 ghost use Rattle.rules.specs.Curve.{fullHours};
 ghost use Rattle.formulas.specs.Sums.{sumTo, listTo, sumHighest};
@@ -20,7 +21,7 @@ pub struct Charging {
 
 // Interval n.
 fn interval(d: &[u8], index: &[u16], n: usize) -> Charging
-    requires { ⌜ Indexed (now d) (now index) × (1 ≤ n) × (n ≤ 2016) ⌝ }
+    requires { ⌜ Indexed (now d) (now index) × (narrow ≤ length (now index)) × (1 ≤ n) × (n ≤ 2016) ⌝ }
     ensures { λ r. ⌜ (r .cost ≡ chargePrice (amountsIn (now (d .entry))) n * chargeEnergy (parametersIn (now (d .entry))) n) × (r .energy ≡ chargeEnergy (parametersIn (now (d .entry))) n) × (r .cost ≤ 2147683648 * r .energy) × (r .energy ≤ 1000000) ⌝ }
 {
     let r = lookup::ch(d, index, n);
@@ -34,7 +35,7 @@ fn interval(d: &[u8], index: &[u16], n: usize) -> Charging
 
 // The sums over intervals 1 to n, with the 32 after them one by one.
 fn with_each(d: &[u8], index: &[u16], n: usize, before: Charging) -> Charging
-    requires { ⌜ Indexed (now d) (now index) × (n + 32 ≤ 2016) × Summed (now d) n (before .cost) (before .energy) ⌝ }
+    requires { ⌜ Indexed (now d) (now index) × (narrow ≤ length (now index)) × (n + 32 ≤ 2016) × Summed (now d) n (before .cost) (before .energy) ⌝ }
     ensures { λ r. ⌜ Summed (now (d .entry)) (n + 32) (r .cost) (r .energy) ⌝ }
 {
     let mut cost = before.cost;
@@ -51,7 +52,7 @@ fn with_each(d: &[u8], index: &[u16], n: usize, before: Charging) -> Charging
 
 // The same, sooner where none of the 32 has a record: they are passed over at once.
 fn with_block(d: &[u8], index: &[u16], n: usize, before: Charging) -> Charging
-    requires { ⌜ Indexed (now d) (now index) × (n + 32 ≤ 2016) × Summed (now d) n (before .cost) (before .energy) ⌝ }
+    requires { ⌜ Indexed (now d) (now index) × (narrow ≤ length (now index)) × (n + 32 ≤ 2016) × Summed (now d) n (before .cost) (before .energy) ⌝ }
     ensures { λ r. ⌜ Summed (now (d .entry)) (n + 32) (r .cost) (r .energy) ⌝ }
 {
     if index::slots_empty(index, index::keys::slot_ch(n + 1), 32) {
@@ -62,7 +63,7 @@ fn with_block(d: &[u8], index: &[u16], n: usize, before: Charging) -> Charging
 
 // The sums over intervals 1 to n, with the nine blocks of the day after them.
 fn with_blocks(d: &[u8], index: &[u16], n: usize, before: Charging) -> Charging
-    requires { ⌜ Indexed (now d) (now index) × (n + 288 ≤ 2016) × Summed (now d) n (before .cost) (before .energy) ⌝ }
+    requires { ⌜ Indexed (now d) (now index) × (narrow ≤ length (now index)) × (n + 288 ≤ 2016) × Summed (now d) n (before .cost) (before .energy) ⌝ }
     ensures { λ r. ⌜ Summed (now (d .entry)) (n + 288) (r .cost) (r .energy) ⌝ }
 {
     let mut sums = before;
@@ -76,7 +77,7 @@ fn with_blocks(d: &[u8], index: &[u16], n: usize, before: Charging) -> Charging
 
 // The same, sooner where the whole day has no record.
 fn with_day(d: &[u8], index: &[u16], n: usize, before: Charging) -> Charging
-    requires { ⌜ Indexed (now d) (now index) × (n + 288 ≤ 2016) × Summed (now d) n (before .cost) (before .energy) ⌝ }
+    requires { ⌜ Indexed (now d) (now index) × (narrow ≤ length (now index)) × (n + 288 ≤ 2016) × Summed (now d) n (before .cost) (before .energy) ⌝ }
     ensures { λ r. ⌜ Summed (now (d .entry)) (n + 288) (r .cost) (r .energy) ⌝ }
 {
     if index::slots_empty(index, index::keys::slot_ch(n + 1), 288) {
@@ -87,7 +88,7 @@ fn with_day(d: &[u8], index: &[u16], n: usize, before: Charging) -> Charging
 
 // All intervals, day by day.
 fn intervals(d: &[u8], index: &[u16]) -> Charging
-    requires { ⌜ Indexed (now d) (now index) ⌝ }
+    requires { ⌜ Indexed (now d) (now index) × (narrow ≤ length (now index)) ⌝ }
     ensures { λ r. ⌜ (r .cost ≡ sumTo 2016 (λ n. chargePrice (amountsIn (now (d .entry))) n * chargeEnergy (parametersIn (now (d .entry))) n)) × (r .energy ≡ totalEnergy (parametersIn (now (d .entry)))) × (r .cost ≤ 2147683648 * r .energy) × (r .energy ≤ 2016000000) ⌝ }
 {
     let mut sums = Charging { cost: 0, energy: 0 };
@@ -101,7 +102,7 @@ fn intervals(d: &[u8], index: &[u16]) -> Charging
 
 // The charging cost; where no energy was charged, the last one.
 fn charging_cost(d: &[u8], index: &[u16]) -> u64
-    requires { ⌜ Indexed (now d) (now index) ⌝ }
+    requires { ⌜ Indexed (now d) (now index) × (narrow ≤ length (now index)) ⌝ }
     ensures { λ r. ⌜ (r ≡ microDollars (chargingCost (parametersIn (now (d .entry))) (amountsIn (now (d .entry))))) × (r ≤ 2000000000) ⌝ }
 {
     let c = intervals(d, index);
@@ -114,7 +115,7 @@ fn charging_cost(d: &[u8], index: &[u16]) -> u64
 
 // The short-run cost.
 fn short_run_cost(d: &[u8], index: &[u16], p: usize) -> u64
-    requires { ⌜ Indexed (now d) (now index) × (1 ≤ p) × (p ≤ 4) ⌝ }
+    requires { ⌜ Indexed (now d) (now index) × (narrow ≤ length (now index)) × (1 ≤ p) × (p ≤ 4) ⌝ }
     ensures { λ r. ⌜ r ≡ microDollars (shortRunCost (parametersIn (now (d .entry))) (amountsIn (now (d .entry))) p) ⌝ }
 {
     let charge = charging_cost(d, index) + parameters::fuel(d, index, p);
@@ -124,7 +125,7 @@ fn short_run_cost(d: &[u8], index: &[u16], p: usize) -> u64
 
 // The prices of hours 1 to the window, into the last places of an array, hour 1 the very last.
 fn prices(d: &[u8], index: &[u16], window: usize, prices: &mut [u32])
-    requires { ⌜ Indexed (now d) (now index) × (window ≤ 168) × (length (now prices) ≡ 168) ⌝ }
+    requires { ⌜ Indexed (now d) (now index) × (narrow ≤ length (now index)) × (window ≤ 168) × (length (now prices) ≡ 168) ⌝ }
     ensures { λ r. ⌜ drop (168 - window) (now (prices .exit)) ≡ listTo window (hourPrice (amountsIn (now (d .entry)))) ⌝ }
 {
     let mut n = 0;
@@ -136,7 +137,7 @@ fn prices(d: &[u8], index: &[u16], window: usize, prices: &mut [u32])
 
 // The sum of the highest prices of the window.
 fn highest_sum(d: &[u8], index: &[u16], hours: usize, window: usize) -> u64
-    requires { ⌜ Indexed (now d) (now index) × (window ≤ 168) × (hours ≤ window) ⌝ }
+    requires { ⌜ Indexed (now d) (now index) × (narrow ≤ length (now index)) × (window ≤ 168) × (hours ≤ window) ⌝ }
     ensures { λ r. ⌜ (r ≡ sumHighest hours (listTo window (hourPrice (amountsIn (now (d .entry)))))) × (r ≤ 336 * 4294967295) ⌝ }
 {
     let mut table = [0u32; 168];
@@ -147,7 +148,7 @@ fn highest_sum(d: &[u8], index: &[u16], hours: usize, window: usize) -> u64
 
 // The opportunity cost.
 fn opportunity_cost(d: &[u8], index: &[u16]) -> u64
-    requires { ⌜ Indexed (now d) (now index) × (fullHours (parametersIn (now d)) ≤ window (parametersIn (now d))) × (window (parametersIn (now d)) ≤ 168) ⌝ }
+    requires { ⌜ Indexed (now d) (now index) × (narrow ≤ length (now index)) × (fullHours (parametersIn (now d)) ≤ window (parametersIn (now d))) × (window (parametersIn (now d)) ≤ 168) ⌝ }
     ensures { λ r. ⌜ r ≡ microDollars (opportunityCost (parametersIn (now (d .entry))) (amountsIn (now (d .entry)))) ⌝ }
 {
     let hours = support::full_hours(d, index) as u64;
@@ -160,9 +161,22 @@ fn opportunity_cost(d: &[u8], index: &[u16]) -> u64
 }
 
 // The greater is taken.
+fn energy_through(d: &[u8], index: &[u16], p: usize) -> u64
+    requires { ⌜ Indexed (now d) (now index) × (narrow ≤ length (now index)) × (1 ≤ p) × (p ≤ 4) × (fullHours (parametersIn (now d)) ≤ window (parametersIn (now d))) × (window (parametersIn (now d)) ≤ 168) ⌝ }
+    ensures { λ r. ⌜ r ≡ microDollars (storageEnergy (parametersIn (now (d .entry))) (amountsIn (now (d .entry))) p) ⌝ }
+{
+    arithmetic::greater(short_run_cost(d, index, p), opportunity_cost(d, index))
+}
+
+// The same; the index at hand may have no slots for HR, CH and LC, and is then filled anew.
 pub fn storage_energy(d: &[u8], index: &[u16], p: usize) -> u64
     requires { ⌜ Indexed (now d) (now index) × (1 ≤ p) × (p ≤ 4) × (fullHours (parametersIn (now d)) ≤ window (parametersIn (now d))) × (window (parametersIn (now d)) ≤ 168) ⌝ }
     ensures { λ r. ⌜ r ≡ microDollars (storageEnergy (parametersIn (now (d .entry))) (amountsIn (now (d .entry))) p) ⌝ }
 {
-    arithmetic::greater(short_run_cost(d, index, p), opportunity_cost(d, index))
+    if index.len() < index::NARROW {
+        let mut full = [0u16; index::NARROW];
+        lookup::fill(d, &mut full);
+        return energy_through(d, &full, p);
+    }
+    energy_through(d, index, p)
 }

@@ -2,7 +2,9 @@
 // sums in 64 bits rest. The laws are in proofs/.
 ghost use mathlib.Core.Path.{_≡_};
 ghost use Prim.Native.Nat.{_≤_};
+ghost use lib.ListN.{length};
 ghost use Rattle.station.specs.Parameters.{technology, capacity, factor, startHeat, noLoadHeat, incrementalFuel, efficiency, window, output, heat, fuel, emission, adder, hourPrice, placePrice, lastCost};
+ghost use Rattle.index.specs.Slots.{narrow};
 ghost use Rattle.lookup.specs.Parts.{Indexed, Complete};
 ghost use Rattle.formulas.specs.Levels.{parametersIn, amountsIn};
 
@@ -98,7 +100,7 @@ pub fn adder(d: &[u8], index: &[u16], p: usize, c: usize, v: usize) -> u64
 }
 
 pub fn last_cost(d: &[u8], index: &[u16]) -> u64
-    requires { ⌜ Indexed (now d) (now index) ⌝ }
+    requires { ⌜ Indexed (now d) (now index) × (narrow ≤ length (now index)) ⌝ }
     ensures { λ r. ⌜ (r ≡ lastCost (amountsIn (now (d .entry)))) × (r ≤ 2000000000) ⌝ }
 {
     fields::u32_at(lookup::lc(d, index), 6) as u64
@@ -106,7 +108,7 @@ pub fn last_cost(d: &[u8], index: &[u16]) -> u64
 
 // Plus 2^31, as prices are held.
 pub fn hour_price(d: &[u8], index: &[u16], n: usize) -> u32
-    requires { ⌜ Indexed (now d) (now index) × (1 ≤ n) × (n ≤ 168) ⌝ }
+    requires { ⌜ Indexed (now d) (now index) × (narrow ≤ length (now index)) × (1 ≤ n) × (n ≤ 168) ⌝ }
     ensures { λ r. ⌜ r ≡ hourPrice (amountsIn (now (d .entry))) n ⌝ }
 {
     arithmetic::biased(fields::u32_at(lookup::hr(d, index, n), 7))

@@ -19,7 +19,7 @@ loop-holds : tie.Need-loop-holds Inv-loop μ-loop
 loop-holds c = (omega arith, omega arith, summed-none _)
 
 with-day-requires : tie.Need-with-day-requires Inv-loop μ-loop
-with-day-requires c κs = (search needs, omega arith, c .before .loop .inv .2)
+with-day-requires c κs = (search needs, search needs, omega arith, c .before .loop .inv .2)
 
 add-n : tie.Need-add-n Inv-loop μ-loop
 add-n c = omega arith

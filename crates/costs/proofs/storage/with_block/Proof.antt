@@ -16,12 +16,12 @@ slots-empty-requires : tie.Need-slots-empty-requires
 unfolding slot
 slots-empty-requires c κs =
     let a = c .before .before .before in
-    omega (arith, c .slot-ch .ensures, a .pre .0 .roomy)
+    omega (arith, c .slot-ch .ensures, a .pre .1)
 
 returns : tie.Need-returns
 returns c =
     let a = c .before .before .before .before .before in
-    summed-past (a .pre .0) (a .args .n) 32 (c .before .before .slot-ch .ensures) (a .pre .1) (sym (c .before .slots-empty .ensures) ∙ c .if1 .taken) (a .pre .2)
+    summed-past (a .pre .0) (a .pre .1) (a .args .n) 32 (c .before .before .slot-ch .ensures) (a .pre .2) (sym (c .before .slots-empty .ensures) ∙ c .if1 .taken) (a .pre .3)
 
 with-each-requires : tie.Need-with-each-requires
 with-each-requires c κs = search needs

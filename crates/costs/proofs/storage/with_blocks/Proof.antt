@@ -15,13 +15,13 @@ abbrev μ-loop : tie.MeasureT-loop
 loop-holds : tie.Need-loop-holds Inv-loop μ-loop
 loop-holds c =
     let a = c .before .before in
-    (omega arith, omega arith, subst (λ (k : ℕ). Summed (a .args .d .now) k (a .args .before .cost) (a .args .before .energy)) (omega arith) (a .pre .2))
+    (omega arith, omega arith, subst (λ (k : ℕ). Summed (a .args .d .now) k (a .args .before .cost) (a .args .before .energy)) (omega arith) (a .pre .3))
 
 add-with-block : tie.Need-add-with-block Inv-loop μ-loop
 add-with-block c = omega arith
 
 with-block-requires : tie.Need-with-block-requires Inv-loop μ-loop
-with-block-requires c κs = (search needs, omega arith, c .before .loop .inv .2)
+with-block-requires c κs = (search needs, search needs, omega arith, c .before .loop .inv .2)
 
 add-i : tie.Need-add-i Inv-loop μ-loop
 add-i c = omega arith

@@ -14,7 +14,7 @@ abbrev μ-loop : tie.MeasureT-loop
 μ-loop d index n cost₀ energy₀ k₀ cost energy k = n + 32 - k
 
 loop-holds : tie.Need-loop-holds Inv-loop μ-loop
-loop-holds c = (omega arith, c .before .before .pre .2)
+loop-holds c = (omega arith, c .before .before .pre .3)
 
 add-loop : tie.Need-add-loop Inv-loop μ-loop
 add-loop c = omega arith
