@@ -20,7 +20,7 @@ use Rattle.station.specs.Parameters.{parameters, requested, firstHour, lastHour
 use Rattle.station.proofs.Parameters.{says-high}
 use Rattle.index.specs.Slots.{slot, slotsEmpty}
 use Rattle.lookup.specs.Parts.{Indexed}
-use Rattle.lookup.proofs.Parts.{request-key, current-none, fits}
+use Rattle.lookup.proofs.Parts.{request-key, current-none}
 use Rattle.formulas.specs.Levels.{covers, profileOf, profile}
 
 -- what one request says of the profile, read of its record
@@ -62,7 +62,7 @@ module _ (d ix : List ℕ) (h : Indexed d ix) {j : ℕ} (first : j ≡ slot RQ 1
   unrequested n p =
       let w : j + n ≡ slot RQ (suc n) = omega (arith, first) in
       let i = request-key (suc n) (omega arith) (omega arith) in
-      current-none d ix h RQ (suc n) i (fits d ix h RQ (suc n) i refl)
+      current-none d ix h RQ (suc n) i (omega (arith, h .roomy))
       (ap (λ (k : ℕ). getD ix k 0) (sym w) ∙ eqb-true (getD ix (j + n) 0) 0 (below-at 16 (λ k. eqb (getD ix (j + k) 0) 0) empty n p))
 
   uncovered : (n : ℕ) → n < 16 → covers (parameters (records d)) hour (suc n) ≡ false

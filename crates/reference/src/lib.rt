@@ -6,7 +6,7 @@ ghost use mathlib.Core.Path.{_≡_};
 ghost use mathlib.Core.List.{[], _∷_};
 ghost use Prim.Native.Nat.{_≤_};
 ghost use Rattle.station.specs.Parameters.{technology, window};
-ghost use Rattle.lookup.specs.Parts.{Indexed};
+ghost use Rattle.lookup.specs.Parts.{Indexed, Empty};
 ghost use Rattle.rules.specs.Curve.{fullHours};
 ghost use Rattle.rules.specs.Answer.{IsAccepted};
 ghost use Rattle.formulas.specs.Levels.{parametersIn, amountsIn, profile, linesOf, levels};
@@ -176,15 +176,15 @@ fn no_levels() -> HourLevels
     }
 }
 
-// The answer to a dossier, with its levels at an hour where it is accepted.
-pub fn levels(d: &[u8], hour: u32) -> LevelsAnswer
+// The answer to a dossier, with its levels at an hour where it is accepted; worked out in an empty index.
+fn levels_in(d: &[u8], index: &mut [u16], hour: u32) -> LevelsAnswer
+    requires { ⌜ Empty (now index) ⌝ }
     ensures { λ r. ⌜ r ≡ levelsAnswer (now (d .entry)) hour ⌝ }
 {
-    let mut index = [0u16; index::NARROW];
-    match acceptance::judge(d, &mut index) {
+    match acceptance::judge(d, index) {
         Answer::Accepted => {
             let answer = Answer::Accepted;
-            let levels = hour_levels(d, &index, hour);
+            let levels = hour_levels(d, index, hour);
             LevelsAnswer { answer, levels }
         }
         Answer::Refused { number, place } => {
@@ -193,4 +193,12 @@ pub fn levels(d: &[u8], hour: u32) -> LevelsAnswer
             LevelsAnswer { answer, levels }
         }
     }
+}
+
+// The same.
+pub fn levels(d: &[u8], hour: u32) -> LevelsAnswer
+    ensures { λ r. ⌜ r ≡ levelsAnswer (now (d .entry)) hour ⌝ }
+{
+    let mut index = [0u16; index::NARROW];
+    levels_in(d, &mut index, hour)
 }

@@ -1,11 +1,8 @@
 use borrow.Author.Needs.{needs}
 use mathlib.Core.Path.{sym, _∙_}
 use Rattle.reference.proofs.Packed.{levels-accepted, levels-refused}
-use Rattle.reference.proofs.levels.Statement.{statement}
-use Rattle.reference.proofs.levels.Tie as tie
-
-slice-aggregate-judge : tie.Need-slice-aggregate-judge
-slice-aggregate-judge c = search needs
+use Rattle.reference.proofs.levels_in.Statement.{statement}
+use Rattle.reference.proofs.levels_in.Tie as tie
 
 judge-requires : tie.Need-judge-requires
 judge-requires c κs = search needs
@@ -13,13 +10,10 @@ judge-requires c κs = search needs
 enum-told : tie.Need-enum-told
 enum-told c = search needs
 
-slice-aggregate-hour-levels : tie.Need-slice-aggregate-hour-levels
-slice-aggregate-hour-levels c = search needs
-
 hour-levels-requires : tie.Need-hour-levels-requires
 hour-levels-requires c κs =
     let told = c .before .enum-told .given .1 in
-    let j = c .before .before .before .before in
+    let j = c .before .before .before .before .before in
     (record { clean = sym (j .judge .ensures .0) ∙ told }, j .judge .ensures .1 told)
 
 enum-known-number : tie.Need-enum-known-number
@@ -28,26 +22,32 @@ enum-known-number c = search needs
 no-levels-requires : tie.Need-no-levels-requires
 no-levels-requires c κs = search needs
 
+same-length : tie.Need-same-length
+same-length c = search needs
+
 returns : tie.Need-returns
 returns c =
-    let j = c .before .before .before .before .before in
+    let j = c .before .before .before .before .before .before in
     levels-accepted _ _ (sym (j .judge .ensures .0) ∙ c .before .before .enum-told .given .1) (c .hour-levels .ensures)
+
+same-length-2 : tie.Need-same-length-2
+same-length-2 c = search needs
 
 returns-2 : tie.Need-returns-2
 returns-2 c =
-    let j = c .before .before .before .before .before in
+    let j = c .before .before .before .before .before .before in
     levels-refused _ _ _ _ (sym (j .judge .ensures .0) ∙ c .before .before .number .given .1) (c .no-levels .ensures)
 
-pub levels-spec : {M : Type 1} → statement M
-levels-spec =
+pub levels-in-spec : {M : Type 1} → statement M
+levels-in-spec =
     tie.close
     (tie.spec
-    slice-aggregate-judge
     judge-requires
     enum-told
-    slice-aggregate-hour-levels
     hour-levels-requires
     enum-known-number
     no-levels-requires
+    same-length
     returns
+    same-length-2
     returns-2)
