@@ -7,7 +7,7 @@ ghost use Rattle.records.specs.Dossier.{records};
 ghost use Rattle.station.specs.Parameters.{parameters};
 ghost use Rattle.rules.specs.Answer.{IsAccepted};
 ghost use Rattle.formulas.specs.Levels.{levels};
-ghost use Rattle.lookup.specs.Parts.{Indexed};
+ghost use Rattle.lookup.specs.Parts.{Indexed, Empty};
 ghost use Rattle.limits.specs.Shapes.{thresholdOf};
 ghost use Rattle.verdicts.specs.Verdict.{offerVerdict, priceVerdict, onOffer, onPrice};
 use crate::refusals::offer_refusal;
@@ -71,24 +71,47 @@ fn price_verdict(
     }
 }
 
-// The conduct test of an energy offer, at an hour and under a condition.
+// The conduct test of an energy offer, at an hour and under a condition, worked out in an empty index.
+fn energy_test_in(d: &[u8], index: &mut [u16], hour: u32, condition: u8, offer: &[u8]) -> Verdict
+    requires { ⌜ Empty (now index) ⌝ }
+    ensures { λ r. ⌜ r ≡ onOffer (now (d .entry)) hour condition (now (offer .entry)) ⌝ }
+{
+    match acceptance::judge(d, index) {
+        Answer::Refused { number, place } => Verdict::Refused { number, place },
+        Answer::Accepted => offer_verdict(d, index, hour, condition, offer),
+    }
+}
+
+// The same.
 pub fn energy_test(d: &[u8], hour: u32, condition: u8, offer: &[u8]) -> Verdict
     ensures { λ r. ⌜ r ≡ onOffer (now (d .entry)) hour condition (now (offer .entry)) ⌝ }
 {
     let mut index = [0u16; index::NARROW];
-    match acceptance::judge(d, &mut index) {
+    energy_test_in(d, &mut index, hour, condition, offer)
+}
+
+// The conduct test of a single price in cents, for a level other than energy, worked out in an empty index.
+fn price_test_in(
+    d: &[u8],
+    index: &mut [u16],
+    hour: u32,
+    level: u8,
+    condition: u8,
+    price: i32,
+) -> Verdict
+    requires { ⌜ Empty (now index) ⌝ }
+    ensures { λ r. ⌜ r ≡ onPrice (now (d .entry)) hour level condition price ⌝ }
+{
+    match acceptance::judge(d, index) {
         Answer::Refused { number, place } => Verdict::Refused { number, place },
-        Answer::Accepted => offer_verdict(d, &index, hour, condition, offer),
+        Answer::Accepted => price_verdict(d, index, hour, level, condition, limits::biased(price)),
     }
 }
 
-// The conduct test of a single price in cents, for a level other than energy.
+// The same.
 pub fn price_test(d: &[u8], hour: u32, level: u8, condition: u8, price: i32) -> Verdict
     ensures { λ r. ⌜ r ≡ onPrice (now (d .entry)) hour level condition price ⌝ }
 {
     let mut index = [0u16; index::NARROW];
-    match acceptance::judge(d, &mut index) {
-        Answer::Refused { number, place } => Verdict::Refused { number, place },
-        Answer::Accepted => price_verdict(d, &index, hour, level, condition, limits::biased(price)),
-    }
+    price_test_in(d, &mut index, hour, level, condition, price)
 }

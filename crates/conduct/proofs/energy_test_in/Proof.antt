@@ -1,0 +1,48 @@
+use mathlib.Core.Path.{sym, _∙_}
+use Rattle.verdicts.specs.Verdict.{onOffer}
+use Rattle.verdicts.proofs.Settled.{settle-refused, settle-accepted}
+use borrow.Author.Needs.{needs}
+use Rattle.conduct.proofs.energy_test_in.Statement.{statement}
+use Rattle.conduct.proofs.energy_test_in.Tie as tie
+
+judge-requires : tie.Need-judge-requires
+judge-requires c κs = search needs
+
+enum-known-number : tie.Need-enum-known-number
+enum-known-number c = search needs
+
+enum-told : tie.Need-enum-told
+enum-told c = search needs
+
+offer-verdict-requires : tie.Need-offer-verdict-requires
+offer-verdict-requires c κs =
+    let e = c .before .enum-told .given .1 in
+    let j = c .before .before .before .before .before .judge .ensures in
+    (j .1 e, record { clean = sym (j .0) ∙ e })
+
+same-length : tie.Need-same-length
+same-length c = search needs
+
+returns : tie.Need-returns
+unfolding onOffer
+returns c = settle-refused _ (sym (c .before .before .before .before .before .judge .ensures .0) ∙ c .before .number .given .1)
+
+same-length-2 : tie.Need-same-length-2
+same-length-2 c = search needs
+
+returns-2 : tie.Need-returns-2
+unfolding onOffer
+returns-2 c = settle-accepted (sym (c .before .before .before .before .before .before .judge .ensures .0) ∙ c .before .before .enum-told .given .1) (c .offer-verdict .ensures)
+
+pub energy-test-in-spec : {M : Type 1} → statement M
+energy-test-in-spec =
+    tie.close
+    (tie.spec
+    judge-requires
+    enum-known-number
+    enum-told
+    offer-verdict-requires
+    same-length
+    returns
+    same-length-2
+    returns-2)

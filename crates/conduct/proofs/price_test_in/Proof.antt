@@ -1,0 +1,54 @@
+use mathlib.Core.Path.{ap, sym, _∙_}
+use mir.Facts.{toZ-ofZ}
+use Rattle.fields.specs.Numbers.{biasedOf}
+use Rattle.verdicts.specs.Verdict.{priceVerdict, onPrice}
+use Rattle.verdicts.proofs.Settled.{settle-refused, settle-accepted}
+use borrow.Author.Needs.{needs}
+use Rattle.conduct.proofs.price_test_in.Statement.{statement}
+use Rattle.conduct.proofs.price_test_in.Tie as tie
+
+judge-requires : tie.Need-judge-requires
+judge-requires c κs = search needs
+
+enum-known-number : tie.Need-enum-known-number
+enum-known-number c = search needs
+
+enum-told : tie.Need-enum-told
+enum-told c = search needs
+
+biased-requires : tie.Need-biased-requires
+biased-requires c κs = search needs
+
+price-verdict-requires : tie.Need-price-verdict-requires
+price-verdict-requires c κs =
+    let e = c .before .before .enum-told .given .1 in
+    let j = c .before .before .before .before .before .before .judge .ensures in
+    (j .1 e, record { clean = sym (j .0) ∙ e }, c .biased .ensures .1)
+
+same-length : tie.Need-same-length
+same-length c = search needs
+
+returns : tie.Need-returns
+unfolding onPrice
+returns c = settle-refused _ (sym (c .before .before .before .before .before .judge .ensures .0) ∙ c .before .number .given .1)
+
+same-length-2 : tie.Need-same-length-2
+same-length-2 c = search needs
+
+returns-2 : tie.Need-returns-2
+unfolding onPrice
+returns-2 c = settle-accepted (sym (c .before .before .before .before .before .before .before .judge .ensures .0) ∙ c .before .before .before .enum-told .given .1) (c .price-verdict .ensures ∙ ap (priceVerdict _ _ _ _) (c .before .biased .ensures .0 ∙ ap biasedOf (toZ-ofZ (c .before .before .before .before .before .before .before .before .before .before .before .fits .price))))
+
+pub price-test-in-spec : {M : Type 1} → statement M
+price-test-in-spec =
+    tie.close
+    (tie.spec
+    judge-requires
+    enum-known-number
+    enum-told
+    biased-requires
+    price-verdict-requires
+    same-length
+    returns
+    same-length-2
+    returns-2)
