@@ -3,6 +3,7 @@ ghost use mathlib.Core.Path.{_≡_};
 ghost use Prim.Native.Nat.{_≤_};
 ghost use lib.ListN.{length};
 ghost use Rattle.text.specs.Text.{over};
+ghost use Rattle.lookup.specs.Parts.{Empty};
 ghost use Rattle.layout.specs.Report.{shortFor, bufferWith, written, report, reportAnswer, bufferAfter, prints};
 ghost use Rattle.lines.specs.Parts.{packedReport};
 use layout::Written;
@@ -25,16 +26,25 @@ fn report_levels(lv: HourLevels, buf: &mut [u8]) -> Written
     }
 }
 
-// The report of a dossier at an hour, written to a lent buffer.
+// The report of a dossier at an hour, written to a lent buffer; worked out in an empty index.
+fn report_in(d: &[u8], index: &mut [u16], hour: u32, buf: &mut [u8]) -> Written
+    requires { ⌜ Empty (now index) ⌝ }
+    ensures answer { λ r. ⌜ r ≡ written (reportAnswer (now (d .entry)) hour (length (now (buf .entry)))) (length (report (now (d .entry)) hour)) ⌝ }
+    ensures buffer { λ r. ⌜ now (buf .exit) ≡ bufferAfter (now (d .entry)) hour (now (buf .entry)) ⌝ }
+{
+    match acceptance::judge(d, index) {
+        Answer::Accepted => report_levels(reference::hour_levels(d, index, hour), buf),
+        Answer::Refused { number, place } => Written::Refused { number, place },
+    }
+}
+
+// The same.
 pub fn report(d: &[u8], hour: u32, buf: &mut [u8]) -> Written
     ensures answer { λ r. ⌜ r ≡ written (reportAnswer (now (d .entry)) hour (length (now (buf .entry)))) (length (report (now (d .entry)) hour)) ⌝ }
     ensures buffer { λ r. ⌜ now (buf .exit) ≡ bufferAfter (now (d .entry)) hour (now (buf .entry)) ⌝ }
 {
     let mut index = [0u16; index::NARROW];
-    match acceptance::judge(d, &mut index) {
-        Answer::Accepted => report_levels(reference::hour_levels(d, &index, hour), buf),
-        Answer::Refused { number, place } => Written::Refused { number, place },
-    }
+    report_in(d, &mut index, hour, buf)
 }
 
 // All that the program prints for its whole input, a 4-byte hour and then the dossier. 2,283 bytes are enough for any of it.

@@ -1,15 +1,12 @@
--- `report::report` meets its contract.
+-- `report::report_in` meets its contract.
 use mathlib.Core.Path.{_≡_, sym, _∙_}
 use borrow.Author.Needs.{needs}
 use Rattle.records.specs.declared.Answer.{Answer}
 use Rattle.rules.specs.Answer.{answer}
 use Rattle.reference.proofs.Packed.{handed-shown, handed-count, handed-profile}
 use Rattle.report.proofs.Buffer.{packed-is, told-levels, told-refusal}
-use Rattle.report.proofs.report.Statement.{statement}
-use Rattle.report.proofs.report.Tie as tie
-
-slice-aggregate-judge : tie.Need-slice-aggregate-judge
-slice-aggregate-judge c = search needs
+use Rattle.report.proofs.report_in.Statement.{statement}
+use Rattle.report.proofs.report_in.Tie as tie
 
 judge-requires : tie.Need-judge-requires
 judge-requires c κs = search needs
@@ -17,22 +14,19 @@ judge-requires c κs = search needs
 enum-told : tie.Need-enum-told
 enum-told c = search needs
 
-slice-aggregate-hour-levels : tie.Need-slice-aggregate-hour-levels
-slice-aggregate-hour-levels c = search needs
-
 -- what `judge` found is the dossier's answer
-answer-is : (c : tie.After-judge) {a : Answer} → c .judge .result ≡ a → answer (c .before .before .before .before .args .d .now) ≡ a
+answer-is : (c : tie.After-judge) {a : Answer} → c .judge .result ≡ a → answer (c .before .before .before .before .before .args .d .now) ≡ a
 answer-is c e = sym (c .judge .ensures .0) ∙ e
 
 hour-levels-requires : tie.Need-hour-levels-requires
 hour-levels-requires c κs =
-    let j = c .before .before .before .before in
+    let j = c .before .before .before .before .before in
     let e = c .before .enum-told .given .1 in (record { clean = answer-is j e }, j .judge .ensures .1 e)
 
 report-levels-requires : tie.Need-report-levels-requires
 report-levels-requires c κs =
     let l = c .before in
-    let args = l .before .before .before .before .before .before .before .before .before .args in
+    let args = l .before .before .before .before .before .before .before .before .before .before .before .args in
     handed-count (args .d .now) (args .hour) (l .hour-levels .result) (l .hour-levels .ensures)
 
 enum-known-number : tie.Need-enum-known-number
@@ -41,33 +35,39 @@ enum-known-number c = search needs
 same-length : tie.Need-same-length
 same-length c = search needs
 
+same-length-2 : tie.Need-same-length-2
+same-length-2 c = search needs
+
 returns : tie.Need-returns
 returns c =
     let l = c .before .before .before .before in
-    let j = l .before .before .before .before .before in
-    let args = j .before .before .before .before .args in
+    let j = l .before .before .before .before .before .before in
+    let args = j .before .before .before .before .before .args in
     let told = c .before .before .report-levels .ensures in
     let r = l .hour-levels .result in
     told-levels (args .d .now) (args .hour) (args .buf .now) r (answer-is j (l .before .before .enum-told .given .1))
     (packed-is (args .d .now) (args .hour) r (handed-shown (args .d .now) (args .hour) r (l .hour-levels .ensures)) (handed-profile (args .d .now) (args .hour) r (l .hour-levels .ensures))) (told .0) (told .1)
 
+same-length-3 : tie.Need-same-length-3
+same-length-3 c = search needs
+
 returns-2 : tie.Need-returns-2
 returns-2 c =
-    let j = c .before .before .before .before in
-    let args = j .before .before .before .before .args in
+    let j = c .before .before .before .before .before in
+    let args = j .before .before .before .before .before .args in
     told-refusal (args .d .now) (args .hour) (args .buf .now) _ _ (answer-is j (c .before .number .given .1))
 
-pub report-spec : {M : Type 1} → statement M
-report-spec =
+pub report-in-spec : {M : Type 1} → statement M
+report-in-spec =
     tie.close
     (tie.spec
-    slice-aggregate-judge
     judge-requires
     enum-told
-    slice-aggregate-hour-levels
     hour-levels-requires
     report-levels-requires
     enum-known-number
     same-length
+    same-length-2
     returns
+    same-length-3
     returns-2)
