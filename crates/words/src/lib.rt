@@ -4,6 +4,7 @@ ghost use mathlib.Core.Path.{_≡_};
 ghost use mathlib.Core.List.{_++_};
 ghost use Prim.Native.Nat.{_≤_};
 ghost use lib.ListN.{length, take, drop, replicate};
+ghost use Rattle.lookup.specs.Parts.{Empty};
 ghost use Rattle.words.specs.Words.{heldBits, Blank, wordsTo, wordsOf, wordsAnswer, wordsAfter};
 use lists::choose;
 use records::Answer;
@@ -64,12 +65,12 @@ fn put_words(lv: HourLevels, words: &mut [u64])
     words[65] = lv.reserve;
 }
 
-// The levels of a dossier at an hour, as words in a lent list.
-pub fn levels_words(d: &[u8], hour: u32, words: &mut [u64]) -> Answer
+// The levels of a dossier at an hour, as words in a lent list; worked out in an empty index.
+fn levels_words_in(d: &[u8], index: &mut [u16], hour: u32, words: &mut [u64]) -> Answer
+    requires { ⌜ Empty (now index) ⌝ }
     ensures { λ r. ⌜ (r ≡ wordsAnswer (now (d .entry)) hour (length (now (words .entry)))) × (now (words .exit) ≡ wordsAfter (now (d .entry)) hour (now (words .entry))) ⌝ }
 {
-    let mut index = [0u16; index::NARROW];
-    match acceptance::judge(d, &mut index) {
+    match acceptance::judge(d, index) {
         Answer::Accepted => {
             if words.len() < 66 {
                 return Answer::Refused {
@@ -77,9 +78,17 @@ pub fn levels_words(d: &[u8], hour: u32, words: &mut [u64]) -> Answer
                     place: 0,
                 };
             }
-            put_words(reference::hour_levels(d, &index, hour), words);
+            put_words(reference::hour_levels(d, index, hour), words);
             Answer::Accepted
         }
         Answer::Refused { number, place } => Answer::Refused { number, place },
     }
+}
+
+// The same.
+pub fn levels_words(d: &[u8], hour: u32, words: &mut [u64]) -> Answer
+    ensures { λ r. ⌜ (r ≡ wordsAnswer (now (d .entry)) hour (length (now (words .entry)))) × (now (words .exit) ≡ wordsAfter (now (d .entry)) hour (now (words .entry))) ⌝ }
+{
+    let mut index = [0u16; index::NARROW];
+    levels_words_in(d, &mut index, hour, words)
 }

@@ -1,14 +1,11 @@
--- `words::levels_words` meets its contract.
+-- `words::levels_words_in` meets its contract.
 use mathlib.Core.Path.{_≡_, sym, _∙_}
 use borrow.Author.Needs.{needs}
 use Rattle.records.specs.declared.Answer.{Answer}
 use Rattle.rules.specs.Answer.{answer}
 use Rattle.words.proofs.Answers.{handed-blank, told-words, told-few, told-refusal}
-use Rattle.words.proofs.levels_words.Statement.{statement}
-use Rattle.words.proofs.levels_words.Tie as tie
-
-slice-aggregate-judge : tie.Need-slice-aggregate-judge
-slice-aggregate-judge c = search needs
+use Rattle.words.proofs.levels_words_in.Statement.{statement}
+use Rattle.words.proofs.levels_words_in.Tie as tie
 
 judge-requires : tie.Need-judge-requires
 judge-requires c κs = search needs
@@ -17,60 +14,67 @@ enum-told : tie.Need-enum-told
 enum-told c = search needs
 
 -- what `judge` found is the dossier's answer
-answer-is : (c : tie.After-judge) {a : Answer} → c .judge .result ≡ a → answer (c .before .before .before .before .args .d .now) ≡ a
+answer-is : (c : tie.After-judge) {a : Answer} → c .judge .result ≡ a → answer (c .before .before .before .before .before .args .d .now) ≡ a
 answer-is c e = sym (c .judge .ensures .0) ∙ e
+
+same-length : tie.Need-same-length
+same-length c = search needs
 
 returns : tie.Need-returns
 returns c =
-    let j = c .before .before .before .before in
-    let args = j .before .before .before .before .args in
+    let j = c .before .before .before .before .before in
+    let args = j .before .before .before .before .before .args in
     told-few (args .d .now) (args .hour) (args .words .now) (answer-is j (c .before .enum-told .given .1)) (c .if1 .taken)
-
-slice-aggregate-hour-levels : tie.Need-slice-aggregate-hour-levels
-slice-aggregate-hour-levels c = search needs
 
 hour-levels-requires : tie.Need-hour-levels-requires
 hour-levels-requires c κs =
-    let j = c .before .before .before .before .before in
+    let j = c .before .before .before .before .before .before in
     let e = c .before .before .enum-told .given .1 in (record { clean = answer-is j e }, j .judge .ensures .1 e)
 
 put-words-requires : tie.Need-put-words-requires
 put-words-requires c κs =
-    let a = c .before .before .before .before .before .before .before .before .before .before .before .args in
+    let a = c .before .before .before .before .before .before .before .before .before .before .before .before .before .args in
     (search needs, handed-blank (a .d .now) (a .hour) (c .before .hour-levels .ensures))
 
 enum-known-number : tie.Need-enum-known-number
 enum-known-number c = search needs
 
-same-length : tie.Need-same-length
-same-length c = search needs
+same-length-2 : tie.Need-same-length-2
+same-length-2 c = search needs
+
+same-length-3 : tie.Need-same-length-3
+same-length-3 c = search needs
 
 returns-2 : tie.Need-returns-2
 returns-2 c =
     let l = c .before .before .before .before in
-    let j = l .before .before .before .before .before .before in
-    let args = j .before .before .before .before .args in
+    let j = l .before .before .before .before .before .before .before in
+    let args = j .before .before .before .before .before .args in
     told-words (args .d .now) (args .hour) (args .words .now) (l .hour-levels .result) (answer-is j (l .before .before .before .enum-told .given .1)) (l .before .before .if1 .left)
     (l .hour-levels .ensures) (c .before .before .put-words .ensures)
 
+same-length-4 : tie.Need-same-length-4
+same-length-4 c = search needs
+
 returns-3 : tie.Need-returns-3
 returns-3 c =
-    let j = c .before .before .before .before in
-    let args = j .before .before .before .before .args in
+    let j = c .before .before .before .before .before in
+    let args = j .before .before .before .before .before .args in
     told-refusal (args .d .now) (args .hour) (args .words .now) _ _ (answer-is j (c .before .number .given .1))
 
-pub levels-words-spec : {M : Type 1} → statement M
-levels-words-spec =
+pub levels-words-in-spec : {M : Type 1} → statement M
+levels-words-in-spec =
     tie.close
     (tie.spec
-    slice-aggregate-judge
     judge-requires
     enum-told
+    same-length
     returns
-    slice-aggregate-hour-levels
     hour-levels-requires
     put-words-requires
     enum-known-number
-    same-length
+    same-length-2
+    same-length-3
     returns-2
+    same-length-4
     returns-3)
