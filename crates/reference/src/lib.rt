@@ -195,10 +195,14 @@ fn levels_in(d: &[u8], index: &mut [u16], hour: u32) -> LevelsAnswer
     }
 }
 
-// The same.
+// The same. For a thermal or nuclear station a short index is likely enough, and sooner made.
 pub fn levels(d: &[u8], hour: u32) -> LevelsAnswer
     ensures { λ r. ⌜ r ≡ levelsAnswer (now (d .entry)) hour ⌝ }
 {
+    if lookup::lean(d) {
+        let mut index = [0u16; index::SHORT];
+        return levels_in(d, &mut index, hour);
+    }
     let mut index = [0u16; index::NARROW];
     levels_in(d, &mut index, hour)
 }
