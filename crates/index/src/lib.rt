@@ -63,7 +63,7 @@ fn higher_of(a: usize, b: usize) -> usize
 }
 
 // A slot holds the place of its record plus 1, 0 for none: two bytes, so that an empty index is soon made. The issue is read where the record lies.
-// The slots of FP come last, and few dossiers have any, so an index may end before them; a record without a slot is passed over, as the highest slot tells.
+// Few dossiers have the marks whose slots come last, so an index may end before them; a record without a slot is passed over, as the highest slot tells.
 pub fn pass(d: &[u8], index: &mut [u16]) -> Passed
     requires { ⌜ length (now d) ≤ 60000 ⌝ }
     ensures { λ r. ⌜ (r ≡ passOf (walk (keepStep (now (d .entry))) (kept (now (index .entry)) true 0) (now (d .entry)))) × (now (index .exit) ≡ slotsOf (now (index .exit)) (walk (keepStep (now (d .entry))) (kept (now (index .entry)) true 0) (now (d .entry)))) ⌝ }
