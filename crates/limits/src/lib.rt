@@ -171,7 +171,7 @@ fn failing_lamination<'a>(
 }
 
 // The test of an energy offer: each pair in turn.
-pub fn offer_test(lv: HourLevels, t: Threshold, offer: &[u8]) -> Verdict
+fn offer_test(lv: HourLevels, t: Threshold, offer: &[u8]) -> Verdict
     requires { ⌜ (lv .count ≤ 20) × (length (now offer) ≤ 120) ⌝ }
     ensures { λ r. ⌜ r ≡ offerShown t (unpacked lv) (now (offer .entry)) 0 (length (now (offer .entry)) / 6) ⌝ }
 {
