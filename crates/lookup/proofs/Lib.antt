@@ -1,3 +1,4 @@
 pub mod Parts
 pub mod Opening
 pub mod Lookup
+pub mod Guess

@@ -217,6 +217,10 @@ pub point-key : (n : ℕ) → 1 ≤ n → n ≤ 21 → InKey 2 n
 unfolding shapeOf shape rowOf table
 point-key n a b = one-field 2 n (lit≤ tt) (lit< tt) refl a b
 
+pub item-key : (p j : ℕ) → 1 ≤ p → p ≤ 4 → 1 ≤ j → j ≤ 8 → InKey 5 (p * 256 + j)
+unfolding shapeOf shape rowOf table
+item-key p j a b x y = two-field 5 p j (lit≤ tt) (lit< tt) refl refl a b x y (lit< tt)
+
 pub request-key : (n : ℕ) → 1 ≤ n → n ≤ 16 → InKey 6 n
 unfolding shapeOf shape rowOf table
 request-key n a b = one-field 6 n (lit≤ tt) (lit< tt) refl a b

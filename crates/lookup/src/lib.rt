@@ -22,12 +22,34 @@ pub struct Part {
     pub length: usize,
 }
 
-// Whether a short index is likely enough: the dossier begins with the RS of a thermal or nuclear station. Nothing rests on it.
+// Whether a short index is likely enough: of the first records the RS of a thermal or nuclear station comes first, or none is of a mark that
+// only other stations have. Nothing rests on it.
 pub fn lean(d: &[u8]) -> bool
     ensures { λ r. ⌜ r ≡ lean (now (d .entry)) ⌝ }
 {
-    let t = fields::u8_at(d, 6);
-    records::is_mark(d, b"RS") & ((t == 1) | (t == 2))
+    let mut at = 0;
+    let mut i = 0usize;
+    while i < 8 {
+        if d.len() <= at {
+            return true;
+        }
+        let rest = &d[at..];
+        if records::is_mark(rest, b"RS") {
+            let t = fields::u8_at(rest, 6);
+            return (t == 1) | (t == 2);
+        }
+        let k = records::kind_at(rest);
+        if (k == 7) | (k == 8) | (k == 10) | (k == 11) {
+            return false;
+        }
+        if k == 0 {
+            return true;
+        }
+        let m = records::mark_shape(k);
+        at += m.length;
+        i += 1;
+    }
+    true
 }
 
 // The first part of it: 13, 1 to 3, and the index.

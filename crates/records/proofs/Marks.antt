@@ -43,6 +43,10 @@ pub size-least : (k : ℕ) → (k ≡ 0 → ⊥) → k < kinds → shortest ≤ 
 unfolding size widths rowOf table
 size-least = by-mark (λ k. shortest ≤ size k) (lit≤ tt) (lit≤ tt) (lit≤ tt) (lit≤ tt) (lit≤ tt) (lit≤ tt) (lit≤ tt) (lit≤ tt) (lit≤ tt) (lit≤ tt) (lit≤ tt)
 
+pub size-most : (k : ℕ) → (k ≡ 0 → ⊥) → k < kinds → size k ≤ 31
+unfolding size widths rowOf table
+size-most = by-mark (λ k. size k ≤ 31) (lit≤ tt) (lit≤ tt) (lit≤ tt) (lit≤ tt) (lit≤ tt) (lit≤ tt) (lit≤ tt) (lit≤ tt) (lit≤ tt) (lit≤ tt) (lit≤ tt)
+
 -- ---- its letters
 
 in-letters : (k : ℕ) (l : List Row) (a b m : ℕ) → markIn k l a b ≡ m → (m ≡ 0 → ⊥) → (k ≤ m) × (eqb a (getD l (m - k) noRow .first) && eqb b (getD l (m - k) noRow .second) ≡ true)

@@ -1,5 +1,5 @@
 -- What it takes for a record of each mark to fit a technology.
-use mathlib.Core.Path.{_≡_, refl, sym, _∙_}
+use mathlib.Core.Path.{_≡_, refl, sym, subst, _∙_}
 use mathlib.Core.Bool.{Bool, true, false, cond, _&&_, _||_, not}
 use mathlib.Core.List.{List, [], _∷_}
 use Prim.Native.Nat.{ℕ, zero, suc, _/_, _%_, _≤_, _<_}
@@ -123,30 +123,30 @@ module _ (t : ℕ) (s : List ℕ) (known : Known t) where
   unfolding fits ruleFits fieldFits allBelow among value read offset offsetIn fieldOf rowOf table
   fits-rq = by-technology (λ t. true ≡ fits t 6 s) refl refl refl refl t known
 
--- ---- a thermal station has every level, so AD fits unless its cost is 5, and TH fits
+-- ---- AD and TH by their keys
 
-held-four : (v : ℕ) → 1 ≤ v → v ≤ 4 → holds 1 v ≡ true
+nuclear-level : (v : ℕ) → holds 2 v ≡ true → eqb v 1 ≡ true
 unfolding holds levelsOf among
-held-four zero a b = absurd (omega arith)
-held-four (suc zero) a b = refl
-held-four (suc (suc zero)) a b = refl
-held-four (suc (suc (suc zero))) a b = refl
-held-four (suc (suc (suc (suc zero)))) a b = refl
-held-four (suc (suc (suc (suc (suc v))))) a b = absurd (omega arith)
+nuclear-level v e = sym (or-false (eqb v 1)) ∙ e
 
-module _ (s : List ℕ) where
-  pub thermal-ad : rangesHold 4 s ≡ true → (number 6 3 s / 256 % 256 ≡ 5 → ⊥) → fits 1 4 s ≡ true
+module _ (t : ℕ) (s : List ℕ) (known : Known t) where
+  -- AD fits if its level is held and its cost is another than 5, or the station is nuclear
+  pub held-ad : rangesHold 4 s ≡ true → holds t (number 6 3 s % 256) ≡ true → (number 6 3 s / 256 % 256 ≡ 5 → t ≡ 2) → fits t 4 s ≡ true
   unfolding inRange value read offset offsetIn fieldOf rowOf table number
-  thermal-ad h n =
+  held-ad h e f =
       let c : between 1 5 (number 7 1 s) ≡ true = field-in 4 1 s h (lit< tt) in
       let v : between 1 4 (number 8 1 s) ≡ true = field-in 4 2 s h (lit< tt) in
-      let low = between-low 1 4 (number 8 1 s) v in
-      let high = between-high 1 4 (number 8 1 s) v in
-      sym (fits-ad 1 s (omega arith, omega arith))
-      ∙ rw (held-four (number 8 1 s) low high, ne-eqb (number 7 1 s) 5 (λ e. n (omega (arith, e, high)))) refl
+      let high = between-high 1 5 (number 7 1 s) c in
+      let low = between-high 1 4 (number 8 1 s) v in
+      let g : holds t (number 8 1 s) ≡ true = subst (λ (n : ℕ). holds t n ≡ true) (omega (arith, low)) e in
+      sym (fits-ad t s known)
+      ∙ split (eqb (number 7 1 s) 5)
+      (λ w. let two : t ≡ 2 = f (omega (arith, eqb-true (number 7 1 s) 5 w, low)) in rw (g, w, two, nuclear-level (number 8 1 s) (subst (λ (x : ℕ). holds x (number 8 1 s) ≡ true) two g)) refl)
+      (λ w. rw (g, w) refl)
 
-  pub thermal-th : rangesHold 9 s ≡ true → fits 1 9 s ≡ true
-  unfolding inRange value read offset offsetIn fieldOf rowOf table
-  thermal-th h =
+  -- TH fits if its level is held
+  pub held-th : rangesHold 9 s ≡ true → holds t (number 6 2 s % 256) ≡ true → fits t 9 s ≡ true
+  unfolding inRange value read offset offsetIn fieldOf rowOf table number
+  held-th h e =
       let v : between 1 4 (number 7 1 s) ≡ true = field-in 9 1 s h (lit< tt) in
-      sym (fits-th 1 s (omega arith, omega arith)) ∙ held-four (number 7 1 s) (between-low 1 4 (number 7 1 s) v) (between-high 1 4 (number 7 1 s) v)
+      sym (fits-th t s known) ∙ subst (λ (n : ℕ). holds t n ≡ true) (omega (arith, between-high 1 4 (number 7 1 s) v)) e

@@ -12,7 +12,7 @@ use lib.Dec.{leb, ltb, eqb, lit≤, lit<}
 use lib.ListN.{length, getD}
 use borrow.Author.Tests.{lt-ltb, le-ltb, le-leb, lt-leb, leb-true, eqb-true, eq-eqb, ne-eqb}
 use Rattle.lists.specs.Tests.{allTo, countTo}
-use Rattle.lists.proofs.Tests.{and-true, below-at, and-left, and-right, and-both, between-low, between-high}
+use Rattle.lists.proofs.Tests.{and-true, below-at, and-left, and-right, and-both, to-next, to-at, at-to, between-low, between-high}
 use Rattle.fields.specs.Numbers.{number}
 use Rattle.fields.proofs.Numbers.{number-nil}
 use Rattle.records.specs.Table.{table, rowOf, fieldOf, RS, HP, FU, RQ, HR, FP}
@@ -35,27 +35,9 @@ use Rattle.rules.proofs.Sound.{clean-range, clean-agrees}
 
 -- ---- tests of 1 to n
 
-pub to-next : (i : ℕ) (f : ℕ → Bool) {a b : Bool} → a ≡ allTo i f → b ≡ f (i + 1) → a && b ≡ allTo (i + 1) f
-unfolding allTo
-to-next i f p q = rw (p, q, add-one i) refl
-
 pub count-next : (i : ℕ) (f : ℕ → Bool) {a b : ℕ} → a ≡ countTo i f → b ≡ cond (f (i + 1)) 1 0 → a + b ≡ countTo (i + 1) f
 unfolding countTo
 count-next i f p q = rw (p, q, add-one i) refl
-
-to-at : (n : ℕ) (f : ℕ → Bool) → allTo n f ≡ true → (i : ℕ) → 1 ≤ i → i ≤ n → f i ≡ true
-unfolding allTo
-to-at zero f e i p q = absurd (omega arith)
-to-at (suc n) f e i p q = go (ℕ-discrete i (suc n)) (λ h. to-at n f (and-left (allTo n f) (f (suc n)) e) i p h)
-  where
-    go : Dec (i ≡ suc n) → (i ≤ n → f i ≡ true) → f i ≡ true
-    go (yes h) g = rw h (and-right (allTo n f) (f (suc n)) e)
-    go (no h) g = g (omega (arith, lt-of-le-ne q h))
-
-at-to : (n : ℕ) (f : ℕ → Bool) → ((i : ℕ) → 1 ≤ i → i ≤ n → f i ≡ true) → allTo n f ≡ true
-unfolding allTo
-at-to zero f h = refl
-at-to (suc n) f h = and-both (allTo n f) (f (suc n)) (at-to n f (λ i p q. h i p (omega arith))) (h (suc n) (omega arith) (omega arith))
 
 same-tests : (a b : Bool) → (a ≡ true → b ≡ true) → (b ≡ true → a ≡ true) → a ≡ b
 same-tests true b p q = sym (p refl)

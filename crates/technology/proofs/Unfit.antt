@@ -6,14 +6,15 @@ use mathlib.Core.Logic.{_⊎_, inl, inr}
 use Prim.Native.Nat.{ℕ, zero, suc, _+_, _-_, _*_, _/_, _%_, _≤_, _<_}
 use native.Mathlib.Numerals.{add-one}
 use native.Mathlib.Omega.{arith}
+use lib.Bits.{bitOr}
 use lib.Dec.{ltb, eqb}
 use lib.ListN.{length, getD, take, drop, length-take, length-drop, drop-of-length-le, List·getD-eq-default}
 use lib.Seq.{drop-drop}
 use borrow.Author.Tests.{ltb-true, ltb-false, eqb-true, eqb-false, eq-eqb, ne-eqb}
 use Rattle.lists.specs.Lists.{Each, done, also, Member, here, there}
-use Rattle.lists.specs.Tests.{allBelow}
+use Rattle.lists.specs.Tests.{allBelow, allTo}
 use Rattle.lists.proofs.Lists.{member-each}
-use Rattle.lists.proofs.Tests.{and-true, and-left, and-right, split, below-at, below-same}
+use Rattle.lists.proofs.Tests.{and-true, and-left, and-right, split, below-at, below-same, to-at, at-to, or-none}
 use Rattle.fields.specs.Numbers.{number}
 use Rattle.fields.proofs.Numbers.{number-join}
 use Rattle.records.specs.declared.Answer.the-variants.{Accepted, Refused}
@@ -39,10 +40,10 @@ use Rattle.index.specs.Slots.{narrow, slotAt, slot, slotsEmpty}
 use Rattle.index.proofs.Slots.{Spans, InKey, in-key, at-mark, low, high, limits}
 use Rattle.index.proofs.Turn.{tail, its-slot as found-slot}
 use Rattle.lookup.specs.Parts.{part, bytesOf, placeAt, partAt, Indexed, Complete, UpTo}
-use Rattle.lookup.proofs.Parts.{part-current}
+use Rattle.lookup.proofs.Parts.{part-current, current-none, slot-fits, item-key}
 use Rattle.rules.specs.Fit.{Known, holds, fieldFits, ruleFits, fits, isCurrent, unfit}
-use Rattle.technology.specs.Looked.{heldFits, slotFits, slotsFit, thermalFit, pricedFit, otherFit, allFit, notFit}
-use Rattle.rules.proofs.ByMark.{fits-rs, fits-hp, fits-fu, fits-mm, fits-rq, fits-none, fits-hr, fits-ch, fits-fp, thermal-ad, thermal-th}
+use Rattle.technology.specs.Looked.{fourthsEmpty, pointsFit, itemsFit, profilesFit, levelFits, proratedFit, pricedFit, allFit, notFit}
+use Rattle.rules.proofs.ByMark.{fits-hp, fits-fu, fits-mm, fits-rq, fits-hr, fits-ch, fits-fp, fits-lc, held-ad, held-th}
 use Rattle.rules.proofs.Sound.{each-unfit}
 
 -- ---- a record cut from the rest fits as the rest does
@@ -106,211 +107,211 @@ three true true c h = (refl, refl, h)
 three true false c h = absurd (false≢true h)
 three false b c h = absurd (false≢true h)
 
-part-there : (d ix : List ℕ) (j n : ℕ) (r : List ℕ) → (r ≡ [] → ⊥) → partAt d ix j n ≡ r → (eqb (getD ix j 0) 0 ≡ false) × (take n (drop (getD ix j 0 - 1) d) ≡ r)
-unfolding partAt bytesOf placeAt
-part-there d ix j n r z = go (eqb (getD ix j 0) 0) (ltb (length d) (getD ix j 0 - 1 + n))
-  where
-    go : (a b : Bool) → bytesOf d (cond (a || b) (part 0 0) (part (getD ix j 0 - 1) n)) ≡ r → (a ≡ false) × (take n (drop (getD ix j 0 - 1) d) ≡ r)
-    go true b e = absurd (z (sym e))
-    go false true e = absurd (z (sym e))
-    go false false e = (refl, e)
+-- of two tests the one that fails leaves the other
+or-right : (a b : Bool) → a ≡ false → a || b ≡ true → b ≡ true
+or-right a b z e = rw z at e
+
+module _ (ix : List ℕ) where
+  -- a slot of an empty range is empty
+  in-empty : (a n j : ℕ) → slotsEmpty ix a n ≡ true → a ≤ j → j < a + n → eqb (getD ix j 0) 0 ≡ true
+  unfolding slotsEmpty
+  in-empty a n j e p q =
+      let k : a + (j - a) ≡ j = omega arith in
+      rw k at (below-at n (λ i. eqb (getD ix (a + i) 0) 0) e (j - a) (omega arith))
+
+  in-fourths : (a n i j : ℕ) → fourthsEmpty ix a n ≡ true → i < n → a + 4 * i ≡ j → eqb (getD ix j 0) 0 ≡ true
+  unfolding fourthsEmpty
+  in-fourths a n i j e p q = rw q at (below-at n (λ i. eqb (getD ix (a + 4 * i) 0) 0) e i p)
 
 module _ (t : ℕ) (d ix rs : List ℕ) (top : ℕ) where
-  region : (a n j : ℕ) → slotsFit t d ix a n ≡ true → a ≤ j → j < a + n → slotFits t d ix j ≡ true
-  unfolding slotsFit
-  region a n j e p q =
-      subst (λ (i : ℕ). slotFits t d ix i ≡ true) (omega arith) (below-at n (λ i. slotFits t d ix (a + i)) e (j - a) (omega arith))
+  -- the current record of the mark and key fits, if it has a slot that is not empty and not above the highest
+  abbrev Fit : ℕ → ℕ → Type 0
+  Fit k n =
+      (s : List ℕ) → rangesHold k s ≡ true → number 6 (keyWidth k) s ≡ n → current k n (records d) ≡ s → slot k n ≤ top → eqb (getD ix (slot k n) 0) 0 ≡ false → fits t k s ≡ true
 
-  empty-fits : (a n j : ℕ) → slotsEmpty ix a n ≡ true → a ≤ j → j < a + n → slotFits t d ix j ≡ true
-  unfolding slotsEmpty slotFits
-  empty-fits a n j e p q =
-      let k : a + (j - a) ≡ j = omega arith in
-      let g : eqb (getD ix j 0) 0 ≡ true = rw k at (below-at n (λ i. eqb (getD ix (a + i) 0) 0) e (j - a) (omega arith)) in
-      rw g refl
-
-  -- the current record of the mark and key fits if its slot is not above the highest, or the slot was looked at
-  abbrev Looked : ℕ → ℕ → Type 0
-  Looked k n = ((s : List ℕ) → rangesHold k s ≡ true → number 6 (keyWidth k) s ≡ n → current k n (records d) ≡ s → slot k n ≤ top → fits t k s ≡ true) ⊎ (slotFits t d ix (slot k n) ≡ true)
+  -- there is none
+  empty-fit : (k n : ℕ) → eqb (getD ix (slot k n) 0) 0 ≡ true → Fit k n
+  empty-fit k n e s _ _ _ _ z = absurd (false≢true (sym z ∙ e))
 
   module _ (known : Known t) (same : rs ≡ current 1 0 (records d)) (e : allFit t d ix rs top ≡ true) where
+    placed : eqb t 4 || not (ltb narrow (length ix)) ≡ true
+    unfolding allFit
+    placed = and-left _ _ e
+
+    parts : (fits t 1 rs && pointsFit t ix && profilesFit t d && allTo 4 (levelFits t ix) ≡ true) × (proratedFit t ix ≡ true) × (pricedFit t ix top ≡ true)
+    unfolding allFit
+    parts = three _ _ _ (and-right (eqb t 4 || not (ltb narrow (length ix))) _ e)
+
+    first-parts : (fits t 1 rs && pointsFit t ix ≡ true) × (profilesFit t d ≡ true) × (allTo 4 (levelFits t ix) ≡ true)
+    first-parts = three _ _ _ (parts .0)
+
+    fit-rs : (n : ℕ) → InKey 1 n → Fit 1 n
+    unfolding Spans shapeOf shape rowOf table
+    fit-rs n q s _ _ c _ _ =
+        let z : n ≡ 0 = omega (arith, q .spans) in
+        subst (λ (r : List ℕ). fits t 1 r ≡ true) (same ∙ ap (λ (i : ℕ). current 1 i (records d)) (sym z) ∙ c) (and-left (fits t 1 rs) (pointsFit t ix) (first-parts .0))
+
+    fit-hp : (n : ℕ) → InKey 2 n → Fit 2 n
+    unfolding low high
+    fit-hp n q =
+        split (eqb t 1)
+        (λ w s _ _ _ _ _. sym (fits-hp t s known) ∙ w)
+        (λ w. empty-fit 2 n (in-empty ix 1 21 (slot 2 n) (or-right (eqb t 1) _ w (and-right (fits t 1 rs) (pointsFit t ix) (first-parts .0))) (omega (arith, limits 2 n q)) (omega (arith, limits 2 n q))))
+
+    -- FU and MM of a profile, of a station that is not thermal
+    profile-parts : eqb t 1 ≡ false → (p : ℕ) → 1 ≤ p → p ≤ 4 → (fits t 3 (current 3 p (records d)) ≡ true) × (itemsFit t d p ≡ true)
+    unfolding profilesFit
+    profile-parts w p a b =
+        let z = to-at 4 (λ p. fits t 3 (current 3 p (records d)) && itemsFit t d p) (or-right (eqb t 1) _ w (first-parts .1)) p a b in
+        (and-left _ _ z, and-right (fits t 3 (current 3 p (records d))) _ z)
+
+    fit-fu : (n : ℕ) → InKey 3 n → Fit 3 n
+    unfolding Spans shapeOf shape rowOf table
+    fit-fu n q =
+        split (eqb t 1)
+        (λ w s _ _ _ _ _. sym (fits-fu t s known) ∙ rw (eqb-true t 1 w) refl)
+        (λ w s _ _ c _ _. subst (λ (r : List ℕ). fits t 3 r ≡ true) c (profile-parts w n (omega (arith, q .spans)) (omega (arith, q .spans)) .0))
+
+    fit-mm : (n : ℕ) → InKey 5 n → Fit 5 n
+    unfolding itemsFit Spans shapeOf shape rowOf table
+    fit-mm n q =
+        split (eqb t 1)
+        (λ w s _ _ _ _ _. sym (fits-mm t s known) ∙ rw w refl)
+        (λ w s _ _ c _ _.
+        let z = profile-parts w (n / 256) (omega (arith, q .spans)) (omega (arith, q .spans)) .1 in
+        let k : n / 256 * 256 + n % 256 ≡ n = omega arith in
+        subst (λ (r : List ℕ). fits t 5 r ≡ true) (ap (λ (i : ℕ). current 5 i (records d)) k ∙ c) (to-at 8 (λ j. fits t 5 (current 5 (n / 256 * 256 + j) (records d))) z (n % 256) (omega (arith, q .spans)) (omega (arith, q .spans))))
+
+    -- a level that is not held has no slot of AD and none of TH
+    unheld : (v : ℕ) → holds t v ≡ false → 1 ≤ v → v ≤ 4 → (fourthsEmpty ix (25 + v) 20 ≡ true) × (fourthsEmpty ix (153 + v) 3 ≡ true)
+    unfolding levelFits
+    unheld v w a b =
+        let z = or-right (holds t v) _ w (to-at 4 (levelFits t ix) (first-parts .2) v a b) in
+        (and-left _ _ z, and-right (fourthsEmpty ix (25 + v) 20) _ z)
+
+    fit-th : (n : ℕ) → InKey 9 n → Fit 9 n
+    unfolding slot keyWidth keyIn Spans shapeOf shape rowOf table
+    fit-th n q =
+        split (holds t (n % 256))
+        (λ w s g i _ _ _. held-th t s known g (rw (← i) at w))
+        (λ w. empty-fit 9 n (in-fourths ix (153 + n % 256) 3 (n / 256 - 1) (slot 9 n) (unheld (n % 256) w (omega (arith, q .spans)) (omega (arith, q .spans)) .1) (omega (arith, q .spans)) (omega (arith, q .spans))))
+
+    -- an AD of cost 5 would stand in one of four slots of its profile
+    prorated : eqb t 2 ≡ false → (n : ℕ) → InKey 4 n → n / 256 % 256 ≡ 5 → eqb (getD ix (slot 4 n) 0) 0 ≡ true
+    unfolding slot Spans shapeOf shape rowOf table
+    prorated w n q five =
+        let p = n / 65536 - 1 in
+        in-empty ix (42 + 20 * p) 4 (slot 4 n) (below-at 4 (λ p. slotsEmpty ix (42 + 20 * p) 4) (or-right (eqb t 2) _ w (parts .1)) p (omega (arith, q .spans))) (omega (arith, q .spans, five)) (omega (arith, q .spans, five))
+
+    fit-ad : (n : ℕ) → InKey 4 n → Fit 4 n
+    unfolding slot keyWidth keyIn Spans shapeOf shape rowOf table
+    fit-ad n q =
+        split (holds t (n % 256))
+        (λ w s g i _ _ z.
+        held-ad t s known g (rw (← i) at w)
+        (λ five. split (eqb t 2) (eqb-true t 2) (λ x. absurd (false≢true (sym z ∙ prorated x n q (sym (ap (λ (m : ℕ). m / 256 % 256) i) ∙ five))))))
+        (λ w. empty-fit 4 n (in-fourths ix (25 + n % 256) 20 (5 * (n / 65536 - 1) + (n / 256 % 256 - 1)) (slot 4 n) (unheld (n % 256) w (omega (arith, q .spans)) (omega (arith, q .spans)) .0) (omega (arith, q .spans)) (omega (arith, q .spans))))
+
+    -- HR, CH and LC: storage, or there is none
+    fit-priced : (k n : ℕ) → ((s : List ℕ) → eqb t 3 ≡ fits t k s) → 166 ≤ slot k n → slot k n < 2351 → Fit k n
+    fit-priced k n f a b =
+        split (ltb top 166)
+        (λ w s _ _ _ g _. absurd (omega (arith, a, g, ltb-true top 166 w)))
+        (λ w.
+        split (eqb t 3)
+        (λ x s _ _ _ _ _. sym (f s) ∙ x)
+        (λ x. empty-fit k n (in-empty ix 166 2185 (slot k n) (and-right (not (ltb (length ix) narrow)) _ (rw (w, x) at (parts .2))) a b)))
+
     -- a slot beyond the index is empty
-    no-place : (n : ℕ) → InKey 10 n → eqb t 4 ≡ false → slotFits t d ix (slot 10 n) ≡ true
-    unfolding allFit slotFits low
-    no-place n q z =
+    fit-fp : (n : ℕ) → InKey 10 n → Fit 10 n
+    unfolding low
+    fit-fp n q =
+        split (eqb t 4)
+        (λ w s _ _ _ _ _. sym (fits-fp t s known) ∙ w)
+        (λ w.
         split (ltb narrow (length ix))
-        (λ x. absurd (false≢true (rw (z, x) at (and-left (eqb t 4 || not (ltb narrow (length ix))) _ e))))
-        (λ x. rw (List·getD-eq-default ix 0 {n = slot 10 n} (omega (arith, ltb-false narrow (length ix) x, limits 10 n q))) refl)
+        (λ x. absurd (false≢true (rw (w, x) at placed)))
+        (λ x. empty-fit 10 n (rw (List·getD-eq-default ix 0 {n = slot 10 n} (omega (arith, ltb-false narrow (length ix) x, limits 10 n q))) refl)))
 
-    place-looked : (n : ℕ) → InKey 10 n → Looked 10 n
-    place-looked n q = split (eqb t 4) (λ w. inl (λ s _ _ _ _. sym (fits-fp t s known) ∙ w)) (λ w. inr (no-place n q w))
-
-    module _ (z : eqb t 1 ≡ true) where
-      is-thermal : t ≡ 1
-      is-thermal = eqb-true t 1 z
-
-      thermal-parts : (ltb top 166 ≡ true) × (fits 1 1 rs ≡ true) × (allBelow 4 (λ p. slotsEmpty ix (42 + 20 * p) 4) ≡ true)
-      unfolding allFit thermalFit
-      thermal-parts = three _ _ _ (rw z at (and-right (eqb t 4 || not (ltb narrow (length ix))) _ e))
-
-      station-fits : (n : ℕ) → InKey 1 n → (s : List ℕ) → current 1 n (records d) ≡ s → fits t 1 s ≡ true
-      unfolding Spans shapeOf shape rowOf table
-      station-fits n q s c =
-          let z : n ≡ 0 = omega (arith, q .spans) in
-          rw is-thermal (subst (λ (r : List ℕ). fits 1 1 r ≡ true) (same ∙ ap (λ (i : ℕ). current 1 i (records d)) (sym z) ∙ c) (thermal-parts .1))
-
-      -- a slot from 166 on is above the highest
-      above : (k n : ℕ) → 166 ≤ slot k n → Looked k n
-      above k n h = inl (λ s _ _ _ g. absurd (omega (arith, h, g, ltb-true top 166 (thermal-parts .0))))
-
-      -- an AD of cost 5 would stand in one of the slots that are empty
-      prorated : (n : ℕ) → InKey 4 n → n / 256 % 256 ≡ 5 → slotFits t d ix (slot 4 n) ≡ true
-      unfolding slot Spans shapeOf shape rowOf table
-      prorated n q five =
-          let p = n / 65536 - 1 in
-          empty-fits (42 + 20 * p) 4 (slot 4 n) (below-at 4 (λ p. slotsEmpty ix (42 + 20 * p) 4) (thermal-parts .2) p (omega (arith, q .spans))) (omega (arith, q .spans, five)) (omega (arith, q .spans, five))
-
-      thermal-looked : (k n : ℕ) → InKey k n → Looked k n
-      unfolding low high keyWidth keyIn rowOf table
-      thermal-looked k n p =
-          at-mark (λ k. InKey k n → Looked k n) k n p
-          (λ q. inl (λ s _ _ c _. station-fits n q s c))
-          (λ q. inl (λ s _ _ _ _. sym (fits-hp t s known) ∙ z))
-          (λ q. inl (λ s _ _ _ _. sym (fits-fu t s known) ∙ rw is-thermal refl))
-          (λ q. split (eqb (n / 256 % 256) 5) (λ w. inr (prorated n q (eqb-true (n / 256 % 256) 5 w))) (λ w. inl (λ s g i _ _. rw is-thermal (thermal-ad s g (λ c. eqb-false (n / 256 % 256) 5 w (sym (ap (λ (x : ℕ). x / 256 % 256) i) ∙ c))))))
-          (λ q. inl (λ s _ _ _ _. sym (fits-mm t s known) ∙ rw z refl))
-          (λ q. inl (λ s _ _ _ _. sym (fits-rq t s known)))
-          (λ q. above 7 n (omega (arith, limits 7 n q)))
-          (λ q. above 8 n (omega (arith, limits 8 n q)))
-          (λ q. inl (λ s g _ _ _. rw is-thermal (thermal-th s g)))
-          (place-looked n)
-          (λ q. above 11 n (omega (arith, limits 11 n q)))
-          p
-
-    module _ (z : eqb t 1 ≡ false) where
-      other-parts : (slotsFit t d ix 0 26 && slotsFit t d ix 26 112 ≡ true) × (slotsFit t d ix 154 12 ≡ true) × (pricedFit t d ix top ≡ true)
-      unfolding allFit otherFit
-      other-parts = three _ _ _ (rw z at (and-right (eqb t 4 || not (ltb narrow (length ix))) _ e))
-
-      -- a slot from 166 on is above the highest, or LC was looked at, and HR and CH are not there
-      priced : (k n : ℕ) → 166 ≤ slot k n → (slotsFit t d ix 2350 1 && slotsEmpty ix 166 (cond (eqb t 3) 0 2184) ≡ true → slotFits t d ix (slot k n) ≡ true) → Looked k n
-      unfolding pricedFit
-      priced k n h f =
-          split (ltb top 166)
-          (λ w. inl (λ s _ _ _ g. absurd (omega (arith, h, g, ltb-true top 166 w))))
-          (λ w. inr (f (and-right (not (ltb (length ix) narrow)) _ (rw w at (other-parts .2)))))
-
-      unpriced : eqb t 3 ≡ false → (k n : ℕ) → 166 ≤ slot k n → slot k n < 2350 → Looked k n
-      unpriced w k n p q = priced k n p (λ g. empty-fits 166 2184 (slot k n) (rw w at (and-right (slotsFit t d ix 2350 1) _ g)) p (omega (arith, q)))
-
-      other-looked : (k n : ℕ) → InKey k n → Looked k n
-      unfolding low high
-      other-looked k n p =
-          at-mark (λ k. InKey k n → Looked k n) k n p
-          (λ q. first 1 n q (omega (arith, limits 1 n q)))
-          (λ q. first 2 n q (omega (arith, limits 2 n q)))
-          (λ q. first 3 n q (omega (arith, limits 3 n q)))
-          (λ q. added 4 n q (omega (arith, limits 4 n q)) (omega (arith, limits 4 n q)))
-          (λ q. added 5 n q (omega (arith, limits 5 n q)) (omega (arith, limits 5 n q)))
-          (λ q. inl (λ s _ _ _ _. sym (fits-rq t s known)))
-          (λ q. split (eqb t 3) (λ w. inl (λ s _ _ _ _. sym (fits-hr t s known) ∙ w)) (λ w. unpriced w 7 n (omega (arith, limits 7 n q)) (omega (arith, limits 7 n q))))
-          (λ q. split (eqb t 3) (λ w. inl (λ s _ _ _ _. sym (fits-ch t s known) ∙ w)) (λ w. unpriced w 8 n (omega (arith, limits 8 n q)) (omega (arith, limits 8 n q))))
-          (λ q. inr (region 154 12 (slot 9 n) (other-parts .1) (omega (arith, limits 9 n q)) (omega (arith, limits 9 n q))))
-          (place-looked n)
-          (λ q. priced 11 n (omega (arith, limits 11 n q)) (λ g. region 2350 1 (slot 11 n) (and-left (slotsFit t d ix 2350 1) _ g) (omega (arith, limits 11 n q)) (omega (arith, limits 11 n q))))
-          p
-        where
-          first : (k n : ℕ) → InKey k n → slot k n < 26 → Looked k n
-          first k n q h = inr (region 0 26 (slot k n) (and-left (slotsFit t d ix 0 26) (slotsFit t d ix 26 112) (other-parts .0)) (omega arith) (omega (arith, h)))
-
-          added : (k n : ℕ) → InKey k n → 26 ≤ slot k n → slot k n < 138 → Looked k n
-          added k n q p h = inr (region 26 112 (slot k n) (and-right (slotsFit t d ix 0 26) (slotsFit t d ix 26 112) (other-parts .0)) p (omega (arith, h)))
-
-    looked : (k n : ℕ) → InKey k n → Looked k n
-    looked k n p = split (eqb t 1) (λ z. thermal-looked z k n p) (λ z. other-looked z k n p)
+    fit : (k n : ℕ) → InKey k n → Fit k n
+    unfolding low high
+    fit k n p =
+        at-mark (λ k. InKey k n → Fit k n) k n p
+        (fit-rs n)
+        (fit-hp n)
+        (fit-fu n)
+        (fit-ad n)
+        (fit-mm n)
+        (λ q s _ _ _ _ _. sym (fits-rq t s known))
+        (λ q. fit-priced 7 n (λ s. fits-hr t s known) (omega (arith, limits 7 n q)) (omega (arith, limits 7 n q)))
+        (λ q. fit-priced 8 n (λ s. fits-ch t s known) (omega (arith, limits 8 n q)) (omega (arith, limits 8 n q)))
+        (fit-th n)
+        (fit-fp n)
+        (λ q. fit-priced 11 n (λ s. fits-lc t s known) (omega (arith, limits 11 n q)) (omega (arith, limits 11 n q)))
+        p
 
     module _ (h : Indexed d ix) (complete : Complete d ix) (highest : UpTo d top) (distinct : Distinct (records d)) where
-      slot-record : (r : List ℕ) → fault r ≡ 0 → slot (mark r) (keyOf r) < length ix → current (mark r) (keyOf r) (records d) ≡ r → slotFits t d ix (slot (mark r) (keyOf r)) ≡ true → fits t (mark r) r ≡ true
-      unfolding slotFits
-      slot-record r f i c w =
-          let j : ℕ = slot (mark r) (keyOf r) in
-          let s : List ℕ = drop (getD ix j 0 - 1) d in
-          let z = part-there d ix j (size (mark r)) r (λ x. faultless r f .known (ap mark x ∙ mark-nil)) (part-current d ix h (mark r) (keyOf r) (in-key r f) i refl refl ∙ c) in
-          let m : mark s ≡ mark r = sym (mark-take (size (mark r)) s (omega (arith, size-ge (mark r)))) ∙ ap mark (z .1) in
-          let g : fits t (mark s) s ≡ true = rw (z .0) at w in
-          ap (fits t (mark r)) (sym (z .1)) ∙ fits-take t (mark r) s ∙ ap (λ (x : ℕ). fits t x s) (sym m) ∙ g
-
       member-fits : (r : List ℕ) → Member r (records d) → isCurrent (records d) r ≡ true → fits t (mark r) r ≡ true
       member-fits r m c =
           let f = member-each m (scan-each 0 (records d) (h .clean)) in
-          go f (looked (mark r) (keyOf r) (in-key r f))
+          let k = in-key r f in
+          let same : current (mark r) (keyOf r) (records d) ≡ r = is-the-current distinct m c in
+          fit (mark r) (keyOf r) k r (faultless r f .ranges) (unfold keyOf in refl) same (member-each m highest) (held r f k same (member-each m complete))
         where
-          go : fault r ≡ 0 → Looked (mark r) (keyOf r) → fits t (mark r) r ≡ true
-          go f (inl g) = g r (faultless r f .ranges) (unfold keyOf in refl) (is-the-current distinct m c) (member-each m highest)
-          go f (inr g) = slot-record r f (member-each m complete) (is-the-current distinct m c) g
+          held : (r : List ℕ) → fault r ≡ 0 → InKey (mark r) (keyOf r) → current (mark r) (keyOf r) (records d) ≡ r → slot (mark r) (keyOf r) < length ix → eqb (getD ix (slot (mark r) (keyOf r)) 0) 0 ≡ false
+          held r f k same i =
+              split (eqb (getD ix (slot (mark r) (keyOf r)) 0) 0)
+              (λ w. absurd (faultless r f .known (ap mark (sym same ∙ current-none d ix h (mark r) (keyOf r) k i (eqb-true _ 0 w)) ∙ mark-nil)))
+              (λ w. w)
 
       pub slots-accepted : t ≡ technology (parameters (records d)) → Accepted ≡ unfit t (records d)
       slots-accepted g = sym (rw g (each-unfit (each-member (records d) (λ r m c. rw (← g) (member-fits r m c)))))
 
 -- ---- the tests of slots
 
--- RS of a thermal station
-pub rs-thermal : (s : List ℕ) → ltb 0 (number 9 2 s) && eqb (number 19 4 s) 0 && eqb (number 23 4 s) 0 && eqb (number 27 2 s) 0 && eqb (number 29 2 s) 0 ≡ fits 1 1 s
-rs-thermal s =
-    subst (λ (b : Bool). b && eqb (number 19 4 s) 0 && eqb (number 23 4 s) 0 && eqb (number 27 2 s) 0 && eqb (number 29 2 s) 0 ≡ fits 1 1 s)
-    (and-true (ltb 0 (number 9 2 s) && true) ∙ and-true (ltb 0 (number 9 2 s)))
-    (fits-rs 1 s (omega arith, omega arith))
+pub fourths-next : (ix : List ℕ) (j i a : ℕ) → eqb a 0 ≡ fourthsEmpty ix j i → eqb (bitOr a (getD ix (j + 4 * i) 0)) 0 ≡ fourthsEmpty ix j (i + 1)
+unfolding fourthsEmpty allBelow
+fourths-next ix j i a e = or-none a (getD ix (j + 4 * i) 0) ∙ rw (e, add-one i) refl
 
 -- an index with slots for FP, of another station than a hydroelectric one
 pub other-wide : (t : ℕ) (d ix rs : List ℕ) (top : ℕ) → not (eqb t 4) && ltb narrow (length ix) ≡ true → false ≡ allFit t d ix rs top
 unfolding allFit
 other-wide t d ix rs top = go (eqb t 4) (ltb narrow (length ix))
   where
-    go : (a b : Bool) → not a && b ≡ true → false ≡ (a || not b) && cond (eqb t 1) (thermalFit ix rs top) (otherFit t d ix top)
+    go : (a b : Bool) → not a && b ≡ true → false ≡ (a || not b) && (fits t 1 rs && pointsFit t ix && profilesFit t d && allTo 4 (levelFits t ix) && proratedFit t ix && pricedFit t ix top)
     go true b e = absurd (false≢true e)
     go false true e = refl
     go false false e = absurd (false≢true e)
 
 -- and any other
-pub by-station : (t : ℕ) (d ix rs : List ℕ) (top : ℕ) → not (eqb t 4) && ltb narrow (length ix) ≡ false → {x : Bool} → x ≡ cond (eqb t 1) (thermalFit ix rs top) (otherFit t d ix top) → x ≡ allFit t d ix rs top
+pub by-slots : (t : ℕ) (d ix rs : List ℕ) (top : ℕ) → not (eqb t 4) && ltb narrow (length ix) ≡ false → {x : Bool} → x ≡ fits t 1 rs && pointsFit t ix && profilesFit t d && allTo 4 (levelFits t ix) && proratedFit t ix && pricedFit t ix top → x ≡ allFit t d ix rs top
 unfolding allFit
-by-station t d ix rs top h {x = x} f = go (eqb t 4) (ltb narrow (length ix)) h
+by-slots t d ix rs top h {x = x} f = go (eqb t 4) (ltb narrow (length ix)) h
   where
-    go : (a b : Bool) → not a && b ≡ false → x ≡ (a || not b) && cond (eqb t 1) (thermalFit ix rs top) (otherFit t d ix top)
+    go : (a b : Bool) → not a && b ≡ false → x ≡ (a || not b) && (fits t 1 rs && pointsFit t ix && profilesFit t d && allTo 4 (levelFits t ix) && proratedFit t ix && pricedFit t ix top)
     go true b e = f
     go false true e = absurd (false≢true (sym e))
     go false false e = f
 
-module _ (t : ℕ) (d : List ℕ) (v : ℕ) where
-  pub held-empty : v ≡ 0 → true ≡ heldFits t d v
-  held-empty e = rw (eq-eqb v 0 e) refl
+-- an item that is not there fits
+item-none : (t : ℕ) → Known t → fits t 5 [] ≡ true
+unfolding number
+item-none t known = sym (fits-mm t [] known) ∙ go (eqb t 1)
+  where
+    go : (b : Bool) → b || true ≡ true
+    go true = refl
+    go false = refl
 
-  pub held-past : Known t → length d < v - 1 → true ≡ heldFits t d v
-  held-past k h = rw (drop-of-length-le d {i = v - 1} (omega arith), mark-nil, ← fits-none t [] k) (go (eqb v 0))
-    where
-      go : (b : Bool) → true ≡ b || true
-      go true = refl
-      go false = refl
-
-  pub held-there : (v ≡ 0 → ⊥) → {b : Bool} → b ≡ fits t (mark (take (length d - (v - 1)) (drop (v - 1) d))) (take (length d - (v - 1)) (drop (v - 1) d)) → b ≡ heldFits t d v
-  held-there z e = rw (ne-eqb v 0 z) (e ∙ ap (λ (s : List ℕ). fits t (mark s) s) (tail d (v - 1)))
-
-module _ (t : ℕ) (d ix : List ℕ) (j : ℕ) where
-  pub slots-none : (n : ℕ) → slotsEmpty ix j n ≡ true → true ≡ slotsFit t d ix j n
-  unfolding slotsEmpty slotsFit slotFits allBelow
-  slots-none zero e = refl
-  slots-none (suc n) e =
-      let a = and-left (allBelow n (λ i. eqb (getD ix (j + i) 0) 0)) (eqb (getD ix (j + n) 0) 0) e in
-      let b = and-right (allBelow n (λ i. eqb (getD ix (j + i) 0) 0)) (eqb (getD ix (j + n) 0) 0) e in
-      rw (← slots-none n a, b) refl
-
-  pub slots-one-not : (n i : ℕ) → i < n → false ≡ slotFits t d ix (j + i) → false ≡ slotsFit t d ix j n
-  unfolding slotsFit
-  slots-one-not n i h e =
-      split (allBelow n (λ i. slotFits t d ix (j + i))) (λ w. absurd (false≢true (e ∙ below-at n (λ i. slotFits t d ix (j + i)) w i h))) sym
-
-  pub slots-next : (i : ℕ) → slotsFit t d ix j i ≡ true → true ≡ slotFits t d ix (j + i) → slotsFit t d ix j (i + 1) ≡ true
-  unfolding slotsFit allBelow
-  slots-next i p q = rw (add-one i, p, ← q) refl
+-- a profile whose slots of MM are empty has no item
+pub no-items : (t : ℕ) (d ix : List ℕ) (p : ℕ) → Known t → Indexed d ix → 1 ≤ p → p ≤ 4 → {j : ℕ} → j ≡ slot 5 (p * 256 + 1) → slotsEmpty ix j 8 ≡ true → true ≡ itemsFit t d p
+unfolding itemsFit slot
+no-items t d ix p known h a b {j} q e = sym (at-to 8 (λ i. fits t 5 (current 5 (p * 256 + i) (records d))) one)
+  where
+    one : (i : ℕ) → 1 ≤ i → i ≤ 8 → fits t 5 (current 5 (p * 256 + i) (records d)) ≡ true
+    one i c z =
+        let k = item-key p i a b c z in
+        let w : getD ix (slot 5 (p * 256 + i)) 0 ≡ 0 = eqb-true _ 0 (in-empty ix j 8 (slot 5 (p * 256 + i)) e (omega (arith, q)) (omega (arith, q))) in
+        rw (current-none d ix h 5 (p * 256 + i) k (slot-fits d ix h 5 (p * 256 + i) refl k refl) w) (item-none t known)
 
 -- ---- the loop over the records
 

@@ -1,18 +1,20 @@
--- How code looks for 6: at the slots of the index first, and through the records only where some slot's record does not fit. No
+-- How code looks for 6: at the slots of the index first, and through the records only where these tell of one that does not fit. No
 -- paper speaks of this; the law `slots-accepted` ties it to `unfit`.
 use mathlib.Core.Bool.{Bool, cond, _&&_, _||_, not}
 use mathlib.Core.List.{List}
-use Prim.Native.Nat.{ℕ, _+_, _*_, _-_}
+use Prim.Native.Nat.{ℕ, _+_, _*_}
 use lib.Dec.{ltb, eqb}
-use lib.ListN.{length, getD, drop}
-use Rattle.lists.specs.Tests.{allBelow}
+use lib.ListN.{length, getD}
+use Rattle.lists.specs.Tests.{allBelow, allTo}
 use Rattle.fields.specs.Numbers.{number}
-use Rattle.records.specs.Table.{thermal, storage, hydro}
+use Rattle.records.specs.Table.{RS, FU, MM, thermal, nuclear, storage, hydro}
 use Rattle.records.specs.Record.{mark, size}
-use Rattle.index.specs.Slots.{narrow, slotAt, slotsEmpty}
+use Rattle.records.specs.Dossier.{records}
+use Rattle.station.specs.Current.{current}
+use Rattle.index.specs.Slots.{short, narrow, slotAt, slotsEmpty}
 use Rattle.lookup.specs.Parts.{partAt}
 use Rattle.technology.specs.declared.Tried.{Tried}
-use Rattle.rules.specs.Fit.{fits}
+use Rattle.rules.specs.Fit.{fits, holds}
 
 -- a record's length, and whether it fits
 abbrev pub tried : ℕ → Bool → Tried
@@ -22,33 +24,41 @@ tried n b = record { len = n; fits = b }
 abbrev pub triedAs : ℕ → ℕ → List ℕ → Tried
 triedAs t k s = tried (size k) (fits t k s)
 
--- a slot of value v is empty, or the record that stands at its place fits
-abbrev pub heldFits : ℕ → List ℕ → ℕ → Bool
-heldFits t d v = eqb v 0 || fits t (mark (drop (v - 1) d)) (drop (v - 1) d)
+-- ---- the slots, by mark; RQ fits every station
 
--- the same of slot j
-unfoldable pub slotFits : ℕ → List ℕ → List ℕ → ℕ → Bool
-slotFits t d ix j = heldFits t d (getD ix j 0)
+-- n slots are empty, every fourth from slot j on
+unfoldable pub fourthsEmpty : List ℕ → ℕ → ℕ → Bool
+fourthsEmpty ix j n = allBelow n (λ i. eqb (getD ix (j + 4 * i) 0) 0)
 
--- the same of n slots from slot j on
-unfoldable pub slotsFit : ℕ → List ℕ → List ℕ → ℕ → ℕ → Bool
-slotsFit t d ix j n = allBelow n (λ i. slotFits t d ix (j + i))
+-- HP is there at a thermal station alone
+abbrev pub pointsFit : ℕ → List ℕ → Bool
+pointsFit t ix = eqb t thermal || slotsEmpty ix 1 21
 
--- of a thermal station, whose RS is r, the highest slot of a record being m: r fits, and there is no AD of cost 5, no HR, no CH and no LC; all else fits it
-unfoldable pub thermalFit : List ℕ → List ℕ → ℕ → Bool
-thermalFit ix r m = ltb m 166 && fits thermal 1 r && allBelow 4 (λ p. slotsEmpty ix (42 + 20 * p) 4)
+-- the items of profile p fit
+unfoldable pub itemsFit : ℕ → List ℕ → ℕ → Bool
+itemsFit t d p = allTo 8 (λ j. fits t MM (current MM (p * 256 + j) (records d)))
 
--- of any other there is no HR, no CH and no LC, as the highest slot tells; or the index has their slots, LC fits, and the slots of HR and CH are empty unless it is storage, which they fit
-unfoldable pub pricedFit : ℕ → List ℕ → List ℕ → ℕ → Bool
-pricedFit t d ix m = ltb m 166 || (not (ltb (length ix) narrow) && (slotsFit t d ix 2350 1 && slotsEmpty ix 166 (cond (eqb t storage) 0 2184)))
+-- so do FU and MM of every profile, whatever they say at a thermal station
+unfoldable pub profilesFit : ℕ → List ℕ → Bool
+profilesFit t d = eqb t thermal || allTo 4 (λ p. fits t FU (current FU p (records d)) && itemsFit t d p)
 
--- and the slots of RS, HP, FU, those of AD, MM, and those of TH fit; RQ fits
-unfoldable pub otherFit : ℕ → List ℕ → List ℕ → ℕ → Bool
-otherFit t d ix m = slotsFit t d ix 0 26 && slotsFit t d ix 26 112 && slotsFit t d ix 154 12 && pricedFit t d ix m
+-- AD and TH of level v are there only where it is held: every fourth of their slots is of the same level
+unfoldable pub levelFits : ℕ → List ℕ → ℕ → Bool
+levelFits t ix v = holds t v || (fourthsEmpty ix (25 + v) 20 && fourthsEmpty ix (153 + v) 3)
 
--- every current record fits, as the slots tell; FP has slots where there is an FP, which fits a hydroelectric station alone
+-- AD of cost 5, four slots in each profile, is there at a nuclear station alone
+abbrev pub proratedFit : ℕ → List ℕ → Bool
+proratedFit t ix = eqb t nuclear || allBelow 4 (λ p. slotsEmpty ix (42 + 20 * p) 4)
+
+-- HR, CH and LC are there at storage alone; the highest slot m of a record tells at once that none is, else the index must have their slots
+abbrev pub pricedFit : ℕ → List ℕ → ℕ → Bool
+pricedFit t ix m = ltb m short || eqb t storage || (not (ltb (length ix) narrow) && slotsEmpty ix 166 2185)
+
+-- every current record fits, r being RS; FP has slots where there is an FP, which fits a hydroelectric station alone
 unfoldable pub allFit : ℕ → List ℕ → List ℕ → List ℕ → ℕ → Bool
-allFit t d ix r m = (eqb t hydro || not (ltb narrow (length ix))) && cond (eqb t thermal) (thermalFit ix r m) (otherFit t d ix m)
+allFit t d ix r m =
+    (eqb t hydro || not (ltb narrow (length ix)))
+    && (fits t RS r && pointsFit t ix && profilesFit t d && allTo 4 (levelFits t ix) && proratedFit t ix && pricedFit t ix m)
 
 -- the record at the front of s has the issue of the current one of its mark and key, and does not fit
 unfoldable pub notFit : List ℕ → List ℕ → List ℕ → Bool → Bool

@@ -1,7 +1,7 @@
 // 6: whether the current records fit the technology, told by the index. The definitions are in specs/, their laws in proofs/.
 ghost use mathlib.Core.Path.{_≡_};
 ghost use mathlib.Core.Bool.{cond, _||_, not};
-ghost use Prim.Native.Nat.{_+_, _<_, _≤_};
+ghost use Prim.Native.Nat.{_+_, _*_, _<_, _≤_};
 ghost use lib.Dec.{ltb, eqb};
 ghost use lib.ListN.{length};
 ghost use Rattle.fields.specs.Numbers.{number};
@@ -14,9 +14,8 @@ ghost use Rattle.station.specs.Current.{current, readable};
 ghost use Rattle.station.specs.Parameters.{parameters, technology};
 ghost use Rattle.lookup.specs.Parts.{Indexed, Complete, UpTo};
 ghost use Rattle.rules.specs.Fit.{Known, fits, holds, unfit};
-ghost use Rattle.technology.specs.Looked.{tried, triedAs, heldFits, slotsFit, thermalFit, pricedFit, otherFit, allFit, notFit};
+ghost use Rattle.technology.specs.Looked.{tried, triedAs, fourthsEmpty, pointsFit, itemsFit, profilesFit, levelFits, proratedFit, pricedFit, allFit, notFit};
 use index::slots_empty;
-use lists::choose;
 use records::Answer;
 
 // A record's length, and whether it fits.
@@ -55,17 +54,6 @@ fn rs_fits(t: u8, s: &[u8]) -> bool
         & field_fits((t == 3) | (t == 4), true, fields::u16_at(s, 29) as u32)
 }
 
-// The same of a thermal station.
-fn rs_thermal(s: &[u8]) -> bool
-    ensures { λ r. ⌜ r ≡ fits 1 1 (now (s .entry)) ⌝ }
-{
-    (0 < fields::u16_at(s, 9))
-        & (fields::u32_at(s, 19) == 0)
-        & (fields::u32_at(s, 23) == 0)
-        & (fields::u16_at(s, 27) == 0)
-        & (fields::u16_at(s, 29) == 0)
-}
-
 // FU: a hydroelectric station has no fuel, and emission is thermal.
 fn fu_fits(t: u8, s: &[u8]) -> bool
     requires { ⌜ Known t ⌝ }
@@ -81,6 +69,14 @@ fn ad_fits(t: u8, s: &[u8]) -> bool
 {
     let level = fields::u8_at(s, 8);
     level_held(t, level) & ((fields::u8_at(s, 7) != 5) | ((t == 2) & (level == 1)))
+}
+
+// MM: hours for each start are thermal.
+fn mm_fits(t: u8, s: &[u8]) -> bool
+    requires { ⌜ Known t ⌝ }
+    ensures { λ r. ⌜ r ≡ fits t 5 (now (s .entry)) ⌝ }
+{
+    (t == 1) | (fields::u16_at(s, 22) == 0)
 }
 
 // What comes of a trial.
@@ -114,7 +110,7 @@ fn tried_at(t: u8, s: &[u8]) -> Tried
         return trial(records::AD.length, ad_fits(t, s));
     }
     if k == 5 {
-        return trial(records::MM.length, (t == 1) | (fields::u16_at(s, 22) == 0));
+        return trial(records::MM.length, mm_fits(t, s));
     }
     if k == 2 {
         return trial(records::HP.length, t == 1);
@@ -140,101 +136,121 @@ fn tried_at(t: u8, s: &[u8]) -> Tried
     tried_keyless(t, k, s)
 }
 
-// Whether a slot of value v is empty or its record fits.
-fn held_fits(d: &[u8], v: u16, t: u8) -> bool
-    requires { ⌜ Known t ⌝ }
-    ensures { λ r. ⌜ r ≡ heldFits t (now (d .entry)) v ⌝ }
+// Whether n slots are empty, every fourth from slot j on.
+fn fourths_empty(index: &[u16], j: usize, n: usize) -> bool
+    requires { ⌜ j + 4 * n ≤ length (now index) + 3 ⌝ }
+    ensures { λ r. ⌜ r ≡ fourthsEmpty (now (index .entry)) j n ⌝ }
 {
-    if v == 0 {
-        return true;
-    }
-    let q = (v as usize) - 1;
-    if d.len() < q {
-        return true;
-    }
-    let f = tried_at(t, &d[q..]);
-    f.fits
-}
-
-// The same of n slots of the index from slot j on.
-fn slots_fit(d: &[u8], index: &[u16], t: u8, j: usize, n: usize) -> bool
-    requires { ⌜ Known t × (j + n ≤ length (now index)) ⌝ }
-    ensures { λ r. ⌜ r ≡ slotsFit t (now (d .entry)) (now (index .entry)) j n ⌝ }
-{
+    let mut any = 0;
     let mut i = 0;
     while i < n {
-        if !held_fits(d, index[j + i], t) {
-            return false;
-        }
+        any = any | index[j + 4 * i];
         i += 1;
     }
-    true
+    any == 0
 }
 
-// Whether every current record fits a thermal station, whose RS is given, by the index and the highest slot of a record. AD of cost 5 has
-// four slots in each of four profiles.
-fn thermal_fit(index: &[u16], rs: &[u8], top: usize) -> bool
+// Whether AD and TH of a level are there only where it is held.
+fn level_fits(index: &[u16], t: u8, v: u8) -> bool
+    requires { ⌜ (short ≤ length (now index)) × (v ≤ 4) ⌝ }
+    ensures { λ r. ⌜ r ≡ levelFits t (now (index .entry)) v ⌝ }
+{
+    if level_held(t, v) {
+        return true;
+    }
+    let j = v as usize;
+    fourths_empty(index, 25 + j, 20) & fourths_empty(index, 153 + j, 3)
+}
+
+// Whether AD of cost 5 is there at a nuclear station alone.
+fn prorated_fit(index: &[u16], t: u8) -> bool
     requires { ⌜ short ≤ length (now index) ⌝ }
-    ensures { λ r. ⌜ r ≡ thermalFit (now (index .entry)) (now (rs .entry)) top ⌝ }
+    ensures { λ r. ⌜ r ≡ proratedFit t (now (index .entry)) ⌝ }
 {
-    (top < 166)
-        & rs_thermal(rs)
-        & (slots_empty(index, 42, 4)
-            & slots_empty(index, 62, 4)
-            & slots_empty(index, 82, 4)
-            & slots_empty(index, 102, 4))
+    if t == 2 {
+        return true;
+    }
+    slots_empty(index, 42, 4)
+        & slots_empty(index, 62, 4)
+        & slots_empty(index, 82, 4)
+        & slots_empty(index, 102, 4)
 }
 
-// Whether what any other station has of HR, CH and LC fits it; the highest slot tells at once that it has none. A short index
-// does not tell.
-fn priced_fit(d: &[u8], index: &[u16], t: u8, top: usize) -> bool
-    requires { ⌜ Known t × (short ≤ length (now index)) ⌝ }
-    ensures { λ r. ⌜ r ≡ pricedFit t (now (d .entry)) (now (index .entry)) top ⌝ }
+// Whether the items of a profile fit; empty slots tell at once that it has none.
+fn items_fit(d: &[u8], index: &[u16], t: u8, p: usize) -> bool
+    requires { ⌜ Indexed (now d) (now index) × Known t × (1 ≤ p) × (p ≤ 4) ⌝ }
+    ensures { λ r. ⌜ r ≡ itemsFit t (now (d .entry)) p ⌝ }
 {
-    if top < 166 {
+    if slots_empty(index, index::keys::slot_mm(p, 1), 8) {
+        return true;
+    }
+    let mut ok = true;
+    let mut j = 0;
+    while j < 8 {
+        ok = ok & mm_fits(t, lookup::mm(d, index, p, j + 1));
+        j += 1;
+    }
+    ok
+}
+
+// Whether FU and MM of every profile fit.
+fn profiles_fit(d: &[u8], index: &[u16], t: u8) -> bool
+    requires { ⌜ Indexed (now d) (now index) × Known t ⌝ }
+    ensures { λ r. ⌜ r ≡ profilesFit t (now (d .entry)) ⌝ }
+{
+    if t == 1 {
+        return true;
+    }
+    let mut ok = true;
+    let mut p = 0;
+    while p < 4 {
+        ok = ok & (fu_fits(t, lookup::fu(d, index, p + 1)) & items_fit(d, index, t, p + 1));
+        p += 1;
+    }
+    ok
+}
+
+// Whether HP is there at a thermal station alone.
+fn points_fit(index: &[u16], t: u8) -> bool
+    requires { ⌜ short ≤ length (now index) ⌝ }
+    ensures { λ r. ⌜ r ≡ pointsFit t (now (index .entry)) ⌝ }
+{
+    if t == 1 {
+        return true;
+    }
+    slots_empty(index, 1, 21)
+}
+
+// Whether HR, CH and LC are there at storage alone; the highest slot of a record tells at once that none is. A short index does not tell.
+fn priced_fit(index: &[u16], t: u8, top: usize) -> bool
+    ensures { λ r. ⌜ r ≡ pricedFit t (now (index .entry)) top ⌝ }
+{
+    if (top < index::SHORT) | (t == 3) {
         return true;
     }
     if index.len() < index::NARROW {
         return false;
     }
-    let priced = choose(t == 3, 0, 2184);
-    slots_fit(d, index, t, 2350, 1) & slots_empty(index, 166, priced)
+    slots_empty(index, 166, 2185)
 }
 
-// Whether what a station has of AD and MM fits it; empty slots tell at once that it has none.
-fn added_fit(d: &[u8], index: &[u16], t: u8) -> bool
-    requires { ⌜ Known t × (short ≤ length (now index)) ⌝ }
-    ensures { λ r. ⌜ r ≡ slotsFit t (now (d .entry)) (now (index .entry)) 26 112 ⌝ }
-{
-    if slots_empty(index, 26, 112) {
-        return true;
-    }
-    slots_fit(d, index, t, 26, 112)
-}
-
-// Whether every current record fits any other station.
-fn other_fit(d: &[u8], index: &[u16], t: u8, top: usize) -> bool
-    requires { ⌜ Known t × (short ≤ length (now index)) ⌝ }
-    ensures { λ r. ⌜ r ≡ otherFit t (now (d .entry)) (now (index .entry)) top ⌝ }
-{
-    slots_fit(d, index, t, 0, 26)
-        & added_fit(d, index, t)
-        & slots_fit(d, index, t, 154, 12)
-        & priced_fit(d, index, t, top)
-}
-
-// The same of every station. An index has slots for FP where there is one, and only a hydroelectric station may have it.
+// Whether every current record fits. An index has slots for FP where there is one, and only a hydroelectric station may have it.
 fn all_fit(d: &[u8], index: &[u16], rs: &[u8], t: u8, top: usize) -> bool
-    requires { ⌜ Known t × (short ≤ length (now index)) ⌝ }
+    requires { ⌜ Indexed (now d) (now index) × Known t ⌝ }
     ensures { λ r. ⌜ r ≡ allFit t (now (d .entry)) (now (index .entry)) (now (rs .entry)) top ⌝ }
 {
     if (t != 4) & (index::NARROW < index.len()) {
         return false;
     }
-    if t == 1 {
-        return thermal_fit(index, rs, top);
-    }
-    other_fit(d, index, t, top)
+    rs_fits(t, rs)
+        & points_fit(index, t)
+        & profiles_fit(d, index, t)
+        & (level_fits(index, t, 1)
+            & level_fits(index, t, 2)
+            & level_fits(index, t, 3)
+            & level_fits(index, t, 4))
+        & prorated_fit(index, t)
+        & priced_fit(index, t, top)
 }
 
 // The key of the record at the front of s, as a number.
@@ -290,12 +306,12 @@ fn first_unfit(d: &[u8], index: &[u16], t: u8) -> Answer
     Answer::Accepted
 }
 
-// 6. Most dossiers have no unfit record, which the index tells; but for a thermal station, a short one is gone through sooner than the index.
+// 6. Most dossiers have no unfit record, which the index tells.
 pub fn unfit_of(d: &[u8], index: &[u16], rs: &[u8], t: u8, top: usize) -> Answer
     requires { ⌜ Indexed (now d) (now index) × Complete (now d) (now index) × (readable (now d) ≡ Accepted) × Known t × (t ≡ technology (parameters (records (now d)))) × (now rs ≡ current RS 0 (records (now d))) × UpTo (now d) top ⌝ }
     ensures { λ r. ⌜ r ≡ unfit t (records (now (d .entry))) ⌝ }
 {
-    if ((t == 1) | (200 < d.len())) && all_fit(d, index, rs, t, top) {
+    if all_fit(d, index, rs, t, top) {
         return Answer::Accepted;
     }
     first_unfit(d, index, t)

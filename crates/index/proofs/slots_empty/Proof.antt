@@ -1,29 +1,18 @@
 use mathlib.Core.Path.{_≡_, refl, ap, _∙_}
-use mathlib.Core.Bool.{Bool, true, false, _&&_}
+use mathlib.Core.Bool.{true, _&&_}
 use mathlib.Core.List.{List}
 use Prim.Native.Nat.{ℕ, _+_, _≤_, _-_}
 use native.Mathlib.Numerals.{add-one}
 use native.Mathlib.Omega.{arith}
 use borrow.Author.Needs.{needs}
-use borrow.Author.Tests.{eqb-true, eqb-false, ne-eqb}
-use lib.Bits.{bitOr, and-le-r, or-add-and}
+use lib.Bits.{bitOr}
 use lib.Dec.{eqb}
 use lib.ListN.{getD}
 use Rattle.lists.specs.Tests.{allBelow}
+use Rattle.lists.proofs.Tests.{or-none}
 use Rattle.index.specs.Slots.{slotsEmpty}
 use Rattle.index.proofs.slots_empty.Statement.{statement}
 use Rattle.index.proofs.slots_empty.Tie as tie
-
--- a number that two have no bit of has no bit
-or-none : (a b : ℕ) → eqb (bitOr a b) 0 ≡ eqb a 0 && eqb b 0
-or-none a b = go (eqb a 0) refl
-  where
-    some : (a ≡ 0 → ⊥) → bitOr a b ≡ 0 → ⊥
-    some z e = omega (arith, z, or-add-and a b, and-le-r a b, e)
-
-    go : (x : Bool) → eqb a 0 ≡ x → eqb (bitOr a b) 0 ≡ x && eqb b 0
-    go true e = rw (eqb-true a 0 e) refl
-    go false e = ne-eqb (bitOr a b) 0 (some (eqb-false a 0 e))
 
 empty-next : (ix : List ℕ) (j i a : ℕ) → eqb a 0 ≡ slotsEmpty ix j i → eqb (bitOr a (getD ix (j + i) 0)) 0 ≡ slotsEmpty ix j (i + 1)
 unfolding slotsEmpty allBelow

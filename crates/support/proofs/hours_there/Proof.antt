@@ -1,4 +1,4 @@
-use Rattle.support.proofs.Curve.{to-next}
+use Rattle.lists.proofs.Tests.{to-next}
 use Rattle.records.specs.Table.{HR}
 use Rattle.lists.specs.Tests.{allTo}
 use Rattle.station.specs.Parameters.{parameters}

@@ -1,6 +1,7 @@
-use Rattle.support.proofs.Curve.{to-next, there-is}
+use Rattle.support.proofs.Curve.{there-is}
 use Rattle.records.specs.Table.{FP}
 use Rattle.lists.specs.Tests.{allTo}
+use Rattle.lists.proofs.Tests.{to-next}
 use Rattle.station.specs.Parameters.{parameters}
 use Rattle.records.specs.Dossier.{records}
 use Prim.Native.Nat.{ℕ, _≤_, _-_, _+_}

@@ -2,12 +2,13 @@ use mathlib.Core.Path.{_≡_, refl, ap, sym, _∙_}
 use Prim.Native.Nat.{ℕ, _≤_, _-_}
 use native.Mathlib.Omega.{arith}
 use Rattle.lists.specs.Tests.{allTo}
+use Rattle.lists.proofs.Tests.{to-next}
 use Rattle.records.specs.Table.{RQ}
 use Rattle.records.specs.Dossier.{records}
 use Rattle.station.specs.Parameters.{parameters}
 use Rattle.index.specs.Slots.{slot}
 use Rattle.support.specs.Legs.{fuelled}
-use Rattle.support.proofs.Curve.{to-next, requests-none}
+use Rattle.support.proofs.Curve.{requests-none}
 use Rattle.support.proofs.requests_fuelled.Statement.{statement}
 use Rattle.support.proofs.requests_fuelled.Tie as tie
 

@@ -5,7 +5,7 @@ use Rattle.records.proofs.Marks.{mark-lt, no-key}
 use Rattle.records.specs.Table.{kinds}
 use Rattle.records.proofs.Record.{hp-size, fu-size, ad-size, mm-size, rq-size, hr-size, ch-size, th-size, fp-size}
 use Rattle.rules.specs.Fit.{holds}
-use Rattle.rules.proofs.ByMark.{fits-mm, fits-hp, fits-th, fits-hr, fits-ch, fits-fp, fits-rq}
+use Rattle.rules.proofs.ByMark.{fits-hp, fits-th, fits-hr, fits-ch, fits-fp, fits-rq}
 use Rattle.technology.proofs.Trials.{at-mark, of-mark}
 use mathlib.Core.Path.{ap, sym, subst, _∙_}
 use borrow.Author.Needs.{needs}
@@ -24,14 +24,14 @@ trial-requires c κs = search needs
 returns : tie.Need-returns
 returns c = c .trial .ensures ∙ at-mark _ _ 4 _ _ ad-size (c .before .ad-fits .ensures) (c .before .before .before .kind-at .ensures) (c .before .before .if1 .taken)
 
-u16-at-requires : tie.Need-u16-at-requires
-u16-at-requires c κs = search needs
+mm-fits-requires : tie.Need-mm-fits-requires
+mm-fits-requires c κs = search needs
 
 trial-requires-2 : tie.Need-trial-requires-2
 trial-requires-2 c κs = search needs
 
 returns-2 : tie.Need-returns-2
-returns-2 c = c .trial2 .ensures ∙ at-mark _ _ 5 _ _ mm-size (ap (λ (x : ℕ). eqb (c .before .before .before .before .before .before .args .t) 1 || eqb x 0) (c .before .u16-at .ensures) ∙ fits-mm _ _ (c .before .before .before .before .before .before .pre)) (c .before .before .before .before .kind-at .ensures) (c .before .before .if2 .taken)
+returns-2 c = c .trial2 .ensures ∙ at-mark _ _ 5 _ _ mm-size (c .before .mm-fits .ensures) (c .before .before .before .before .kind-at .ensures) (c .before .before .if2 .taken)
 
 trial-requires-3 : tie.Need-trial-requires-3
 trial-requires-3 c κs = search needs
@@ -100,7 +100,7 @@ tried-at-spec =
     ad-fits-requires
     trial-requires
     returns
-    u16-at-requires
+    mm-fits-requires
     trial-requires-2
     returns-2
     trial-requires-3
