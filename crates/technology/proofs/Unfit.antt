@@ -43,7 +43,7 @@ use Rattle.lookup.specs.Parts.{part, bytesOf, placeAt, partAt, Indexed, Complet
 use Rattle.lookup.proofs.Parts.{part-current, current-none, slot-fits, item-key}
 use Rattle.rules.specs.Fit.{Known, holds, fieldFits, ruleFits, fits, isCurrent, unfit}
 use Rattle.technology.specs.Looked.{fourthsEmpty, pointsFit, itemsFit, profilesFit, levelFits, proratedFit, pricedFit, allFit, notFit}
-use Rattle.rules.proofs.ByMark.{fits-hp, fits-fu, fits-mm, fits-rq, fits-hr, fits-ch, fits-fp, fits-lc, held-ad, held-th}
+use Rattle.rules.proofs.ByMark.{fits-rs, fits-hp, fits-fu, fits-mm, fits-rq, fits-hr, fits-ch, fits-fp, fits-lc, held-ad, held-th}
 use Rattle.rules.proofs.Sound.{each-unfit}
 
 -- ---- a record cut from the rest fits as the rest does
@@ -268,6 +268,13 @@ module _ (t : ℕ) (d ix rs : List ℕ) (top : ℕ) where
       slots-accepted g = sym (rw g (each-unfit (each-member (records d) (λ r m c. rw (← g) (member-fits r m c)))))
 
 -- ---- the tests of slots
+
+-- RS of a thermal station
+pub rs-thermal : (s : List ℕ) → ltb 0 (number 9 2 s) && eqb (number 19 4 s) 0 && eqb (number 23 4 s) 0 && eqb (number 27 2 s) 0 && eqb (number 29 2 s) 0 ≡ fits 1 1 s
+rs-thermal s =
+    subst (λ (b : Bool). b && eqb (number 19 4 s) 0 && eqb (number 23 4 s) 0 && eqb (number 27 2 s) 0 && eqb (number 29 2 s) 0 ≡ fits 1 1 s)
+    (and-true (ltb 0 (number 9 2 s) && true) ∙ and-true (ltb 0 (number 9 2 s)))
+    (fits-rs 1 s (omega arith, omega arith))
 
 pub fourths-next : (ix : List ℕ) (j i a : ℕ) → eqb a 0 ≡ fourthsEmpty ix j i → eqb (bitOr a (getD ix (j + 4 * i) 0)) 0 ≡ fourthsEmpty ix j (i + 1)
 unfolding fourthsEmpty allBelow

@@ -54,6 +54,28 @@ fn rs_fits(t: u8, s: &[u8]) -> bool
         & field_fits((t == 3) | (t == 4), true, fields::u16_at(s, 29) as u32)
 }
 
+// The same of a thermal station: the commonest one is told sooner by what it doesn't use.
+fn rs_thermal(s: &[u8]) -> bool
+    ensures { λ r. ⌜ r ≡ fits 1 1 (now (s .entry)) ⌝ }
+{
+    (0 < fields::u16_at(s, 9))
+        & (fields::u32_at(s, 19) == 0)
+        & (fields::u32_at(s, 23) == 0)
+        & (fields::u16_at(s, 27) == 0)
+        & (fields::u16_at(s, 29) == 0)
+}
+
+// The current RS.
+fn station_fits(t: u8, rs: &[u8]) -> bool
+    requires { ⌜ Known t ⌝ }
+    ensures { λ r. ⌜ r ≡ fits t 1 (now (rs .entry)) ⌝ }
+{
+    if t == 1 {
+        return rs_thermal(rs);
+    }
+    rs_fits(t, rs)
+}
+
 // FU: a hydroelectric station has no fuel, and emission is thermal.
 fn fu_fits(t: u8, s: &[u8]) -> bool
     requires { ⌜ Known t ⌝ }
@@ -242,7 +264,7 @@ fn all_fit(d: &[u8], index: &[u16], rs: &[u8], t: u8, top: usize) -> bool
     if (t != 4) & (index::NARROW < index.len()) {
         return false;
     }
-    rs_fits(t, rs)
+    station_fits(t, rs)
         & points_fit(index, t)
         & profiles_fit(d, index, t)
         & (level_fits(index, t, 1)

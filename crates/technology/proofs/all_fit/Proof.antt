@@ -8,8 +8,8 @@ use Rattle.technology.proofs.all_fit.Tie as tie
 returns : tie.Need-returns
 returns c = let a = c .before .before .before .before .args in other-wide (a .t) (a .d .now) (a .index .now) (a .rs .now) (a .top) (c .if1 .taken)
 
-rs-fits-requires : tie.Need-rs-fits-requires
-rs-fits-requires c κs = search needs
+station-fits-requires : tie.Need-station-fits-requires
+station-fits-requires c κs = search needs
 
 points-fit-requires : tie.Need-points-fit-requires
 points-fit-requires c κs = search needs
@@ -40,14 +40,14 @@ unfolding allTo
 returns-2 c =
     let a = c .before .before .before .before .before .before .before .before .before .before .before .before .before .args in
     by-slots (a .t) (a .d .now) (a .index .now) (a .rs .now) (a .top) (c .before .before .before .before .before .before .before .before .before .if1 .left)
-    (rw (c .priced-fit .ensures, c .before .prorated-fit .ensures, c .before .before .level-fits4 .ensures, c .before .before .before .level-fits3 .ensures, c .before .before .before .before .level-fits2 .ensures, c .before .before .before .before .before .level-fits .ensures, c .before .before .before .before .before .before .profiles-fit .ensures, c .before .before .before .before .before .before .before .points-fit .ensures, c .before .before .before .before .before .before .before .before .rs-fits .ensures) refl)
+    (rw (c .priced-fit .ensures, c .before .prorated-fit .ensures, c .before .before .level-fits4 .ensures, c .before .before .before .level-fits3 .ensures, c .before .before .before .before .level-fits2 .ensures, c .before .before .before .before .before .level-fits .ensures, c .before .before .before .before .before .before .profiles-fit .ensures, c .before .before .before .before .before .before .before .points-fit .ensures, c .before .before .before .before .before .before .before .before .station-fits .ensures) refl)
 
 pub all-fit-spec : {M : Type 1} → statement M
 all-fit-spec =
     tie.close
     (tie.spec
     returns
-    rs-fits-requires
+    station-fits-requires
     points-fit-requires
     profiles-fit-requires
     level-fits-requires
