@@ -1,7 +1,10 @@
 // Whether a dossier is accepted: 13, 1 to 9 and 17, each with its place.
 ghost use mathlib.Core.Path.{_≡_};
 ghost use mathlib.Core.Bool.{true};
+ghost use Prim.Native.Nat.{_<_};
+ghost use lib.ListN.{length};
 ghost use Rattle.records.specs.declared.Answer.the-variants.{Accepted};
+ghost use Rattle.records.specs.Dossier.{records, scan};
 ghost use Rattle.station.specs.Current.{readable};
 ghost use Rattle.lookup.specs.Parts.{Empty, Indexed, Complete, UpTo};
 ghost use Rattle.rules.specs.Answer.{answer};
@@ -28,15 +31,28 @@ fn beyond_reading(d: &[u8], index: &[u16], top: usize) -> Answer
     }
 }
 
-// The answer to a dossier with a record that the index has no slot for, as an FP: it is read once more, with a slot for every record.
-fn judge_forecast(d: &[u8]) -> Answer
+// The answer to a dossier, with an empty index that has a slot for each of its records.
+fn answer_in(d: &[u8], index: &mut [u16], top: usize) -> Answer
+    requires { ⌜ Empty (now index) × UpTo (now d) top × (top < length (now index)) ⌝ }
     ensures { λ r. ⌜ r ≡ answer (now (d .entry)) ⌝ }
 {
-    let mut index = [0u16; index::WIDE];
-    match lookup::open(d, &mut index) {
-        Answer::Accepted => beyond_reading(d, &index, index::WIDE),
+    match lookup::open(d, index) {
+        Answer::Accepted => beyond_reading(d, index, top),
         Answer::Refused { number, place } => Answer::Refused { number, place },
     }
+}
+
+// The answer to a dossier with a record that the index at hand has no slot for: it is read once more, with as many slots as the highest wants.
+fn judge_again(d: &[u8], top: usize) -> Answer
+    requires { ⌜ (scan 0 (records (now d)) ≡ Accepted) × UpTo (now d) top ⌝ }
+    ensures { λ r. ⌜ r ≡ answer (now (d .entry)) ⌝ }
+{
+    if top < index::NARROW {
+        let mut index = [0u16; index::NARROW];
+        return answer_in(d, &mut index, top);
+    }
+    let mut index = [0u16; index::WIDE];
+    answer_in(d, &mut index, 6350)
 }
 
 // The answer to a dossier that draws none of 13 and 1 to 3, with an index of all its records, given what the pass says.
@@ -63,15 +79,15 @@ pub fn judge(d: &[u8], index: &mut [u16]) -> Answer
             if top < index.len() {
                 indexed_answer(d, index, rising, top)
             } else {
-                judge_forecast(d)
+                judge_again(d, top)
             }
         }
         Passed::Stopped { number, place } => Answer::Refused { number, place },
     }
 }
 
-// The answer to a dossier, with an empty index for it. It goes as `judge` does: the wide index of `judge_forecast`, which is called from two
-// functions, then costs nothing where the index has a slot for every record.
+// The answer to a dossier, with an empty index for it. It goes as `judge` does: the indexes of `judge_again`, which is called from two
+// functions, then cost nothing where the index at hand has a slot for every record.
 fn accept_in(d: &[u8], index: &mut [u16]) -> Answer
     requires { ⌜ Empty (now index) ⌝ }
     ensures { λ r. ⌜ r ≡ answer (now (d .entry)) ⌝ }
@@ -81,17 +97,23 @@ fn accept_in(d: &[u8], index: &mut [u16]) -> Answer
             if top < index.len() {
                 indexed_answer(d, index, rising, top)
             } else {
-                judge_forecast(d)
+                judge_again(d, top)
             }
         }
         Passed::Stopped { number, place } => Answer::Refused { number, place },
     }
 }
 
-// The answer to a dossier. For a thermal or nuclear station a short index is likely enough, and sooner made.
+// The answer to a dossier. One that is too long needs no index; for a thermal or nuclear station a short one is likely enough, and sooner made.
 pub fn accept(d: &[u8]) -> Answer
     ensures { λ r. ⌜ r ≡ answer (now (d .entry)) ⌝ }
 {
+    if lookup::LONGEST < d.len() {
+        return Answer::Refused {
+            number: 13,
+            place: 0,
+        };
+    }
     if lookup::lean(d) {
         let mut index = [0u16; index::SHORT];
         return accept_in(d, &mut index);

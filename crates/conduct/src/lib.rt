@@ -82,10 +82,16 @@ fn energy_test_in(d: &[u8], index: &mut [u16], hour: u32, condition: u8, offer: 
     }
 }
 
-// The same. For a thermal or nuclear station a short index is likely enough, and sooner made.
+// The same. A dossier that is too long needs no index; for a thermal or nuclear station a short one is likely enough, and sooner made.
 pub fn energy_test(d: &[u8], hour: u32, condition: u8, offer: &[u8]) -> Verdict
     ensures { λ r. ⌜ r ≡ onOffer (now (d .entry)) hour condition (now (offer .entry)) ⌝ }
 {
+    if lookup::LONGEST < d.len() {
+        return Verdict::Refused {
+            number: 13,
+            place: 0,
+        };
+    }
     if lookup::lean(d) {
         let mut index = [0u16; index::SHORT];
         return energy_test_in(d, &mut index, hour, condition, offer);
@@ -112,10 +118,16 @@ fn price_test_in(
     }
 }
 
-// The same. For a thermal or nuclear station a short index is likely enough, and sooner made.
+// The same. A dossier that is too long needs no index; for a thermal or nuclear station a short one is likely enough, and sooner made.
 pub fn price_test(d: &[u8], hour: u32, level: u8, condition: u8, price: i32) -> Verdict
     ensures { λ r. ⌜ r ≡ onPrice (now (d .entry)) hour level condition price ⌝ }
 {
+    if lookup::LONGEST < d.len() {
+        return Verdict::Refused {
+            number: 13,
+            place: 0,
+        };
+    }
     if lookup::lean(d) {
         let mut index = [0u16; index::SHORT];
         return price_test_in(d, &mut index, hour, level, condition, price);

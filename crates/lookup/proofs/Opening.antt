@@ -17,15 +17,12 @@ use Rattle.records.specs.Walk.{folded, walk}
 use Rattle.records.proofs.Answers.{orElse-parts, not-refuseIf}
 use Rattle.records.proofs.Walk.{walk-is-fold, outcome}
 use Rattle.station.specs.Current.{readable, twins}
+use Rattle.station.proofs.Current.{too-long}
 use Rattle.index.specs.declared.Passed.{Passed}
 use Rattle.index.specs.declared.Passed.the-variants.{Ended, Stopped}
 use Rattle.index.specs.Slots.{short, wide, Kept, kept, fresh, keepStep, passOf, slotsOf}
 use Rattle.index.proofs.Holds.{rising-twins, top-slots, folded-length}
 use Rattle.lookup.specs.Parts.{scanned, indexOf, Indexed, Complete, UpTo}
-
-too-long : (d : List ℕ) → 60000 < length d → Refused 13 0 ≡ readable d
-unfolding readable refuseIf orElse
-too-long d h = rw (lt-ltb 60000 (length d) h) refl
 
 after : (d : List ℕ) → length d ≤ 60000 → readable d ≡ orElse (scan 0 (records d)) (twins 0 [] (records d))
 unfolding readable refuseIf orElse

@@ -14,7 +14,8 @@ use Rattle.lists.proofs.Tests.{split, or-false-right}
 use Rattle.records.specs.Table.{table, rowOf, FP, kinds}
 use Rattle.records.specs.Record.{mark, size, keyOf, widths}
 use Rattle.records.specs.Shapes.{shape, shapeOf, keyTest}
-use Rattle.records.specs.Dossier.{records}
+use Rattle.records.specs.declared.Answer.the-variants.{Accepted}
+use Rattle.records.specs.Dossier.{records, scan}
 use Rattle.station.specs.Current.{matches, better, currentFrom, current, startFrom, startOf}
 use Rattle.station.proofs.Current.{matches-mark, matches-key}
 use Rattle.index.specs.Slots.{slot, narrow, wide}
@@ -170,13 +171,13 @@ module _ (d ix : List ℕ) (h : Indexed d ix) where
         (λ t. held-ends (size k) d (getD ix (slot k n) 0) (current k n (records d)) (startOf k n (records d)) (at-key t))
         (λ f. omega (arith, ap (λ (p : Part). p .start) (no-key k n f), ap (λ (p : Part). p .length) (no-key k n f))))
 
--- no record has a slot above the widest index
-pub wide-up-to : (d ix : List ℕ) → Indexed d ix → UpTo d wide
-wide-up-to d ix h = each-map (λ r g. omega (arith, slot-lt (mark r) (keyOf r) (in-key r (g .0)))) (good-records d (h .clean))
+-- no record has a slot beyond the widest index
+pub wide-up-to : (d : List ℕ) → scan 0 (records d) ≡ Accepted → UpTo d 6350
+wide-up-to d h = each-map (λ r g. omega (arith, slot-lt (mark r) (keyOf r) (in-key r (g .0)))) (good-records d h)
 
 -- every record has a slot in an index of all slots
 pub wide-complete : (d ix : List ℕ) → Indexed d ix → wide ≤ length ix → Complete d ix
-wide-complete d ix h w = each-map (λ r g. omega (arith, w, slot-lt (mark r) (keyOf r) (in-key r (g .0)))) (good-records d (h .clean))
+wide-complete d ix h w = each-map (λ r g. omega (arith, w, g)) (wide-up-to d (h .clean))
 
 -- ---- keys and sizes fit
 

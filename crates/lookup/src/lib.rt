@@ -16,6 +16,9 @@ ghost use Rattle.lookup.specs.Parts.{scanned, lean, placeOf, placeAt, by
 use index::Passed;
 use records::Answer;
 
+// The longest dossier.
+pub const LONGEST: usize = 60000;
+
 // A part of a dossier, by its start and length.
 pub struct Part {
     pub start: usize,
@@ -57,7 +60,7 @@ pub fn scan(d: &[u8], index: &mut [u16]) -> Passed
     requires { ⌜ Empty (now index) ⌝ }
     ensures { λ r. ⌜ (r ≡ scanned (length (now (index .entry))) (now (d .entry))) × ((b : Bool) (m : ℕ) → r ≡ Ended b m → Indexed (now (d .entry)) (now (index .exit)) × UpTo (now (d .entry)) m) ⌝ }
 {
-    if 60000 < d.len() {
+    if LONGEST < d.len() {
         return Passed::Stopped {
             number: 13,
             place: 0,

@@ -1,8 +1,8 @@
 -- The answer, test by test.
-use mathlib.Core.Path.{_≡_, refl}
+use mathlib.Core.Path.{_≡_, refl, sym}
 use mathlib.Core.Bool.{true, false}
 use mathlib.Core.List.{List}
-use Prim.Native.Nat.{ℕ}
+use Prim.Native.Nat.{ℕ, _<_}
 use lib.ListN.{length}
 use Rattle.records.specs.declared.Answer.{Answer}
 use Rattle.records.specs.declared.Answer.the-variants.{Accepted, Refused}
@@ -10,6 +10,7 @@ use Rattle.records.specs.Table.{RS}
 use Rattle.records.specs.Answers.{orElse, refuseIf}
 use Rattle.records.specs.Dossier.{records}
 use Rattle.station.specs.Current.{readable}
+use Rattle.station.proofs.Current.{too-long}
 use Rattle.station.specs.Parameters.{Parameters, parameters, technology}
 use Rattle.rules.specs.Fit.{unfit}
 use Rattle.rules.specs.Curve.{curveFits, fuelHolds, windowFits, forecastFits}
@@ -44,6 +45,9 @@ module _ (d : List ℕ) where
   pub unreadable : (n p : ℕ) → Refused n p ≡ readable d → Refused n p ≡ answer d
   unfolding answer orElse
   unreadable n p e = rw (← e) refl
+
+  pub overlong : 60000 < length d → answer d ≡ Refused 13 0
+  overlong h = sym (unreadable 13 0 (too-long d h))
 
   module _ (e : readable d ≡ Accepted) where
     pub no-station : parameters (records d) .has RS 0 ≡ false → Refused 5 (length d) ≡ answer d

@@ -6,15 +6,18 @@ use Prim.Native.Nat.{ℕ, _≤_, _<_}
 use native.Mathlib.Nat.{le-refl, le-trans}
 use native.Mathlib.Omega.{arith}
 use lib.Dec.{leb, eqb}
-use borrow.Author.Tests.{leb-true, leb-false, eqb-true, eq-eqb}
+use lib.ListN.{length}
+use borrow.Author.Tests.{leb-true, leb-false, eqb-true, eq-eqb, lt-ltb}
 use Rattle.lists.specs.Lists.{Each, done, also, Pairwise, none, more, here, there}
 use Rattle.lists.proofs.Lists.{each-map, member-each}
 use Rattle.lists.proofs.Tests.{and-left, and-right}
 use Rattle.fields.specs.Numbers.{number}
 use Rattle.records.specs.Record.{mark, issue, keyOf}
+use Rattle.records.specs.declared.Answer.the-variants.{Refused}
+use Rattle.records.specs.Answers.{orElse, refuseIf}
 use Rattle.records.specs.Raise.{Raised}
 use Rattle.records.proofs.Raise.{raised-mark, raised-issue, raised-key, raised-nil}
-use Rattle.station.specs.Current.{matches, better, currentFrom, current}
+use Rattle.station.specs.Current.{matches, better, currentFrom, current, readable}
 use Rattle.station.specs.Declared.{IsCurrent, CurrentOf, absent, standing}
 
 pub matches-mark : (k n : ℕ) (r : List ℕ) → matches k n r ≡ true → mark r ≡ k
@@ -95,3 +98,9 @@ module _ {t : ℕ} where
   pub current-raised : (k n : ℕ) {l m : List (List ℕ)} → Pairwise (Raised t) l m → Raised t (current k n l) (current k n m)
   unfolding current
   current-raised k n a = from-raised k n a (raised-nil t)
+
+-- ---- 13
+
+pub too-long : (d : List ℕ) → 60000 < length d → Refused 13 0 ≡ readable d
+unfolding readable refuseIf orElse
+too-long d h = rw (lt-ltb 60000 (length d) h) refl
