@@ -9,7 +9,7 @@ use lib.Seq.{drop-cons, getD-take}
 use Rattle.reference.specs.declared.HourLevels.{HourLevels}
 use Rattle.text.specs.Text.{over}
 use Rattle.text.proofs.Over.{Wrote, byte}
-use Rattle.words.specs.Words.{heldBits, laminationWords, Blank, wordsTo, wordsOf}
+use Rattle.words.specs.Words.{heldBits, inArrays, laminationWords, Blank, wordsTo, wordsOf}
 
 -- ---- how many there are
 
@@ -17,6 +17,12 @@ pub wordsTo-length : (r : HourLevels) (n : ℕ) → length (wordsTo r n) ≡ 3 *
 unfolding wordsTo
 wordsTo-length r zero = refl
 wordsTo-length r (suc n) = simp length-append (omega (arith, wordsTo-length r n))
+
+-- the arrays tell all of them but the last four
+told-by-arrays : (r : HourLevels) (n : ℕ) → wordsTo (inArrays (r .from) (r .to) (r .cents) (r .profile) (r .count)) n ≡ wordsTo r n
+unfolding wordsTo
+told-by-arrays r zero = refl
+told-by-arrays r (suc n) = ap (λ (l : List ℕ). l ++ laminationWords r n) (told-by-arrays r n)
 
 -- always 66
 pub wordsOf-length : (r : HourLevels) → length (wordsOf r) ≡ 66
@@ -114,6 +120,11 @@ next-words r e i h k p =
 pub wrote-length : (r : HourLevels) (e : List ℕ) (i : ℕ) {w : List ℕ} → i ≤ 20 → 62 ≤ length e → Wrote (wordsTo r i) (begun r e) (3 * i + 2) w → length w ≡ length e
 wrote-length r e i h k (p, q) =
     rw (q, length-append, length-drop, length-set, length-set) (omega (arith, wordsTo-length r i))
+
+-- so after the words are cleared and the laminations put
+pub placed : (r : HourLevels) (e : List ℕ) {l w : List ℕ} → l ≡ replicate 62 0 ++ drop 62 e
+    → w ≡ wordsTo (inArrays (r .from) (r .to) (r .cents) (r .profile) (r .count)) 20 ++ drop 62 l → w ≡ wordsTo r 20 ++ drop 62 e
+placed r e p q = q ∙ rw (p, told-by-arrays r 20) refl
 
 pub placed-length : (r : HourLevels) (e : List ℕ) {w : List ℕ} → 62 ≤ length e → w ≡ wordsTo r 20 ++ drop 62 e → length w ≡ length e
 placed-length r e h q = rw (q, length-append, length-drop) (omega (arith, wordsTo-length r 20))

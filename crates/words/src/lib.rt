@@ -5,7 +5,7 @@ ghost use mathlib.Core.List.{_++_};
 ghost use Prim.Native.Nat.{_≤_};
 ghost use lib.ListN.{length, take, drop, replicate};
 ghost use Rattle.lookup.specs.Parts.{Empty};
-ghost use Rattle.words.specs.Words.{heldBits, Blank, wordsTo, wordsOf, wordsAnswer, wordsAfter};
+ghost use Rattle.words.specs.Words.{heldBits, inArrays, Blank, wordsTo, wordsOf, wordsAnswer, wordsAfter};
 use lists::choose;
 use records::Answer;
 use reference::HourLevels;
@@ -35,30 +35,36 @@ fn clear_words(words: &mut [u64])
 }
 
 // The profile, the number of laminations, and from, to and level of each; the places behind them have nothing, and few have anything.
-fn put_laminations(lv: HourLevels, words: &mut [u64])
-    requires { ⌜ (62 ≤ length (now words)) × (take 62 (now words) ≡ replicate 62 0) × Blank lv ⌝ }
-    ensures { λ r. ⌜ now (words .exit) ≡ wordsTo lv 20 ++ drop 62 (now (words .entry)) ⌝ }
+fn put_laminations<'a>(
+    from: &'a [u64; 20],
+    to: &'a [u64; 20],
+    cents: &'a [u64; 20],
+    profile: usize,
+    count: usize,
+    words: &mut [u64],
+)
+    requires { ⌜ (62 ≤ length (now words)) × (take 62 (now words) ≡ replicate 62 0) × Blank (inArrays (now from) (now to) (now cents) profile count) ⌝ }
+    ensures { λ r. ⌜ now (words .exit) ≡ wordsTo (inArrays (now (from .entry)) (now (to .entry)) (now (cents .entry)) profile count) 20 ++ drop 62 (now (words .entry)) ⌝ }
 {
-    words[0] = lv.profile as u64;
-    words[1] = lv.count as u64;
-    let count = lv.count;
+    words[0] = profile as u64;
+    words[1] = count as u64;
     let mut i = 0;
     while i < count {
         let at = 3 * i + 2;
-        words[at] = lv.from[i];
-        words[at + 1] = lv.to[i];
-        words[at + 2] = lv.cents[i];
+        words[at] = from[i];
+        words[at + 1] = to[i];
+        words[at + 2] = cents[i];
         i += 1;
     }
 }
 
-// All 66 words.
+// All 66 words. The arrays are lent: levels handed on as a value would be copied once more.
 fn put_words(lv: HourLevels, words: &mut [u64])
     requires { ⌜ (66 ≤ length (now words)) × Blank lv ⌝ }
     ensures { λ r. ⌜ now (words .exit) ≡ wordsOf lv ++ drop 66 (now (words .entry)) ⌝ }
 {
     clear_words(words);
-    put_laminations(lv, words);
+    put_laminations(&lv.from, &lv.to, &lv.cents, lv.profile, lv.count, words);
     words[62] = held_bits(lv.technology);
     words[63] = lv.start;
     words[64] = lv.noload;

@@ -1,5 +1,5 @@
 -- `words::put_words` meets its contract.
-use mathlib.Core.Path.{_≡_, ap, _∙_}
+use mathlib.Core.Path.{_≡_, ap}
 use mathlib.Core.List.{List, _++_}
 use Prim.Native.Nat.{ℕ, _≤_}
 use native.Mathlib.Omega.{arith}
@@ -7,32 +7,38 @@ use borrow.Author.Needs.{needs}
 use lib.ListN.{length, take, drop, set, length-set}
 use Rattle.reference.specs.declared.HourLevels.{HourLevels}
 use Rattle.words.specs.Words.{wordsTo}
-use Rattle.words.proofs.Stores.{within, placed-length, last-words}
+use Rattle.words.proofs.Stores.{within, placed, placed-length, last-words}
 use Rattle.words.proofs.put_words.Statement.{statement}
 use Rattle.words.proofs.put_words.Tie as tie
 
 clear-words-requires : tie.Need-clear-words-requires
 clear-words-requires c κs = omega (arith, c .before .before .pre .0)
 
+-- back to the function's entry from before the laminations are put, and from behind them
+abbrev entry : tie.After-put-laminations-arg4 → tie.Start
+entry c = c .before .before .before .before .before .before .before .before .before .before
+
+abbrev start : tie.After-held-bits → tie.Start
+start c = entry (c .before .before .before .before)
+
 put-laminations-requires : tie.Need-put-laminations-requires
 put-laminations-requires c κs =
-    let k = c .before .before .before in
-    let s = k .before .before .before in
-    (omega (arith, s .pre .0), ap (take 62) (k .clear-words .ensures), s .pre .1)
+    let h = entry c .pre .1 in
+    (omega (arith, entry c .pre .0), ap (take 62) (c .before .before .before .before .before .before .before .clear-words .ensures), record { few = h .few; none = h .none })
 
 held-bits-requires : tie.Need-held-bits-requires
 held-bits-requires c κs = search needs
 
 -- what the function was given
 abbrev lv-of : tie.After-held-bits → HourLevels
-lv-of c = c .before .before .before .before .before .before .before .before .before .before .args .lv
+lv-of c = start c .args .t1
 
 abbrev given : tie.After-held-bits → List ℕ
-given c = c .before .before .before .before .before .before .before .before .before .before .args .words .now
+given c = start c .args .words .now
 
 -- the list after `put_laminations`, and after the two stores behind it
 abbrev words-0 : tie.After-held-bits → List ℕ
-words-0 c = c .before .before .before .put-laminations .last .1 .0
+words-0 c = c .before .before .before .put-laminations .last .1 .1 .1 .1 .1 .0
 
 abbrev words-1 : tie.After-held-bits → List ℕ
 words-1 c = set (words-0 c) 62 (c .held-bits .result)
@@ -53,19 +59,19 @@ slice-write-words-4 : tie.Need-slice-write-words-4
 slice-write-words-4 c = within (words-2 c) 64 _ (within (words-1 c) 63 _ (within (words-0 c) 62 _ (omega arith)))
 
 -- what stands once the laminations are put
-placed : (c : tie.After-held-bits) → words-0 c ≡ wordsTo (lv-of c) 20 ++ drop 62 (given c)
-placed c =
+stands : (c : tie.After-held-bits) → words-0 c ≡ wordsTo (lv-of c) 20 ++ drop 62 (given c)
+stands c =
     let p = c .before .before .before in
-    p .put-laminations .ensures ∙ ap (λ (l : List ℕ). wordsTo (lv-of c) 20 ++ drop 62 l) (p .before .before .before .before .clear-words .ensures)
+    placed (lv-of c) (given c) (p .before .before .before .before .before .before .before .before .clear-words .ensures) (p .put-laminations .ensures)
 
 same-length : tie.Need-same-length
 same-length c =
-    let h : 66 ≤ length (given c) = c .before .before .before .before .before .before .before .before .before .before .pre .0 in
-    let l : length (set (set (words-2 c) 64 (lv-of c .noload)) 65 (lv-of c .reserve)) ≡ length (given c) = simp length-set (placed-length (lv-of c) (given c) (omega arith) (placed c)) in
+    let h : 66 ≤ length (given c) = start c .pre .0 in
+    let l : length (set (set (words-2 c) 64 (lv-of c .noload)) 65 (lv-of c .reserve)) ≡ length (given c) = simp length-set (placed-length (lv-of c) (given c) (omega arith) (stands c)) in
     omega arith
 
 returns : tie.Need-returns
-returns c = last-words (lv-of c) (given c) (c .before .before .before .before .before .before .before .before .before .before .pre .0) (c .held-bits .ensures) (placed c)
+returns c = last-words (lv-of c) (given c) (start c .pre .0) (c .held-bits .ensures) (stands c)
 
 pub put-words-spec : {M : Type 1} → statement M
 put-words-spec =
