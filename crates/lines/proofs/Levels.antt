@@ -14,7 +14,7 @@ use Rattle.rules.specs.Fit.{start, noLoad, reserve, holds}
 use Rattle.reference.specs.declared.HourLevels.{HourLevels}
 use Rattle.formulas.specs.Levels.{Shown, row}
 use Rattle.reference.specs.Packed.{laminationAt, laminationsFrom, singleOf, unpacked}
-use Rattle.lines.specs.Parts.{packedReport, laminationLines, heldLine, otherLines}
+use Rattle.lines.specs.Parts.{packedReport, inArrays, laminationLines, heldLine, otherLines}
 use Rattle.layout.specs.Report.{profileLine, energyLine, amountLine, levelLine, levelLines, reportText}
 use Rattle.layout.proofs.Lines.{profile-length, lines-append, lines-within}
 
@@ -101,12 +101,21 @@ pub others-within : (t x y z : ℕ) → length (otherLines t x y z) ≤ 294
 unfolding otherLines
 others-within t x y z = simp length-append (omega (arith, single-within t start x, single-within t noLoad y, single-within t reserve z))
 
--- the report as profile line, energy lines and the others
-pub report-is : (r : HourLevels) → packedReport r ≡ profileLine (r .profile) ++ laminationLines r (r .count) ++ otherLines (r .technology) (r .start) (r .noload) (r .reserve)
-unfolding packedReport reportText unpacked otherLines
-report-is r = simp (lines-append, append-assoc)
+-- the energy lines are told by the arrays alone
+abbrev pub energyLines : HourLevels → List ℕ
+energyLines r = laminationLines (inArrays (r .from) (r .to) (r .cents)) (r .count)
 
-pub report-length : (r : HourLevels) → length (packedReport r) ≡ length (profileLine (r .profile)) + length (laminationLines r (r .count)) + length (otherLines (r .technology) (r .start) (r .noload) (r .reserve))
+told-by-arrays : (r : HourLevels) (i n : ℕ) → laminationsFrom (inArrays (r .from) (r .to) (r .cents)) i n ≡ laminationsFrom r i n
+unfolding laminationsFrom
+told-by-arrays r i zero = refl
+told-by-arrays r i (suc n) = ap (λ (l : List Shown). laminationAt r i ∷ l) (told-by-arrays r (suc i) n)
+
+-- the report as profile line, energy lines and the others
+pub report-is : (r : HourLevels) → packedReport r ≡ profileLine (r .profile) ++ energyLines r ++ otherLines (r .technology) (r .start) (r .noload) (r .reserve)
+unfolding packedReport reportText unpacked otherLines
+report-is r = rw (told-by-arrays r 0 (r .count)) (simp (lines-append, append-assoc))
+
+pub report-length : (r : HourLevels) → length (packedReport r) ≡ length (profileLine (r .profile)) + length (energyLines r) + length (otherLines (r .technology) (r .start) (r .noload) (r .reserve))
 report-length r = rw (report-is r) (simp length-append)
 
 -- a report of at most 20 laminations has at most 2,283 bytes
@@ -117,6 +126,6 @@ report-within r h =
       report-length r,
       profile-length (r .profile),
       decimal-within (r .profile),
-      laminations-within r (r .count),
+      laminations-within (inArrays (r .from) (r .to) (r .cents)) (r .count),
       others-within (r .technology) (r .start) (r .noload) (r .reserve),
     )

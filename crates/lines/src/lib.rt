@@ -5,10 +5,14 @@ ghost use Prim.Native.Nat.{_≤_};
 ghost use lib.ListN.{length};
 ghost use Rattle.text.specs.Text.{over, tenths, space};
 ghost use Rattle.rules.specs.Fit.{holds};
-ghost use Rattle.layout.specs.Report.{profileLine, energyLine, amountLine};
-ghost use Rattle.lines.specs.Parts.{laminationLines, heldLine, otherLines, packedReport};
+ghost use Rattle.layout.specs.Report.{profileLine, energyLine, amountLine, shortFor, bufferWith, written};
+ghost use Rattle.lines.specs.Parts.{inArrays, laminationLines, heldLine, otherLines, packedReport};
+use layout::Written;
 use reference::HourLevels;
 use technology::level_held;
+
+// No report is longer.
+const LONGEST: usize = 2283;
 
 // The word and the line end are 9 bytes.
 fn profile_line_len(profile: u64) -> usize
@@ -66,36 +70,39 @@ fn put_energy_line(buf: &mut [u8], lamination: u64, from: u64, to: u64, cents: u
     c + put_amount_line(&mut buf[c..], b" ", cents)
 }
 
-// All energy lines.
-fn laminations_len(lv: HourLevels) -> usize
-    requires { ⌜ lv .count ≤ 20 ⌝ }
-    ensures { λ r. ⌜ r ≡ length (laminationLines lv (lv .count)) ⌝ }
+// All energy lines, of laminations in lent arrays.
+fn laminations_len<'a>(
+    from: &'a [u64; 20],
+    to: &'a [u64; 20],
+    cents: &'a [u64; 20],
+    count: usize,
+) -> usize
+    requires { ⌜ count ≤ 20 ⌝ }
+    ensures { λ r. ⌜ r ≡ length (laminationLines (inArrays (now (from .entry)) (now (to .entry)) (now (cents .entry))) count) ⌝ }
 {
-    let count = lv.count;
     let mut len = 0;
     let mut i = 0;
     while i < count {
-        len += energy_line_len((i + 1) as u64, lv.from[i], lv.to[i], lv.cents[i]);
+        len += energy_line_len((i + 1) as u64, from[i], to[i], cents[i]);
         i += 1;
     }
     len
 }
 
-fn put_laminations(buf: &mut [u8], lv: HourLevels) -> usize
-    requires { ⌜ (lv .count ≤ 20) × (length (laminationLines lv (lv .count)) ≤ length (now buf)) ⌝ }
-    ensures { λ r. ⌜ (r ≡ length (laminationLines lv (lv .count))) × (now (buf .exit) ≡ over (laminationLines lv (lv .count)) (now (buf .entry))) ⌝ }
+fn put_laminations<'a>(
+    buf: &mut [u8],
+    from: &'a [u64; 20],
+    to: &'a [u64; 20],
+    cents: &'a [u64; 20],
+    count: usize,
+) -> usize
+    requires { ⌜ (count ≤ 20) × (length (laminationLines (inArrays (now from) (now to) (now cents)) count) ≤ length (now buf)) ⌝ }
+    ensures { λ r. ⌜ (r ≡ length (laminationLines (inArrays (now (from .entry)) (now (to .entry)) (now (cents .entry))) count)) × (now (buf .exit) ≡ over (laminationLines (inArrays (now (from .entry)) (now (to .entry)) (now (cents .entry))) count) (now (buf .entry))) ⌝ }
 {
-    let laminations = lv.count;
     let mut at = 0;
     let mut i = 0;
-    while i < laminations {
-        at += put_energy_line(
-            &mut buf[at..],
-            (i + 1) as u64,
-            lv.from[i],
-            lv.to[i],
-            lv.cents[i],
-        );
+    while i < count {
+        at += put_energy_line(&mut buf[at..], (i + 1) as u64, from[i], to[i], cents[i]);
         i += 1;
     }
     at
@@ -150,27 +157,32 @@ fn put_others(buf: &mut [u8], technology: u8, start: u64, noload: u64, reserve: 
     b + put_held_line(&mut buf[b..], technology, 4, b"reserve ", reserve)
 }
 
-// The whole report.
-pub fn report_len(lv: HourLevels) -> usize
+// The whole report. Its length comes first, so that a buffer too short keeps every byte; where any report fits it isn't asked for.
+pub fn put_report(buf: &mut [u8], lv: HourLevels) -> Written
     requires { ⌜ lv .count ≤ 20 ⌝ }
-    ensures { λ r. ⌜ r ≡ length (packedReport lv) ⌝ }
+    ensures answer { λ r. ⌜ r ≡ written (shortFor (packedReport lv) (length (now (buf .entry)))) (length (packedReport lv)) ⌝ }
+    ensures buffer { λ r. ⌜ now (buf .exit) ≡ bufferWith (shortFor (packedReport lv) (length (now (buf .entry)))) (packedReport lv) (now (buf .entry)) ⌝ }
 {
-    let first = profile_line_len(lv.profile as u64);
-    first + laminations_len(lv) + others_len(lv.technology, lv.start, lv.noload, lv.reserve)
-}
-
-pub fn put_report(buf: &mut [u8], lv: HourLevels) -> usize
-    requires { ⌜ (lv .count ≤ 20) × (length (packedReport lv) ≤ length (now buf)) ⌝ }
-    ensures { λ r. ⌜ (r ≡ length (packedReport lv)) × (now (buf .exit) ≡ over (packedReport lv) (now (buf .entry))) ⌝ }
-{
+    if buf.len() < LONGEST {
+        let first = profile_line_len(lv.profile as u64);
+        let energy = laminations_len(&lv.from, &lv.to, &lv.cents, lv.count);
+        if buf.len() < first + energy + others_len(lv.technology, lv.start, lv.noload, lv.reserve) {
+            return Written::Refused {
+                number: 15,
+                place: 0,
+            };
+        }
+    }
     let a = put_profile_line(buf, lv.profile as u64);
-    let b = a + put_laminations(&mut buf[a..], lv);
-    b
-        + put_others(
-            &mut buf[b..],
-            lv.technology,
-            lv.start,
-            lv.noload,
-            lv.reserve,
-        )
+    let b = a + put_laminations(&mut buf[a..], &lv.from, &lv.to, &lv.cents, lv.count);
+    Written::Bytes(
+        b
+            + put_others(
+                &mut buf[b..],
+                lv.technology,
+                lv.start,
+                lv.noload,
+                lv.reserve,
+            ),
+    )
 }

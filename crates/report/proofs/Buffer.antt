@@ -1,11 +1,10 @@
 -- The answer to a report, and the buffer after it.
 use mathlib.Core.Path.{_≡_, refl}
 use mathlib.Core.List.{List, map}
-use Prim.Native.Nat.{ℕ, _<_, _≤_}
-use borrow.Author.Tests.{lt-ltb, le-ltb}
+use Prim.Native.Nat.{ℕ}
 use lib.ListN.{length}
 use Rattle.records.specs.declared.Answer.the-variants.{Accepted, Refused as Turned}
-use Rattle.records.specs.Answers.{orElse, refuseIf, isAccepted}
+use Rattle.records.specs.Answers.{orElse, isAccepted}
 use Rattle.records.specs.Dossier.{records}
 use Rattle.station.specs.Parameters.{parameters}
 use Rattle.rules.specs.Answer.{answer}
@@ -15,15 +14,8 @@ use Rattle.reference.specs.Packed.{unpacked}
 use Rattle.layout.specs.declared.Written.{Written}
 use Rattle.layout.specs.declared.Written.the-variants.{Refused}
 use Rattle.lines.specs.Parts.{packedReport}
-use Rattle.layout.specs.Report.{report, shortFor, bufferWith, written, reportAnswer, bufferAfter}
-
-pub too-short : (text : List ℕ) (n : ℕ) → n < length text → shortFor text n ≡ Turned 15 0
-unfolding shortFor refuseIf
-too-short text n h = rw (lt-ltb n (length text) h)
-
-pub long-enough : (text : List ℕ) (n : ℕ) → length text ≤ n → shortFor text n ≡ Accepted
-unfolding shortFor refuseIf
-long-enough text n h = rw (le-ltb n (length text) h)
+use Rattle.lines.proofs.Fits.{Put}
+use Rattle.layout.specs.Report.{report, bufferWith, written, reportAnswer, bufferAfter}
 
 -- levels as code hands them over give the dossier's report
 pub packed-is : (d : List ℕ) (h : ℕ) (r : HourLevels) → unpacked r ≡ map shown (levels d h) → r .profile ≡ profile (parameters (records d)) h → packedReport r ≡ report d h
@@ -37,10 +29,9 @@ Told d h e w b = (w ≡ written (reportAnswer d h (length e)) (length (report d 
 module _ (d : List ℕ) (h : ℕ) (e : List ℕ) where
   -- an accepted dossier's levels are in hand: all that is left to refuse is 15
   pub told-levels : (r : HourLevels) {w : Written} {b : List ℕ} → answer d ≡ Accepted → packedReport r ≡ report d h
-      → w ≡ written (shortFor (packedReport r) (length e)) (length (packedReport r)) → b ≡ bufferWith (shortFor (packedReport r) (length e)) (packedReport r) e
-      → Told d h e w b
+      → Put (packedReport r) e w b → Told d h e w b
   unfolding reportAnswer bufferAfter orElse
-  told-levels r a q x y = rw (a, ← q) (x, y)
+  told-levels r a q p = rw (a, ← q) p
 
   -- a refused dossier's refusal comes first
   pub told-refusal : (k p : ℕ) → answer d ≡ Turned k p → Told d h e (Refused k p) e

@@ -30,7 +30,8 @@ use Rattle.text.proofs.Over.{Wrote}
 use Rattle.layout.specs.declared.Written.{Written}
 use Rattle.layout.specs.declared.Written.the-variants.{Bytes, Refused}
 use Rattle.layout.specs.Report.{report, bufferWith, written, reportAnswer, bufferAfter, printed, prints}
-use Rattle.report.proofs.Buffer.{long-enough, Told}
+use Rattle.lines.proofs.Fits.{long-enough}
+use Rattle.report.proofs.Buffer.{Told}
 use Rattle.layout.proofs.Lines.{either, text-within}
 
 -- ---- room

@@ -4,27 +4,9 @@ ghost use Prim.Native.Nat.{_≤_};
 ghost use lib.ListN.{length};
 ghost use Rattle.text.specs.Text.{over};
 ghost use Rattle.lookup.specs.Parts.{Empty};
-ghost use Rattle.layout.specs.Report.{shortFor, bufferWith, written, report, reportAnswer, bufferAfter, prints};
-ghost use Rattle.lines.specs.Parts.{packedReport};
+ghost use Rattle.layout.specs.Report.{written, report, reportAnswer, bufferAfter, prints};
 use layout::Written;
 use records::Answer;
-use reference::HourLevels;
-
-// The report of levels in hand. Its length comes first, so that a buffer too short keeps every byte.
-fn report_levels(lv: HourLevels, buf: &mut [u8]) -> Written
-    requires { ⌜ lv .count ≤ 20 ⌝ }
-    ensures answer { λ r. ⌜ r ≡ written (shortFor (packedReport lv) (length (now (buf .entry)))) (length (packedReport lv)) ⌝ }
-    ensures buffer { λ r. ⌜ now (buf .exit) ≡ bufferWith (shortFor (packedReport lv) (length (now (buf .entry)))) (packedReport lv) (now (buf .entry)) ⌝ }
-{
-    if buf.len() < lines::report_len(lv) {
-        Written::Refused {
-            number: 15,
-            place: 0,
-        }
-    } else {
-        Written::Bytes(lines::put_report(buf, lv))
-    }
-}
 
 // The report of a dossier at an hour, written to a lent buffer; worked out in an empty index.
 fn report_in(d: &[u8], index: &mut [u16], hour: u32, buf: &mut [u8]) -> Written
@@ -33,7 +15,7 @@ fn report_in(d: &[u8], index: &mut [u16], hour: u32, buf: &mut [u8]) -> Written
     ensures buffer { λ r. ⌜ now (buf .exit) ≡ bufferAfter (now (d .entry)) hour (now (buf .entry)) ⌝ }
 {
     match acceptance::judge(d, index) {
-        Answer::Accepted => report_levels(reference::hour_levels(d, index, hour), buf),
+        Answer::Accepted => lines::put_report(buf, reference::hour_levels(d, index, hour)),
         Answer::Refused { number, place } => Written::Refused { number, place },
     }
 }

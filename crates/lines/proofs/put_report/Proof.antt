@@ -1,88 +1,130 @@
--- `report::put_report` meets its contract: the profile line, the energy lines and the others, each behind the last.
+-- `lines::put_report` meets its contract: the profile line, the energy lines and the others, each behind the last.
+use mathlib.Core.Path.{_≡_}
 use mathlib.Core.List.{List, _++_}
+use mathlib.Core.Logic.{⊎-elim}
 use Prim.Native.Nat.{ℕ, _+_, _≤_}
 use native.Mathlib.Omega.{arith}
 use borrow.Author.Needs.{needs}
 use lib.ListN.{length}
-use Rattle.text.proofs.Over.{then}
-use Rattle.lines.specs.Parts.{laminationLines, otherLines}
+use Rattle.text.proofs.Over.{Wrote, then}
+use Rattle.lines.specs.Parts.{packedReport, otherLines}
 use Rattle.layout.specs.Report.{profileLine}
-use Rattle.lines.proofs.Levels.{report-is, report-length}
+use Rattle.lines.proofs.Fits.{put-none, put-whole}
+use Rattle.lines.proofs.Levels.{energyLines, report-is, report-length, report-within}
 use Rattle.lines.proofs.put_report.Statement.{statement}
 use Rattle.lines.proofs.put_report.Tie as tie
 
 -- the three parts
 abbrev first-line : tie.Start → List ℕ
-first-line c = profileLine (c .args .lv .profile)
+first-line c = profileLine (c .args .t2 .profile)
 
 abbrev energy-lines : tie.Start → List ℕ
-energy-lines c = laminationLines (c .args .lv) (c .args .lv .count)
+energy-lines c = energyLines (c .args .t2)
 
 abbrev other-lines : tie.Start → List ℕ
-other-lines c = otherLines (c .args .lv .technology) (c .args .lv .start) (c .args .lv .noload) (c .args .lv .reserve)
+other-lines c = otherLines (c .args .t2 .technology) (c .args .t2 .start) (c .args .t2 .noload) (c .args .t2 .reserve)
 
-room : (c : tie.Start) → length (first-line c) + length (energy-lines c) + length (other-lines c) ≤ length (c .args .buf .now)
-room c = omega (arith, report-length (c .args .lv))
+-- how long the parts are, together no longer than any report
+parts : (c : tie.Start) → (length (packedReport (c .args .t2)) ≡ length (first-line c) + length (energy-lines c) + length (other-lines c)) × (length (packedReport (c .args .t2)) ≤ 2283)
+parts c = (report-length (c .args .t2), report-within (c .args .t2) (c .pre))
 
--- from behind each of them, back to the function's entry
-abbrev first : tie.After-slice-known2 → tie.Start
-first c = c .before .before .before .before .before
+profile-line-len-requires : tie.Need-profile-line-len-requires
+profile-line-len-requires c κs = search needs
 
-abbrev energy : tie.After-slice-known3 → tie.Start
-energy c = first (c .before .before .before .before)
+laminations-len-requires : tie.Need-laminations-len-requires
+laminations-len-requires c κs = search needs
 
-abbrev others : tie.After-slice-known4 → tie.Start
+add-if2 : tie.Need-add-if2
+add-if2 c = omega (arith, parts (c .before .before .before .before .before .before .before .before))
+
+others-len-requires : tie.Need-others-len-requires
+others-len-requires c κs = search needs
+
+add-if2-2 : tie.Need-add-if2-2
+add-if2-2 c = omega (arith, parts (c .before .before .before .before .before .before .before .before .before))
+
+returns : tie.Need-returns
+returns c =
+    let s = c .before .before .before .before .before .before .before .before .before .before in
+    put-none (packedReport (s .args .t2)) (s .args .buf .now) (omega (arith, parts s, c .if2 .taken))
+
+-- past the test there is room: the report was found to fit, or any would
+abbrev entry : tie.Joined1 → tie.Start
+entry c = c .before .before
+
+room : (c : tie.Joined1) → length (packedReport (entry c .args .t2)) ≤ length (entry c .args .buf .now)
+room c = ⊎-elim (λ w. omega (arith, parts (entry c), w .8 .left)) (λ w. omega (arith, parts (entry c), w .left)) (c .if1 .came)
+
+fits : (c : tie.Joined1) → length (first-line (entry c)) + length (energy-lines (entry c)) + length (other-lines (entry c)) ≤ length (entry c .args .buf .now)
+fits c = omega (arith, parts (entry c), room c)
+
+-- from behind each part, back to the test
+abbrev first : tie.After-slice-known2 → tie.Joined1
+first c = c .before .before .before .before
+
+abbrev energy : tie.After-slice-known3 → tie.Joined1
+energy c = first (c .before .before .before .before .before .before .before .before)
+
+abbrev others : tie.After-slice-known4 → tie.Joined1
 others c = energy (c .before .before .before .before)
 
 put-profile-line-requires : tie.Need-put-profile-line-requires
-put-profile-line-requires c κs = omega (arith, room (c .before .before))
+put-profile-line-requires c κs = omega (arith, fits (c .before))
 
 sub-put-laminations : tie.Need-sub-put-laminations
-sub-put-laminations c = omega (arith, room (first c))
+sub-put-laminations c = omega (arith, fits (first c))
 
 part-put-laminations-start : tie.Need-part-put-laminations-start
-part-put-laminations-start c = omega (arith, room (first c))
+part-put-laminations-start c = omega (arith, fits (first c))
 
 part-put-laminations-end : tie.Need-part-put-laminations-end
 part-put-laminations-end c = search needs
 
 put-laminations-requires : tie.Need-put-laminations-requires
-put-laminations-requires c κs = (first (c .before) .pre .0, omega (arith, room (first (c .before))))
+put-laminations-requires c κs =
+    let c₁ = c .before .before .before .before .before in (entry (first c₁) .pre, omega (arith, fits (first c₁)))
 
 add-b : tie.Need-add-b
-add-b c = omega (arith, room (energy c))
+add-b c = omega (arith, fits (energy c))
 
 sub-put-others : tie.Need-sub-put-others
-sub-put-others c = omega (arith, room (energy c))
+sub-put-others c = omega (arith, fits (energy c))
 
 part-put-others-start : tie.Need-part-put-others-start
-part-put-others-start c = omega (arith, room (energy c))
+part-put-others-start c = omega (arith, fits (energy c))
 
 part-put-others-end : tie.Need-part-put-others-end
 part-put-others-end c = search needs
 
 put-others-requires : tie.Need-put-others-requires
-put-others-requires c κs = omega (arith, room (energy (c .before)))
+put-others-requires c κs = omega (arith, fits (energy (c .before)))
 
-add-result : tie.Need-add-result
-add-result c = omega (arith, room (others c))
+add-t26 : tie.Need-add-t26
+add-t26 c = omega (arith, fits (others c))
 
 same-length : tie.Need-same-length
 same-length c = search needs
 
-returns : tie.Need-returns
-returns c =
+returns-2 : tie.Need-returns-2
+returns-2 c =
     let c₂ = c .before .before .before .before in
-    let c₁ = c₂ .before .before .before .before in
-    let s = others c in
+    let c₁ = c₂ .before .before .before .before .before .before .before .before in
+    let s = entry (others c) in
     let e = s .args .buf .now in
     let two = then (first-line s) (energy-lines s) e (c₁ .before .before .put-profile-line .ensures) (c₂ .before .before .put-laminations .ensures) in
-    rw (report-is (s .args .lv)) (then (first-line s ++ energy-lines s) (other-lines s) e two (c .before .before .put-others .ensures))
+    let all = then (first-line s ++ energy-lines s) (other-lines s) e two (c .before .before .put-others .ensures) in
+    put-whole (packedReport (s .args .t2)) e (room (others c)) (rw (report-is (s .args .t2)) all)
 
 pub put-report-spec : {M : Type 1} → statement M
 put-report-spec =
     tie.close
     (tie.spec
+    profile-line-len-requires
+    laminations-len-requires
+    add-if2
+    others-len-requires
+    add-if2-2
+    returns
     put-profile-line-requires
     sub-put-laminations
     part-put-laminations-start
@@ -93,6 +135,6 @@ put-report-spec =
     part-put-others-start
     part-put-others-end
     put-others-requires
-    add-result
+    add-t26
     same-length
-    returns)
+    returns-2)

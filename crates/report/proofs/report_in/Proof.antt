@@ -20,14 +20,13 @@ answer-is c e = sym (c .judge .ensures .0) ∙ e
 
 hour-levels-requires : tie.Need-hour-levels-requires
 hour-levels-requires c κs =
-    let j = c .before .before .before .before .before in
-    let e = c .before .enum-told .given .1 in (record { clean = answer-is j e }, j .judge .ensures .1 e)
+    let j = c .before .before .before .before .before .before in
+    let e = c .before .before .enum-told .given .1 in (record { clean = answer-is j e }, j .judge .ensures .1 e)
 
-report-levels-requires : tie.Need-report-levels-requires
-report-levels-requires c κs =
-    let l = c .before in
-    let args = l .before .before .before .before .before .before .before .before .before .before .before .args in
-    handed-count (args .d .now) (args .hour) (l .hour-levels .result) (l .hour-levels .ensures)
+put-report-requires : tie.Need-put-report-requires
+put-report-requires c κs =
+    let args = c .before .before .before .before .before .before .before .before .before .before .before .before .args in
+    handed-count (args .d .now) (args .hour) (c .hour-levels .result) (c .hour-levels .ensures)
 
 enum-known-number : tie.Need-enum-known-number
 enum-known-number c = search needs
@@ -40,13 +39,12 @@ same-length-2 c = search needs
 
 returns : tie.Need-returns
 returns c =
-    let l = c .before .before .before .before in
-    let j = l .before .before .before .before .before .before in
+    let l = c .before .before .before in
+    let j = l .before .before .before .before .before .before .before in
     let args = j .before .before .before .before .before .args in
-    let told = c .before .before .report-levels .ensures in
     let r = l .hour-levels .result in
-    told-levels (args .d .now) (args .hour) (args .buf .now) r (answer-is j (l .before .before .enum-told .given .1))
-    (packed-is (args .d .now) (args .hour) r (handed-shown (args .d .now) (args .hour) r (l .hour-levels .ensures)) (handed-profile (args .d .now) (args .hour) r (l .hour-levels .ensures))) (told .0) (told .1)
+    told-levels (args .d .now) (args .hour) (args .buf .now) r (answer-is j (l .before .before .before .enum-told .given .1))
+    (packed-is (args .d .now) (args .hour) r (handed-shown (args .d .now) (args .hour) r (l .hour-levels .ensures)) (handed-profile (args .d .now) (args .hour) r (l .hour-levels .ensures))) (c .before .before .put-report .ensures)
 
 same-length-3 : tie.Need-same-length-3
 same-length-3 c = search needs
@@ -64,7 +62,7 @@ report-in-spec =
     judge-requires
     enum-told
     hour-levels-requires
-    report-levels-requires
+    put-report-requires
     enum-known-number
     same-length
     same-length-2
