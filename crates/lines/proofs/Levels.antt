@@ -102,8 +102,8 @@ unfolding otherLines
 others-within t x y z = simp length-append (omega (arith, single-within t start x, single-within t noLoad y, single-within t reserve z))
 
 -- the energy lines are told by the arrays alone
-abbrev pub energyLines : HourLevels → List ℕ
-energyLines r = laminationLines (inArrays (r .from) (r .to) (r .cents)) (r .count)
+abbrev pub linesInArrays : HourLevels → List ℕ
+linesInArrays r = laminationLines (inArrays (r .from) (r .to) (r .cents)) (r .count)
 
 told-by-arrays : (r : HourLevels) (i n : ℕ) → laminationsFrom (inArrays (r .from) (r .to) (r .cents)) i n ≡ laminationsFrom r i n
 unfolding laminationsFrom
@@ -111,11 +111,11 @@ told-by-arrays r i zero = refl
 told-by-arrays r i (suc n) = ap (λ (l : List Shown). laminationAt r i ∷ l) (told-by-arrays r (suc i) n)
 
 -- the report as profile line, energy lines and the others
-pub report-is : (r : HourLevels) → packedReport r ≡ profileLine (r .profile) ++ energyLines r ++ otherLines (r .technology) (r .start) (r .noload) (r .reserve)
+pub report-is : (r : HourLevels) → packedReport r ≡ profileLine (r .profile) ++ linesInArrays r ++ otherLines (r .technology) (r .start) (r .noload) (r .reserve)
 unfolding packedReport reportText unpacked otherLines
 report-is r = rw (told-by-arrays r 0 (r .count)) (simp (lines-append, append-assoc))
 
-pub report-length : (r : HourLevels) → length (packedReport r) ≡ length (profileLine (r .profile)) + length (energyLines r) + length (otherLines (r .technology) (r .start) (r .noload) (r .reserve))
+pub report-length : (r : HourLevels) → length (packedReport r) ≡ length (profileLine (r .profile)) + length (linesInArrays r) + length (otherLines (r .technology) (r .start) (r .noload) (r .reserve))
 report-length r = rw (report-is r) (simp length-append)
 
 -- a report of at most 20 laminations has at most 2,283 bytes

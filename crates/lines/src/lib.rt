@@ -157,7 +157,8 @@ fn put_others(buf: &mut [u8], technology: u8, start: u64, noload: u64, reserve: 
     b + put_held_line(&mut buf[b..], technology, 4, b"reserve ", reserve)
 }
 
-// The whole report. Its length comes first, so that a buffer too short keeps every byte; where any report fits it isn't asked for.
+// The whole report. Its length comes first, so that a buffer too short keeps every byte; a buffer that any report fits needs none.
+// The arrays are lent: levels handed on as a value would be copied once more.
 pub fn put_report(buf: &mut [u8], lv: HourLevels) -> Written
     requires { ⌜ lv .count ≤ 20 ⌝ }
     ensures answer { λ r. ⌜ r ≡ written (shortFor (packedReport lv) (length (now (buf .entry)))) (length (packedReport lv)) ⌝ }

@@ -10,7 +10,7 @@ use Rattle.text.proofs.Over.{Wrote, then}
 use Rattle.lines.specs.Parts.{packedReport, otherLines}
 use Rattle.layout.specs.Report.{profileLine}
 use Rattle.lines.proofs.Fits.{put-none, put-whole}
-use Rattle.lines.proofs.Levels.{energyLines, report-is, report-length, report-within}
+use Rattle.lines.proofs.Levels.{linesInArrays, report-is, report-length, report-within}
 use Rattle.lines.proofs.put_report.Statement.{statement}
 use Rattle.lines.proofs.put_report.Tie as tie
 
@@ -19,7 +19,7 @@ abbrev first-line : tie.Start → List ℕ
 first-line c = profileLine (c .args .t2 .profile)
 
 abbrev energy-lines : tie.Start → List ℕ
-energy-lines c = energyLines (c .args .t2)
+energy-lines c = linesInArrays (c .args .t2)
 
 abbrev other-lines : tie.Start → List ℕ
 other-lines c = otherLines (c .args .t2 .technology) (c .args .t2 .start) (c .args .t2 .noload) (c .args .t2 .reserve)
