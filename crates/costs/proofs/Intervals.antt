@@ -1,23 +1,26 @@
--- The sums over the charging intervals: one interval more, and a block of intervals without records.
+-- The sums over the charging intervals: one interval more, where its record stands, and a block of intervals without records.
 use mathlib.Core.Path.{_≡_, refl, ap, sym, _∙_}
-use mathlib.Core.Bool.{true}
+use mathlib.Core.Bool.{Bool, true, false, cond, _||_, not, false≢true}
 use mathlib.Core.List.{List}
-use Prim.Native.Nat.{ℕ, suc, _+_, _*_, _≤_, _<_}
+use Prim.Native.Nat.{ℕ, suc, _+_, _-_, _*_, _≤_, _<_}
 use native.Mathlib.Omega.{arith}
-use lib.Dec.{eqb}
-use lib.ListN.{length, getD}
-use borrow.Author.Tests.{eqb-true}
-use Rattle.lists.proofs.Tests.{below-at}
+use lib.Dec.{ltb, eqb}
+use lib.ListN.{length, getD, take, drop}
+use borrow.Author.Tests.{eqb-true, ne-eqb, ltb-false}
+use Rattle.lists.specs.Tests.{allBelow}
+use Rattle.lists.proofs.Tests.{below-at, or-false-right}
 use Rattle.fields.specs.Numbers.{number}
 use Rattle.fields.proofs.Numbers.{number-nil}
-use Rattle.records.specs.Table.{CH}
+use Rattle.records.specs.Table.{table, rowOf, CH}
+use Rattle.records.specs.Record.{size, widths}
 use Rattle.records.specs.Dossier.{records}
+use Rattle.station.specs.Current.{current}
 use Rattle.station.specs.Parameters.{chargePrice, chargeEnergy}
 use Rattle.station.proofs.Fields.{chargeEnergy-at}
 use Rattle.index.specs.Slots.{slot, narrow, slotsEmpty}
 use Rattle.index.proofs.Slots.{slot-narrow}
-use Rattle.lookup.specs.Parts.{Indexed}
-use Rattle.lookup.proofs.Parts.{current-none, interval-key}
+use Rattle.lookup.specs.Parts.{part, bytesOf, placeAt, partAt, Indexed}
+use Rattle.lookup.proofs.Parts.{current-none, slot-tells, part-current, interval-key}
 use Rattle.formulas.specs.Sums.{sumTo}
 use Rattle.formulas.specs.Levels.{parametersIn, amountsIn}
 use Rattle.costs.specs.Intervals.{Summed}
@@ -36,6 +39,23 @@ summed-more h p q a b =
       energy-high = omega (arith, h .energy-high);
     }
 
+-- a part that is not empty lies within the dossier, where its slot says
+part-there : (d ix : List ℕ) (j n : ℕ) {c : List ℕ} → partAt d ix j n ≡ c → ltb 0 (length c) ≡ true → (getD ix j 0 - 1 + n ≤ length d) × (take n (drop (getD ix j 0 - 1) d) ≡ c)
+unfolding partAt placeAt bytesOf
+part-there d ix j n {c} e t = go (eqb (getD ix j 0) 0 || ltb (length d) (getD ix j 0 - 1 + n)) refl e
+  where
+    go : (b : Bool) → eqb (getD ix j 0) 0 || ltb (length d) (getD ix j 0 - 1 + n) ≡ b → bytesOf d (cond b (part 0 0) (part (getD ix j 0 - 1) n)) ≡ c
+        → (getD ix j 0 - 1 + n ≤ length d) × (take n (drop (getD ix j 0 - 1) d) ≡ c)
+    go true x p = absurd (false≢true (rw (← p) at t))
+    go false x p = (ltb-false (length d) (getD ix j 0 - 1 + n) (or-false-right (eqb (getD ix j 0) 0) (ltb (length d) (getD ix j 0 - 1 + n)) x), p)
+
+-- one slot by itself
+pub one-empty : (ix : List ℕ) (j : ℕ) → getD ix j 0 ≡ 0 → slotsEmpty ix j 1 ≡ true
+unfolding slotsEmpty allBelow
+one-empty ix j e =
+    let w : j + 0 ≡ j = omega arith in
+    rw (w, e) refl
+
 module _ {d ix : List ℕ} (h : Indexed d ix) (roomy : narrow ≤ length ix) where
   -- an interval whose slot is empty has no record, so no energy
   uncharged : (n : ℕ) → 1 ≤ n → n ≤ 2016 → getD ix (slot CH n) 0 ≡ 0 → chargeEnergy (parametersIn d) n ≡ 0
@@ -43,6 +63,14 @@ module _ {d ix : List ℕ} (h : Indexed d ix) (roomy : narrow ≤ length ix) whe
       chargeEnergy-at (records d) n
       ∙ ap (number 12 4) (current-none d ix h CH n (interval-key n a b) (omega (arith, roomy, slot-narrow CH n (interval-key n a b) refl)) e)
       ∙ number-nil 12 4
+
+  -- one whose slot is not has its record where the slot says
+  pub charged : (n : ℕ) → 1 ≤ n → n ≤ 2016 → {j : ℕ} → j ≡ slot CH n → (getD ix j 0 ≡ 0 → ⊥) → (getD ix j 0 - 1 + 16 ≤ length d) × (take 16 (drop (getD ix j 0 - 1) d) ≡ current CH n (records d))
+  unfolding size widths rowOf table
+  charged n a b {j} p e =
+      let i = interval-key n a b in
+      let w : slot CH n < length ix = omega (arith, roomy, slot-narrow CH n i refl) in
+      part-there d ix j 16 (part-current d ix h CH n i w p refl) (slot-tells d ix h CH n i w ∙ ap (λ (k : ℕ). not (eqb (getD ix k 0) 0)) (sym p) ∙ ap not (ne-eqb (getD ix j 0) 0 e))
 
   module _ (n m : ℕ) {j : ℕ} (first : j ≡ slot CH (n + 1)) (last : n + m ≤ 2016) (empty : slotsEmpty ix j m ≡ true) where
     block-uncharged : (i : ℕ) → i < m → chargeEnergy (parametersIn d) (suc (n + i)) ≡ 0

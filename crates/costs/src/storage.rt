@@ -13,41 +13,56 @@ ghost use Rattle.costs.specs.Intervals.{Summed};
 use crate::maintenance::adders;
 use crate::maintenance::maintenance;
 
-// Price × energy, the price plus 2^31, and energy: of an interval, or of all together.
+// Price × energy, the price plus 2^31, and energy, added up over intervals.
 pub struct Charging {
     pub cost: u64,
     pub energy: u64,
 }
 
-// Interval n.
-fn interval(d: &[u8], index: &[u16], n: usize) -> Charging
-    requires { ⌜ Indexed (now d) (now index) × (narrow ≤ length (now index)) × (1 ≤ n) × (n ≤ 2016) ⌝ }
-    ensures { λ r. ⌜ (r .cost ≡ chargePrice (amountsIn (now (d .entry))) n * chargeEnergy (parametersIn (now (d .entry))) n) × (r .energy ≡ chargeEnergy (parametersIn (now (d .entry))) n) × (r .cost ≤ 2147683648 * r .energy) × (r .energy ≤ 1000000) ⌝ }
+// The sums over intervals 1 to n, with the next: an empty slot adds nothing, any other tells where the record stands, whole.
+fn with_next(d: &[u8], index: &[u16], n: usize, before: Charging) -> Charging
+    requires { ⌜ Indexed (now d) (now index) × (narrow ≤ length (now index)) × (n + 1 ≤ 2016) × Summed (now d) n (before .cost) (before .energy) ⌝ }
+    ensures { λ r. ⌜ Summed (now (d .entry)) (n + 1) (r .cost) (r .energy) ⌝ }
 {
-    let r = lookup::ch(d, index, n);
+    let v = index[index::keys::slot_ch(n + 1)] as usize;
+    if v == 0 {
+        return before;
+    }
+    let r = &d[v - 1..v - 1 + records::CH.length];
     let price = arithmetic::biased(fields::u32_at(r, 8)) as u64;
     let energy = fields::u32_at(r, 12) as u64;
     Charging {
-        cost: price * energy,
-        energy,
+        cost: before.cost + price * energy,
+        energy: before.energy + energy,
     }
 }
 
-// The sums over intervals 1 to n, with the 32 after them one by one.
+// With the eight after them, so few that the compiler writes their turns out one by one.
+fn with_eight(d: &[u8], index: &[u16], n: usize, before: Charging) -> Charging
+    requires { ⌜ Indexed (now d) (now index) × (narrow ≤ length (now index)) × (n + 8 ≤ 2016) × Summed (now d) n (before .cost) (before .energy) ⌝ }
+    ensures { λ r. ⌜ Summed (now (d .entry)) (n + 8) (r .cost) (r .energy) ⌝ }
+{
+    let mut sums = before;
+    let mut i = 0;
+    while i < 8 {
+        sums = with_next(d, index, n + i, sums);
+        i += 1;
+    }
+    sums
+}
+
+// With the 32 after them.
 fn with_each(d: &[u8], index: &[u16], n: usize, before: Charging) -> Charging
     requires { ⌜ Indexed (now d) (now index) × (narrow ≤ length (now index)) × (n + 32 ≤ 2016) × Summed (now d) n (before .cost) (before .energy) ⌝ }
     ensures { λ r. ⌜ Summed (now (d .entry)) (n + 32) (r .cost) (r .energy) ⌝ }
 {
-    let mut cost = before.cost;
-    let mut energy = before.energy;
-    let mut k = n;
-    while k < n + 32 {
-        let c = interval(d, index, k + 1);
-        cost += c.cost;
-        energy += c.energy;
-        k += 1;
+    let mut sums = before;
+    let mut i = 0;
+    while i < 32 {
+        sums = with_eight(d, index, n + i, sums);
+        i += 8;
     }
-    Charging { cost, energy }
+    sums
 }
 
 // The same, sooner where none of the 32 has a record: they are passed over at once.

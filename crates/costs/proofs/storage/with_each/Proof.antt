@@ -1,67 +1,45 @@
 use borrow.Author.Needs.{needs}
-use mathlib.Core.Path.{subst}
-use Prim.Native.Nat.{ℕ, _+_, _-_, _≤_}
+use mathlib.Core.Path.{_≡_, subst}
+use Prim.Native.Nat.{ℕ, _+_, _-_, _%_, _≤_}
 use native.Mathlib.Omega.{arith}
 use Rattle.costs.specs.Intervals.{Summed}
-use Rattle.costs.proofs.Intervals.{summed-more}
 use Rattle.costs.proofs.storage.with_each.Statement.{statement}
 use Rattle.costs.proofs.storage.with_each.Tie as tie
 
 abbrev Inv-loop : tie.InvT-loop
-Inv-loop d index n cost₀ energy₀ k₀ cost energy k = (k ≤ n + 32) × Summed d k cost energy
+Inv-loop d index n sums₀ i₀ sums i = (i ≤ 32) × (i % 8 ≡ 0) × Summed d (n + i) (sums .cost) (sums .energy)
 
 abbrev μ-loop : tie.MeasureT-loop
-μ-loop d index n cost₀ energy₀ k₀ cost energy k = n + 32 - k
+μ-loop d index n sums₀ i₀ sums i = 32 - i
 
 loop-holds : tie.Need-loop-holds Inv-loop μ-loop
-loop-holds c = (omega arith, c .before .before .pre .3)
+loop-holds c =
+    let a = c .before .before in
+    (omega arith, omega arith, subst (λ (k : ℕ). Summed (a .args .d .now) k (a .args .before .cost) (a .args .before .energy)) (omega arith) (a .pre .3))
 
-add-loop : tie.Need-add-loop Inv-loop μ-loop
-add-loop c = omega arith
+add-with-eight : tie.Need-add-with-eight Inv-loop μ-loop
+add-with-eight c = omega arith
 
-add-interval : tie.Need-add-interval Inv-loop μ-loop
-add-interval c = omega arith
+with-eight-requires : tie.Need-with-eight-requires Inv-loop μ-loop
+with-eight-requires c κs = (search needs, search needs, omega arith, c .before .loop .inv .2)
 
-interval-requires : tie.Need-interval-requires Inv-loop μ-loop
-interval-requires c κs = search needs
-
-add-cost : tie.Need-add-cost Inv-loop μ-loop
-add-cost c =
-    let s = c .before .before .before .loop .inv .1 in
-    omega (arith, s .cost-high, s .energy-high)
-
-add-energy : tie.Need-add-energy Inv-loop μ-loop
-add-energy c = omega (arith, c .before .before .before .before .loop .inv .1 .energy-high)
-
-add-k : tie.Need-add-k Inv-loop μ-loop
-add-k c = omega arith
+add-i : tie.Need-add-i Inv-loop μ-loop
+add-i c = omega arith
 
 loop-less : tie.Need-loop-less Inv-loop μ-loop
 loop-less c = omega arith
 
 loop-again : tie.Need-loop-again Inv-loop μ-loop
 loop-again c =
-    let e = c .before .before .interval .ensures in
-    (omega arith, summed-more (c .before .before .before .before .loop .inv .1) (e .0) (e .1) (e .2) (e .3))
+    let r = c .with-eight .result in
+    (omega arith, omega arith, subst (λ (k : ℕ). Summed (c .before .before .before .before .before .args .d .now) k (r .cost) (r .energy)) (omega arith) (c .with-eight .ensures))
 
 returns : tie.Need-returns Inv-loop μ-loop
 returns c =
     let l = c .before .loop in
-    subst (λ (k : ℕ). Summed (c .before .before .before .before .args .d .now) k (l .cost) (l .energy)) (omega arith) (l .inv .1)
+    subst (λ (k : ℕ). Summed (c .before .before .before .before .args .d .now) k (l .sums .cost) (l .sums .energy)) (omega arith) (l .inv .2)
 
 pub with-each-spec : {M : Type 1} → statement M
 with-each-spec =
     tie.close
-    (tie.spec
-    Inv-loop
-    μ-loop
-    loop-holds
-    add-loop
-    add-interval
-    interval-requires
-    add-cost
-    add-energy
-    add-k
-    loop-less
-    loop-again
-    returns)
+    (tie.spec Inv-loop μ-loop loop-holds add-with-eight with-eight-requires add-i loop-less loop-again returns)

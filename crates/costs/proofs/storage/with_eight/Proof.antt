@@ -1,0 +1,45 @@
+use borrow.Author.Needs.{needs}
+use mathlib.Core.Path.{subst}
+use Prim.Native.Nat.{ℕ, _+_, _-_, _≤_}
+use native.Mathlib.Omega.{arith}
+use Rattle.costs.specs.Intervals.{Summed}
+use Rattle.costs.proofs.storage.with_eight.Statement.{statement}
+use Rattle.costs.proofs.storage.with_eight.Tie as tie
+
+abbrev Inv-loop : tie.InvT-loop
+Inv-loop d index n sums₀ i₀ sums i = (i ≤ 8) × Summed d (n + i) (sums .cost) (sums .energy)
+
+abbrev μ-loop : tie.MeasureT-loop
+μ-loop d index n sums₀ i₀ sums i = 8 - i
+
+loop-holds : tie.Need-loop-holds Inv-loop μ-loop
+loop-holds c =
+    let a = c .before .before in
+    (omega arith, subst (λ (k : ℕ). Summed (a .args .d .now) k (a .args .before .cost) (a .args .before .energy)) (omega arith) (a .pre .3))
+
+add-with-next : tie.Need-add-with-next Inv-loop μ-loop
+add-with-next c = omega arith
+
+with-next-requires : tie.Need-with-next-requires Inv-loop μ-loop
+with-next-requires c κs = (search needs, search needs, omega arith, c .before .loop .inv .1)
+
+add-i : tie.Need-add-i Inv-loop μ-loop
+add-i c = omega arith
+
+loop-less : tie.Need-loop-less Inv-loop μ-loop
+loop-less c = omega arith
+
+loop-again : tie.Need-loop-again Inv-loop μ-loop
+loop-again c =
+    let r = c .with-next .result in
+    (omega arith, subst (λ (k : ℕ). Summed (c .before .before .before .before .before .args .d .now) k (r .cost) (r .energy)) (omega arith) (c .with-next .ensures))
+
+returns : tie.Need-returns Inv-loop μ-loop
+returns c =
+    let l = c .before .loop in
+    subst (λ (k : ℕ). Summed (c .before .before .before .before .args .d .now) k (l .sums .cost) (l .sums .energy)) (omega arith) (l .inv .1)
+
+pub with-eight-spec : {M : Type 1} → statement M
+with-eight-spec =
+    tie.close
+    (tie.spec Inv-loop μ-loop loop-holds add-with-next with-next-requires add-i loop-less loop-again returns)
