@@ -2,9 +2,8 @@
 use mathlib.Core.Path.{_≡_, refl, ap, sym, _∙_}
 use mathlib.Core.Bool.{Bool, true, false, cond, _&&_, not, false≢true}
 use mathlib.Core.List.{List, []}
-use Prim.Native.Nat.{ℕ, zero, suc, _+_, _≤_, _<_}
+use Prim.Native.Nat.{ℕ, zero, suc, _+_, _-_, _≤_, _<_}
 use native.Mathlib.Nat.{pos-of-ne-zero, le-refl}
-use native.Mathlib.Numerals.{add-one}
 use native.Mathlib.Omega.{arith}
 use lib.Dec.{leb, ltb, eqb}
 use lib.ListN.{length, getD}
@@ -23,15 +22,11 @@ use Rattle.lookup.specs.Parts.{Indexed}
 use Rattle.lookup.proofs.Parts.{request-key, current-none}
 use Rattle.formulas.specs.Levels.{covers, profileOf, profile}
 
--- what one request says of the profile, read of its record
-pub after-request : (l : List (List ℕ)) (h n p : ℕ) {r : List ℕ} {asked first last : ℕ} → r ≡ current RQ n l → asked ≡ number 15 1 r → first ≡ number 7 4 r → last ≡ number 11 4 r
-    → (t : Bool) → ltb 0 (length r) && not (eqb asked 0) && leb first h && leb h last ≡ t → cond t asked p ≡ cond (covers (parameters l) h n) (requested (parameters l) n) p
+-- what one request asks for at an hour, read of its record
+pub asked-request : (l : List (List ℕ)) (h n : ℕ) {r : List ℕ} {asked first last : ℕ} → r ≡ current RQ n l → asked ≡ number 15 1 r → first ≡ number 7 4 r → last ≡ number 11 4 r
+    → (t : Bool) → ltb 0 (length r) && not (eqb asked 0) && leb first h && leb h last ≡ t → cond t asked 0 ≡ cond (covers (parameters l) h n) (requested (parameters l) n) 0
 unfolding covers parameters present value read offset offsetIn fieldOf rowOf table
-after-request l h n p e a b c t f = rw (← f, a, b, c, e) refl
-
-pub profile-next : (l : List (List ℕ)) (h n : ℕ) {p q : ℕ} → p ≡ profileOf (parameters l) h n → q ≡ cond (covers (parameters l) h (n + 1)) (requested (parameters l) (n + 1)) p → q ≡ profileOf (parameters l) h (n + 1)
-unfolding profileOf
-profile-next l h n e f = rw (add-one n) (rw (add-one n, e) at f)
+asked-request l h n e a b c t f = rw (← f, a, b, c, e) refl
 
 covered : (s : ℕ) (a b c : Bool) → a && not (eqb s 0) && b && c ≡ true → 1 ≤ s
 covered s true b c e = go (eqb s 0) refl e
@@ -54,6 +49,31 @@ profile-range {l} e h (suc n) = go (covers (parameters l) h (suc n)) refl (profi
         → (1 ≤ cond t (requested (parameters l) (suc n)) (profileOf (parameters l) h n)) × (cond t (requested (parameters l) (suc n)) (profileOf (parameters l) h n) ≤ 4)
     go true p q = (covered (requested (parameters l) (suc n)) (parameters l .has RQ (suc n)) (leb (firstHour (parameters l) (suc n)) h) (leb h (lastHour (parameters l) (suc n))) p, asked-high e (suc n))
     go false p q = q
+
+-- the highest of some requests decides if it asks for a profile at the hour, and else the others do
+module _ (l : List (List ℕ)) (h : ℕ) where
+  abbrev asked : ℕ → ℕ
+  asked n = cond (covers (parameters l) h n) (requested (parameters l) n) 0
+
+  pub highest-asks : (n : ℕ) {p : ℕ} → 1 ≤ n → p ≡ asked n → (p ≡ 0 → ⊥) → p ≡ profileOf (parameters l) h n
+  unfolding profileOf
+  highest-asks zero a e f = absurd (omega arith)
+  highest-asks (suc n) {p} a e f = go (covers (parameters l) h (suc n)) e
+    where
+      go : (t : Bool) → p ≡ cond t (requested (parameters l) (suc n)) 0 → p ≡ cond t (requested (parameters l) (suc n)) (profileOf (parameters l) h n)
+      go true q = q
+      go false q = absurd (f q)
+
+  pub highest-silent : (n : ℕ) {p : ℕ} → 1 ≤ n → p ≡ asked n → p ≡ 0 → profileOf (parameters l) h (n - 1) ≡ profileOf (parameters l) h n
+  unfolding profileOf covers
+  highest-silent zero a e f = absurd (omega arith)
+  highest-silent (suc n) {p} a e f =
+      let w : suc n - 1 ≡ n = omega arith in
+      rw w (go (covers (parameters l) h (suc n)) refl e)
+    where
+      go : (t : Bool) → covers (parameters l) h (suc n) ≡ t → p ≡ cond t (requested (parameters l) (suc n)) 0 → profileOf (parameters l) h n ≡ cond t (requested (parameters l) (suc n)) (profileOf (parameters l) h n)
+      go true c q = absurd (omega (arith, q, f, covered (requested (parameters l) (suc n)) (parameters l .has RQ (suc n)) (leb (firstHour (parameters l) (suc n)) h) (leb h (lastHour (parameters l) (suc n))) c))
+      go false c q = refl
 
 -- where the slots of all requests are empty, there is none, and no hour has another profile than 1
 module _ (d ix : List ℕ) (h : Indexed d ix) {j : ℕ} (first : j ≡ slot RQ 1) (empty : slotsEmpty ix j 16 ≡ true) (hour : ℕ) where

@@ -6,10 +6,10 @@ ghost use Rattle.station.specs.Parameters.{requested};
 ghost use Rattle.lookup.specs.Parts.{Indexed};
 ghost use Rattle.formulas.specs.Levels.{parametersIn, covers, profile};
 
-// The profile once request n is looked at, p before it.
-fn after(d: &[u8], index: &[u16], hour: u32, n: usize, p: usize) -> usize
+// The profile that request n asks for at an hour, 0 where it doesn't cover it.
+fn asked_at(d: &[u8], index: &[u16], hour: u32, n: usize) -> usize
     requires { ⌜ Indexed (now d) (now index) × (1 ≤ n) × (n ≤ 16) ⌝ }
-    ensures { λ r. ⌜ r ≡ cond (covers (parametersIn (now (d .entry))) hour n) (requested (parametersIn (now (d .entry))) n) p ⌝ }
+    ensures { λ r. ⌜ r ≡ cond (covers (parametersIn (now (d .entry))) hour n) (requested (parametersIn (now (d .entry))) n) 0 ⌝ }
 {
     let r = lookup::rq(d, index, n);
     let asked = fields::u8_at(r, 15) as usize;
@@ -18,11 +18,11 @@ fn after(d: &[u8], index: &[u16], hour: u32, n: usize, p: usize) -> usize
     if (0 < r.len()) & (asked != 0) & (first <= hour) & (hour <= last) {
         asked
     } else {
-        p
+        0
     }
 }
 
-// The highest request that covers the hour decides; with none it is profile 1, and without any the slots tell it at once.
+// The highest request that covers the hour decides, so the last is asked first; with none it is profile 1, and without any the slots tell it at once.
 pub fn profile(d: &[u8], index: &[u16], hour: u32) -> usize
     requires { ⌜ Indexed (now d) (now index) ⌝ }
     ensures { λ r. ⌜ (r ≡ profile (parametersIn (now (d .entry))) hour) × (1 ≤ r) × (r ≤ 4) ⌝ }
@@ -30,11 +30,13 @@ pub fn profile(d: &[u8], index: &[u16], hour: u32) -> usize
     if index::slots_empty(index, index::keys::slot_rq(1), 16) {
         return 1;
     }
-    let mut p = 1;
-    let mut n = 0;
-    while n < 16 {
-        p = after(d, index, hour, n + 1, p);
-        n += 1;
+    let mut n = 16;
+    while 0 < n {
+        let asked = asked_at(d, index, hour, n);
+        if asked != 0 {
+            return asked;
+        }
+        n -= 1;
     }
-    p
+    1
 }

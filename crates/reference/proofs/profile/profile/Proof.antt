@@ -1,14 +1,16 @@
 use borrow.Author.Needs.{needs}
 use mathlib.Core.Path.{_≡_, refl, ap, sym, _∙_}
-use Prim.Native.Nat.{_≤_, _-_}
+use mathlib.Core.List.{List}
+use Prim.Native.Nat.{ℕ, _≤_}
 use native.Mathlib.Omega.{arith}
 use Rattle.records.specs.Table.{RQ}
 use Rattle.records.specs.Dossier.{records}
 use Rattle.station.specs.Parameters.{parameters}
 use Rattle.index.specs.Slots.{slot}
+use Rattle.lookup.specs.Parts.{Indexed}
 use Rattle.formulas.specs.Levels.{profileOf, profile}
 use Rattle.parameters.proofs.Bounds.{clean}
-use Rattle.reference.proofs.Requests.{profile-next, profile-range, profile-none}
+use Rattle.reference.proofs.Requests.{highest-asks, highest-silent, profile-range, profile-none}
 use Rattle.reference.proofs.profile.profile.Statement.{statement}
 use Rattle.reference.proofs.profile.profile.Tie as tie
 
@@ -16,11 +18,12 @@ at-one : slot RQ 1 ≡ 138
 unfolding slot
 at-one = refl
 
+-- requests 1 to n decide
 abbrev Inv-loop : tie.InvT-loop
-Inv-loop d index hour p₀ n₀ p n = (n ≤ 16) × (p ≡ profileOf (parameters (records d)) hour n)
+Inv-loop d index hour n₀ n = (n ≤ 16) × (profileOf (parameters (records d)) hour n ≡ profile (parameters (records d)) hour)
 
 abbrev μ-loop : tie.MeasureT-loop
-μ-loop d index hour p₀ n₀ p n = 16 - n
+μ-loop d index hour n₀ n = n
 
 slot-rq-requires : tie.Need-slot-rq-requires Inv-loop μ-loop
 slot-rq-requires c κs = omega arith
@@ -34,32 +37,41 @@ returns c =
     (profile-none _ _ (a .pre) (c .before .before .slot-rq .ensures) (sym (c .before .slots-empty .ensures) ∙ c .if1 .taken) (a .args .hour), omega arith, omega arith)
 
 loop-holds : tie.Need-loop-holds Inv-loop μ-loop
-unfolding profileOf
+unfolding profile
 loop-holds c = (search needs, refl)
 
-add-after : tie.Need-add-after Inv-loop μ-loop
-add-after c = omega arith
+asked-at-requires : tie.Need-asked-at-requires Inv-loop μ-loop
+asked-at-requires c κs = search needs
 
-after-requires : tie.Need-after-requires Inv-loop μ-loop
-after-requires c κs = search needs
+in-range : {d ix : List ℕ} → Indexed d ix → (h : ℕ) → (1 ≤ profile (parameters (records d)) h) × (profile (parameters (records d)) h ≤ 4)
+unfolding profile
+in-range i h = profile-range (clean i) h 16
 
-add-n : tie.Need-add-n Inv-loop μ-loop
-add-n c = omega arith
+returns-2 : tie.Need-returns-2 Inv-loop μ-loop
+returns-2 c =
+    let l = c .before .before .before .loop in
+    let a = c .before .before .before .before .before .before .before .before .before in
+    let e : c .before .asked-at .result ≡ profile (parameters (records (a .args .d .now))) (a .args .hour) = highest-asks _ _ (l .n) (c .before .before .loop-test .taken) (c .before .asked-at .ensures) (c .if2 .taken) ∙ l .inv .1 in
+    let z = in-range (a .pre) (a .args .hour) in
+    (e, rw e (z .0), rw e (z .1))
+
+sub-n : tie.Need-sub-n Inv-loop μ-loop
+sub-n c = omega arith
 
 loop-less : tie.Need-loop-less Inv-loop μ-loop
 loop-less c = omega arith
 
 loop-again : tie.Need-loop-again Inv-loop μ-loop
-loop-again c = (omega arith, profile-next _ _ _ (c .before .before .loop .inv .1) (c .after .ensures))
+loop-again c =
+    let l = c .before .before .before .loop in
+    (omega arith, highest-silent _ _ (l .n) (c .before .before .loop-test .taken) (c .before .asked-at .ensures) (c .if2 .left) ∙ l .inv .1)
 
-returns-2 : tie.Need-returns-2 Inv-loop μ-loop
-unfolding profile
-returns-2 c =
+returns-3 : tie.Need-returns-3 Inv-loop μ-loop
+unfolding profileOf
+returns-3 c =
     let l = c .before .loop in
-    let a = c .before .before .before .before .before .before .before in
-    let e : l .p ≡ profile (parameters (records (a .args .d .now))) (a .args .hour) = l .inv .1 ∙ ap (profileOf _ _) (omega arith) in
-    let z = profile-range (clean (a .pre)) (a .args .hour) 16 in
-    (e, rw e (z .0), rw e (z .1))
+    let w : 0 ≡ l .n = omega arith in
+    (ap (profileOf _ _) w ∙ l .inv .1, omega arith, omega arith)
 
 pub profile-spec : {M : Type 1} → statement M
 profile-spec =
@@ -71,9 +83,9 @@ profile-spec =
     slots-empty-requires
     returns
     loop-holds
-    add-after
-    after-requires
-    add-n
+    asked-at-requires
+    returns-2
+    sub-n
     loop-less
     loop-again
-    returns-2)
+    returns-3)

@@ -1,8 +1,8 @@
 use borrow.Author.Needs.{needs}
 use mathlib.Core.Bool.{true, false}
-use Rattle.reference.proofs.Requests.{after-request}
-use Rattle.reference.proofs.profile.after.Statement.{statement}
-use Rattle.reference.proofs.profile.after.Tie as tie
+use Rattle.reference.proofs.Requests.{asked-request}
+use Rattle.reference.proofs.profile.asked_at.Statement.{statement}
+use Rattle.reference.proofs.profile.asked_at.Tie as tie
 
 rq-requires : tie.Need-rq-requires
 rq-requires c κs = search needs
@@ -22,15 +22,15 @@ u32-at-requires-2 c κs = search needs
 returns : tie.Need-returns
 returns c =
     let r = c .before .before .before .before in
-    after-request _ _ _ _ (r .rq .ensures) (c .before .before .before .u8-at .ensures) (c .before .before .u32-at .ensures) (c .before .u32-at2 .ensures) true (c .if1 .taken)
+    asked-request _ _ _ (r .rq .ensures) (c .before .before .before .u8-at .ensures) (c .before .before .u32-at .ensures) (c .before .u32-at2 .ensures) true (c .if1 .taken)
 
 returns-2 : tie.Need-returns-2
 returns-2 c =
     let r = c .before .before .before .before in
-    after-request _ _ _ _ (r .rq .ensures) (c .before .before .before .u8-at .ensures) (c .before .before .u32-at .ensures) (c .before .u32-at2 .ensures) false (c .if1 .left)
+    asked-request _ _ _ (r .rq .ensures) (c .before .before .before .u8-at .ensures) (c .before .before .u32-at .ensures) (c .before .u32-at2 .ensures) false (c .if1 .left)
 
-pub after-spec : {M : Type 1} → statement M
-after-spec =
+pub asked-at-spec : {M : Type 1} → statement M
+asked-at-spec =
     tie.close
     (tie.spec
     rq-requires
