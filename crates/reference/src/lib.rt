@@ -195,10 +195,18 @@ fn levels_in(d: &[u8], index: &mut [u16], hour: u32) -> LevelsAnswer
     }
 }
 
-// The same. For a thermal or nuclear station a short index is likely enough, and sooner made.
+// The same. A dossier that is too long needs no index; for a thermal or nuclear station a short one is likely enough, and sooner made.
 pub fn levels(d: &[u8], hour: u32) -> LevelsAnswer
     ensures { λ r. ⌜ r ≡ levelsAnswer (now (d .entry)) hour ⌝ }
 {
+    if lookup::LONGEST < d.len() {
+        let answer = Answer::Refused {
+            number: 13,
+            place: 0,
+        };
+        let levels = no_levels();
+        return LevelsAnswer { answer, levels };
+    }
     if lookup::lean(d) {
         let mut index = [0u16; index::SHORT];
         return levels_in(d, &mut index, hour);
