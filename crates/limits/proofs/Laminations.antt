@@ -20,7 +20,7 @@ use Rattle.limits.specs.declared.Pair.{Pair}
 use Rattle.verdicts.specs.declared.Verdict.{Verdict}
 use Rattle.verdicts.specs.declared.Verdict.the-variants.{Passes, Fails}
 use Rattle.verdicts.specs.Test.{limit, fails, failsUnder, failing, quantity, priceAt, before, overlap, offerFrom, priceTest}
-use Rattle.limits.specs.Shapes.{thresholdOf, failsAt, failingShown, offerShown, priceShown, failsIn, firstFailing, leastOf, singleLevel, LastHighest}
+use Rattle.limits.specs.Shapes.{thresholdOf, failsAt, failingShown, offerShown, priceShown, failsIn, firstFailing, leastOf, inArrays, singleLevel, LastHighest}
 use Rattle.verdicts.proofs.Stays.{pass-stays}
 use Rattle.limits.proofs.Turns.{one-less, all-left}
 
@@ -118,6 +118,21 @@ module _ (t : Threshold) (p : Pair) (r : HourLevels) (k : ℕ) (rest : Verdict) 
       ∙ single-other 1 (overlap (p .low) (p .high)) (failsAt t (p .price)) k (r .technology) 4 (r .reserve) _ refl)
       ∙ laminations-first 0 (r .count)
 
+-- pair k of an offer
+abbrev pairAt : List ℕ → ℕ → Pair
+pairAt o k = record { low = before o k; high = quantity o k; price = priceAt o k }
+
+-- of an offer the laminations alone are tested, and the arrays tell them
+pub told-by-arrays :
+    (t : Threshold) (r : HourLevels) (o : List ℕ) (k n : ℕ)
+    → offerShown t (unpacked (inArrays (r .from) (r .to) (r .cents) (r .count))) o k n ≡ offerShown t (unpacked r) o k n
+unfolding offerShown
+told-by-arrays t r o k zero = refl
+told-by-arrays t r o k (suc n) =
+    pair-first t (pairAt o k) (inArrays (r .from) (r .to) (r .cents) (r .count)) (k + 1) _
+    ∙ ap (named (k + 1) (firstFailing t (pairAt o k) (r .from) (r .to) (r .cents) 0 (r .count))) (told-by-arrays t r o (k + 1) n)
+    ∙ sym (pair-first t (pairAt o k) r (k + 1) _)
+
 -- one lamination
 module _ (t : Threshold) (p : Pair) (from to x : ℕ) where
   pub overlapped : overlap (p .low) (p .high) from to ≡ true → failsAt t (p .price) x ≡ failsIn t p from to x
@@ -213,7 +228,7 @@ module _ (t : Threshold) (r : HourLevels) (o : List ℕ) (n : ℕ) (h : LastHigh
   pass-from : (m k : ℕ) → k + m ≡ n → Passes ≡ offerShown t (unpacked r) o k (n - k)
   pass-from zero k f = pair-end t (unpacked r) o n k (omega arith)
   pass-from (suc m) k f =
-      let p : Pair = record { low = before o k; high = quantity o k; price = priceAt o k } in
+      let p = pairAt o k in
       let z = lower-passes t (leastOf (r .cents) (r .count)) (h .at k (omega arith)) e in
       pass-from m (k + 1) (omega arith) ∙ pair-next t r o n k p 0 (omega arith) refl refl refl (least-passes t p (r .from) (r .to) (r .cents) (leastOf (r .cents) (r .count)) z (r .count) refl) refl
 

@@ -8,7 +8,7 @@ ghost use Rattle.fields.specs.Numbers.{number, biasedOf};
 ghost use Rattle.rules.specs.Fit.{holds};
 ghost use Rattle.reference.specs.Packed.{unpacked};
 ghost use Rattle.verdicts.specs.Test.{limit as limitOf, overlap, quantity, priceAt};
-ghost use Rattle.limits.specs.Shapes.{failsAt, failsIn, firstFailing, leastOf, singleLevel, offerShown, priceShown, LastHighest};
+ghost use Rattle.limits.specs.Shapes.{failsAt, failsIn, firstFailing, leastOf, inArrays, singleLevel, offerShown, priceShown, LastHighest};
 use reference::HourLevels;
 use verdicts::Verdict;
 
@@ -170,12 +170,19 @@ fn failing_lamination<'a>(
     0
 }
 
-// The test of an energy offer: each pair in turn.
-fn offer_test(lv: HourLevels, t: Threshold, offer: &[u8]) -> Verdict
-    requires { ⌜ (lv .count ≤ 20) × (length (now offer) ≤ 120) ⌝ }
-    ensures { λ r. ⌜ r ≡ offerShown t (unpacked lv) (now (offer .entry)) 0 (length (now (offer .entry)) / 6) ⌝ }
+// The test of an energy offer: each pair in turn, against laminations in lent arrays.
+fn offer_test<'a>(
+    from: &'a [u64; 20],
+    to: &'a [u64; 20],
+    cents: &'a [u64; 20],
+    count: usize,
+    t: Threshold,
+    offer: &[u8],
+) -> Verdict
+    requires { ⌜ (count ≤ 20) × (length (now offer) ≤ 120) ⌝ }
+    ensures { λ r. ⌜ r ≡ offerShown t (unpacked (inArrays (now (from .entry)) (now (to .entry)) (now (cents .entry)) count)) (now (offer .entry)) 0 (length (now (offer .entry)) / 6) ⌝ }
 {
-    let least = least_level(&lv.cents, lv.count);
+    let least = least_level(cents, count);
     let pairs = offer.len() / 6;
     let mut low: u64 = 0;
     let mut k = 0;
@@ -183,7 +190,7 @@ fn offer_test(lv: HourLevels, t: Threshold, offer: &[u8]) -> Verdict
         let high = quantity_at(offer, k);
         let price = price_at(offer, k);
         let pair = Pair { low, high, price };
-        let i = failing_lamination(&lv.from, &lv.to, &lv.cents, lv.count, least, t, pair);
+        let i = failing_lamination(from, to, cents, count, least, t, pair);
         if i != 0 {
             return Verdict::Fails {
                 pair: k + 1,
@@ -196,7 +203,8 @@ fn offer_test(lv: HourLevels, t: Threshold, offer: &[u8]) -> Verdict
     Verdict::Passes
 }
 
-// The same of an offer whose last price is its highest: where that passes at the least level all pass, and most offers do.
+// The same of an offer whose last price is its highest: where that passes at the least level all pass, and most offers do. The
+// arrays are lent: levels handed on as a value would be copied once more.
 pub fn rising_offer_test(lv: HourLevels, t: Threshold, offer: &[u8]) -> Verdict
     requires { ⌜ (lv .count ≤ 20) × (length (now offer) ≤ 120) × LastHighest (now offer) (length (now offer) / 6) ⌝ }
     ensures { λ r. ⌜ r ≡ offerShown t (unpacked lv) (now (offer .entry)) 0 (length (now (offer .entry)) / 6) ⌝ }
@@ -207,7 +215,7 @@ pub fn rising_offer_test(lv: HourLevels, t: Threshold, offer: &[u8]) -> Verdict
     }
     let least = least_level(&lv.cents, lv.count);
     if fails(least, t, price_at(offer, pairs - 1)) {
-        return offer_test(lv, t, offer);
+        return offer_test(&lv.from, &lv.to, &lv.cents, lv.count, t, offer);
     }
     Verdict::Passes
 }

@@ -3,27 +3,33 @@ use mathlib.Core.Path.{_≡_, refl, _∙_}
 use Prim.Native.Nat.{_-_, _/_, _≤_}
 use native.Mathlib.Omega.{arith}
 use lib.ListN.{length}
+use Rattle.reference.specs.declared.HourLevels.{HourLevels}
 use Rattle.reference.specs.Packed.{unpacked}
 use Rattle.verdicts.specs.Test.{before}
-use Rattle.limits.specs.Shapes.{offerShown}
+use Rattle.limits.specs.Shapes.{inArrays, offerShown}
 use Rattle.limits.proofs.Turns.{all-left, before-next}
 use Rattle.limits.proofs.Laminations.{pair-stop, pair-next, pair-end}
 use Rattle.limits.proofs.offer_test.Statement.{statement}
 use Rattle.limits.proofs.offer_test.Tie as tie
 
 abbrev Inv-loop : tie.InvT-loop
-Inv-loop t offer lv least pairs low₀ k₀ low k =
-    (k ≤ pairs) × (pairs ≤ 20) × (low ≡ before offer k) × (offerShown t (unpacked lv) offer k (pairs - k) ≡ offerShown t (unpacked lv) offer 0 pairs)
+Inv-loop from to cents count t offer least pairs low₀ k₀ low k =
+    let l = unpacked (inArrays from to cents count) in
+    (k ≤ pairs) × (pairs ≤ 20) × (low ≡ before offer k) × (offerShown t l offer k (pairs - k) ≡ offerShown t l offer 0 pairs)
 
 abbrev μ-loop : tie.MeasureT-loop
-μ-loop t offer lv least pairs low₀ k₀ low k = pairs - k
+μ-loop from to cents count t offer least pairs low₀ k₀ low k = pairs - k
+
+-- what the arrays tell
+abbrev lv-of : tie.Start Inv-loop μ-loop → HourLevels
+lv-of c = inArrays (c .args .from .now) (c .args .to .now) (c .args .cents .now) (c .args .count)
 
 least-level-requires : tie.Need-least-level-requires Inv-loop μ-loop
 least-level-requires c κs = search needs
 
 loop-holds : tie.Need-loop-holds Inv-loop μ-loop
 unfolding before
-loop-holds c = (omega arith, omega (arith, c .before .before .before .before .pre .1), refl, all-left (offerShown _ _ _ 0) _)
+loop-holds c = (omega arith, omega (arith, c .before .before .pre .1), refl, all-left (offerShown _ _ _ 0) _)
 
 quantity-at-requires : tie.Need-quantity-at-requires Inv-loop μ-loop
 quantity-at-requires c κs = search needs
@@ -32,16 +38,17 @@ price-at-requires : tie.Need-price-at-requires Inv-loop μ-loop
 price-at-requires c κs = search needs
 
 failing-lamination-requires : tie.Need-failing-lamination-requires Inv-loop μ-loop
-failing-lamination-requires c κs = (c .before .before .before .before .before .before .before .before .before .before .before .before .pre .0, c .before .before .before .before .before .before .before .before .least-level .ensures, c .before .before .before .before .price-at .ensures .1)
+failing-lamination-requires c κs = search needs
 
-add-t20 : tie.Need-add-t20 Inv-loop μ-loop
-add-t20 c = search needs
+add-t17 : tie.Need-add-t17 Inv-loop μ-loop
+add-t17 c = search needs
 
 returns : tie.Need-returns Inv-loop μ-loop
 returns c =
-    let i = c .before .before .before .before .before .before .before .before .before .loop in
-    let a = c .before .before .before .before .before .before .before .before .before .before .before .before .before .before .args in
-    pair-stop (a .t) (a .t1) (a .offer .now) (length (a .offer .now) / 6) (i .k) _ _ (c .before .before .before .before .before .before .before .before .loop-test .taken) (i .inv .2) (c .before .before .before .before .before .before .before .quantity-at .ensures) (c .before .before .before .before .before .before .price-at .ensures .0) (c .before .failing-lamination .ensures) (c .if1 .taken)
+    let i = c .before .before .before .before .before .loop in
+    let s = c .before .before .before .before .before .before .before .before in
+    let o = s .args .offer .now in
+    pair-stop (s .args .t) (lv-of s) o (length o / 6) (i .k) _ _ (c .before .before .before .before .loop-test .taken) (i .inv .2) (c .before .before .before .quantity-at .ensures) (c .before .before .price-at .ensures .0) (c .before .failing-lamination .ensures) (c .if1 .taken)
     ∙ i .inv .3
 
 add-k : tie.Need-add-k Inv-loop μ-loop
@@ -52,20 +59,22 @@ loop-less c = search needs
 
 loop-again : tie.Need-loop-again Inv-loop μ-loop
 loop-again c =
-    let i = c .before .before .before .before .before .before .before .before .before .loop in
-    let a = c .before .before .before .before .before .before .before .before .before .before .before .before .before .before .args in (
+    let i = c .before .before .before .before .before .loop in
+    let s = c .before .before .before .before .before .before .before .before in
+    let o = s .args .offer .now in (
       omega arith,
       omega arith,
-      c .before .before .before .before .before .before .before .quantity-at .ensures ∙ before-next (a .offer .now) (i .k),
-      pair-next (a .t) (a .t1) (a .offer .now) (length (a .offer .now) / 6) (i .k) _ _ (c .before .before .before .before .before .before .before .before .loop-test .taken) (i .inv .2) (c .before .before .before .before .before .before .before .quantity-at .ensures) (c .before .before .before .before .before .before .price-at .ensures .0) (c .before .failing-lamination .ensures) (c .if1 .left)
+      c .before .before .before .quantity-at .ensures ∙ before-next o (i .k),
+      pair-next (s .args .t) (lv-of s) o (length o / 6) (i .k) _ _ (c .before .before .before .before .loop-test .taken) (i .inv .2) (c .before .before .before .quantity-at .ensures) (c .before .before .price-at .ensures .0) (c .before .failing-lamination .ensures) (c .if1 .left)
           ∙ i .inv .3,
     )
 
 returns-2 : tie.Need-returns-2 Inv-loop μ-loop
 returns-2 c =
     let i = c .before .loop in
-    let a = c .before .before .before .before .before .before .args in
-    pair-end (a .t) (unpacked (a .t1)) (a .offer .now) (length (a .offer .now) / 6) (i .k) (c .loop-test .left) ∙ i .inv .3
+    let s = c .before .before .before .before in
+    let o = s .args .offer .now in
+    pair-end (s .args .t) (unpacked (lv-of s)) o (length o / 6) (i .k) (c .loop-test .left) ∙ i .inv .3
 
 pub offer-test-spec : {M : Type 1} → statement M
 offer-test-spec =
@@ -78,7 +87,7 @@ offer-test-spec =
     quantity-at-requires
     price-at-requires
     failing-lamination-requires
-    add-t20
+    add-t17
     returns
     add-k
     loop-less

@@ -8,7 +8,7 @@ use Rattle.reference.specs.Packed.{unpacked}
 use Rattle.verdicts.specs.Test.{priceAt}
 use Rattle.limits.specs.Shapes.{failsAt, offerShown, leastOf}
 use Rattle.limits.proofs.Turns.{all-left}
-use Rattle.limits.proofs.Laminations.{pair-end, all-pass}
+use Rattle.limits.proofs.Laminations.{told-by-arrays, pair-end, all-pass}
 use Rattle.limits.proofs.rising_offer_test.Statement.{statement}
 use Rattle.limits.proofs.rising_offer_test.Tie as tie
 
@@ -34,7 +34,9 @@ offer-test-requires : tie.Need-offer-test-requires
 offer-test-requires c κs = search needs
 
 returns-2 : tie.Need-returns-2
-returns-2 c = search needs
+returns-2 c =
+    let a = c .before .before .before .before .before .before .before .before .before .before .before .before .before .args in
+    c .offer-test .ensures ∙ told-by-arrays (a .t) (a .t1) (a .offer .now) 0 (length (a .offer .now) / 6)
 
 returns-3 : tie.Need-returns-3
 returns-3 c =
