@@ -1,7 +1,7 @@
 // The highest of some prices, by the price that parts them from the others: it is found by halving the range that they lie in.
 ghost use mathlib.Core.Path.{_≡_};
-ghost use Prim.Native.Nat.{_*_, _-_, _≤_, max, min};
-ghost use lib.ListN.{length};
+ghost use Prim.Native.Nat.{_+_, _*_, _-_, _≤_, _<_, max, min};
+ghost use lib.ListN.{length, drop};
 ghost use Rattle.lists.specs.Lists.{Each};
 ghost use Rattle.formulas.specs.Sums.{sumHighest, fromTop, above, atLeast};
 ghost use Rattle.arithmetic.specs.Highest.{excess, inTurn, Threshold, PriceIn};
@@ -50,6 +50,32 @@ fn topmost(s: &[u32], price: u32) -> u32
     top
 }
 
+// How many from place `from` up to place `to` are above v: at most 65,536, which 32 bits count, so that the compiler takes four at a time.
+fn above_part(s: &[u32], v: u32, from: usize, to: usize) -> u32
+    requires { ⌜ (from ≤ to) × (to ≤ length (now s)) × (to ≤ from + 65536) ⌝ }
+    ensures { λ r. ⌜ (r + above v (drop to (now (s .entry))) ≡ above v (drop from (now (s .entry)))) × (r ≤ to - from) ⌝ }
+{
+    let mut n = 0u32;
+    let mut k = from;
+    while k < to {
+        n += (v < s[k]) as u32;
+        k += 1;
+    }
+    n
+}
+
+// Where such a part ends.
+fn part_end(from: usize, len: usize) -> usize
+    requires { ⌜ from < len ⌝ }
+    ensures { λ r. ⌜ (from < r) × (r ≤ len) × (r ≤ from + 65536) ⌝ }
+{
+    if len - from < 65536 {
+        len
+    } else {
+        from + 65536
+    }
+}
+
 // How many are above v.
 fn above(s: &[u32], v: u32) -> usize
     ensures { λ r. ⌜ r ≡ above v (now (s .entry)) ⌝ }
@@ -57,8 +83,9 @@ fn above(s: &[u32], v: u32) -> usize
     let mut n = 0;
     let mut k = 0;
     while k < s.len() {
-        n += (v < s[k]) as usize;
-        k += 1;
+        let end = part_end(k, s.len());
+        n += above_part(s, v, k, end) as usize;
+        k = end;
     }
     n
 }
