@@ -6,8 +6,10 @@ use Prim.Native.Nat.{ℕ, _+_, _*_, _-_, _≤_, _<_}
 use native.Mathlib.Omega.{arith}
 use lib.ListN.{length, take, drop, length-drop, drop-of-length-le}
 use lib.Seq.{drop-drop}
-use borrow.Author.Tests.{eq-eqb}
+use lib.Dec.{ltb}
+use borrow.Author.Tests.{eq-eqb, ltb-true, ltb-false}
 use Rattle.lists.specs.Lists.{Each, also}
+use Rattle.lists.proofs.Tests.{split as either}
 use Rattle.fields.specs.Numbers.{number}
 use Rattle.records.specs.declared.Found.the-variants.{Record}
 use Rattle.records.specs.declared.Answer.the-variants.{Accepted, Refused}
@@ -115,11 +117,19 @@ clean-found d p h kn ek en =
     let m = ek ∙ ap mark (tail d p) in
     rw (en, m, eq-eqb (fault (firstOf (drop p d))) 0 f) refl
 
-pub not-short : (d : List ℕ) (p : ℕ) {roots count : ℕ} {l ids : List ℕ} → p < length d → Known roots d l ids p count → length (take (length d - p) (drop p d)) < shortest → ⊥
-not-short d p h kn s =
+-- so what is left is no shorter than the shortest record
+not-short : (d : List ℕ) (p : ℕ) {roots count : ℕ} {l ids : List ℕ} → p < length d → Known roots d l ids p count → shortest ≤ length d - p
+not-short d p h kn =
     let e = clean-found d p h kn refl refl in
-    omega (arith, long (drop p d) _ _ e, bounds d p _ _ e .1, simp (tail, length-drop) at s)
+    omega (arith, long (drop p d) _ _ e, bounds d p _ _ e .1)
 
 -- at the end
-pub finish : (d : List ℕ) (p : ℕ) {roots count : ℕ} {l ids : List ℕ} → length d ≤ p → Known roots d l ids p count → Accepted ≡ twins 0 [] (records d)
-finish d p h kn = sym (ap (λ (x : List ℕ). twins p (kn .before) (records x)) (drop-of-length-le d {i = p} h) ∙ (unfold twins records recordsIn in refl)) ∙ kn .answer
+ended : (d : List ℕ) (p : ℕ) {roots count : ℕ} {l ids : List ℕ} → length d ≤ p → Known roots d l ids p count → Accepted ≡ twins 0 [] (records d)
+ended d p h kn = sym (ap (λ (x : List ℕ). twins p (kn .before) (records x)) (drop-of-length-le d {i = p} h) ∙ (unfold twins records recordsIn in refl)) ∙ kn .answer
+
+-- and less than that is left at the end only
+pub finish : (d : List ℕ) (p : ℕ) {roots count : ℕ} {l ids : List ℕ} → length d - p < shortest → Known roots d l ids p count → Accepted ≡ twins 0 [] (records d)
+finish d p h kn =
+    either (ltb p (length d))
+    (λ t. absurd (omega (arith, h, not-short d p (ltb-true p (length d) t) kn)))
+    (λ t. ended d p (ltb-false p (length d) t) kn)

@@ -1,4 +1,4 @@
--- The root of an id: its sum and its products fit, and it is one of the roots.
+-- The root of an id: its sum and its product fit, and it is one of the roots.
 use Prim.Native.Nat.{ℕ, _+_, _*_, _/_, _%_, _≤_, _<_}
 use native.Mathlib.Nat.{lt-of-le-of-lt, add-le-add, mul-le-mul, mul-le-mul-right, mod-lt, mul-lt-mul-of-pos-right, div-lt-iff-lt-mul}
 use native.Mathlib.Omega.{arith}
@@ -25,4 +25,4 @@ scaled-lt m n h p = div-lt-iff-lt-mul {k = 4294967296} {x = m * n} {y = n} (omeg
 -- the root is one of the n
 pub root-lt : (n x : ℕ) → 0 < n → root n x < n
 unfolding root
-root-lt n x h = scaled-lt (mixed x * mixed x / 65536 % 4294967296) n (mod-lt _ (omega arith)) h
+root-lt n x h = scaled-lt (mixed x) n (mod-lt _ (omega arith)) h

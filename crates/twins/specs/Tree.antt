@@ -13,7 +13,7 @@ mixed x = (x % 4294967296 * 2654435769 + x / 4294967296 * 1540483477) % 42949672
 
 -- which of n roots the way of an id begins at
 unfoldable pub root : ℕ → ℕ → ℕ
-root n x = mixed x * mixed x / 65536 % 4294967296 * n / 4294967296
+root n x = mixed x * n / 4294967296
 
 -- what is left of an id without its lowest i bits
 unfoldable pub halves : ℕ → ℕ → ℕ

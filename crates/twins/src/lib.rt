@@ -15,7 +15,7 @@ fn root_of(x: u64, roots: usize) -> usize
     ensures { λ r. ⌜ r ≡ root roots x ⌝ }
 {
     let m = (x % 4294967296 * 2654435769 + x / 4294967296 * 1540483477) % 4294967296;
-    (m * m / 65536 % 4294967296 * (roots as u64) / 4294967296) as usize
+    (m * (roots as u64) / 4294967296) as usize
 }
 
 // Goes the way of an id; true if a node has it, else a node is set for it.
@@ -46,12 +46,9 @@ fn search(d: &[u8], links: &mut [u16], ids: &mut [u64], roots: usize) -> Answer
 {
     let mut at = 0;
     let mut count = 0u16;
-    while at < d.len() {
+    // no record is shorter, and so the compiler knows that the bytes read below are there
+    while records::SHORTEST <= d.len() - at {
         let rest = &d[at..];
-        // never so: it tells the compiler that the bytes read below are there
-        if rest.len() < records::SHORTEST {
-            return Answer::Accepted;
-        }
         let s = index::reader::entry_at(rest);
         let next = at + s.len;
         let x = (s.slot as u64) * 4294967296 + (fields::u32_at(rest, 2) as u64);

@@ -17,14 +17,11 @@ add-m : tie.Need-add-m
 add-m c = record { fits = sum-fits (c .args .x) (c .fits .x .fits) }
 
 mul-result : tie.Need-mul-result
-mul-result c = record { fits = product-fits (mod-lt _ (omega arith)) (mod-lt _ (omega arith)) }
-
-mul-result-2 : tie.Need-mul-result-2
-mul-result-2 c = record { fits = product-fits (mod-lt _ (omega arith)) (omega arith) }
+mul-result c = record { fits = product-fits (mod-lt _ (omega arith)) (omega arith) }
 
 returns : tie.Need-returns
 unfolding root
 returns c = refl
 
 pub root-of-spec : {M : Type 1} → statement M
-root-of-spec = tie.close (tie.spec mul-m mul-m-2 add-m mul-result mul-result-2 returns)
+root-of-spec = tie.close (tie.spec mul-m mul-m-2 add-m mul-result returns)

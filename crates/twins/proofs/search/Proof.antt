@@ -12,7 +12,7 @@ use Rattle.records.specs.Walk.{found}
 use Rattle.index.specs.Slots.{slotAt, wide}
 use Rattle.index.proofs.Turn.{bounds, below, long}
 use Rattle.index.specs.declared.Entry.{Entry}
-use Rattle.twins.proofs.Loop.{Known, start, not-short, twin-there, none-there, clean-found, finish}
+use Rattle.twins.proofs.Loop.{Known, start, twin-there, none-there, clean-found, finish}
 use Rattle.twins.proofs.search.Statement.{statement}
 use Rattle.twins.proofs.search.Tie as tie
 
@@ -27,7 +27,7 @@ abbrev Turn : Type 0
 Turn = tie.After-entry-at Inv-loop μ-loop
 
 abbrev In : Turn → tie.In-loop Inv-loop μ-loop
-In c = c .before .before .before
+In c = c .before .before
 
 abbrev At : Turn → tie.At-loop Inv-loop μ-loop
 At c = In c .before
@@ -47,11 +47,15 @@ rest-of c = take (length (d-of c) - at-of c) (drop (at-of c) (d-of c))
 abbrev len-of : Turn → ℕ
 len-of c = c .entry-at .result .len
 
+-- the record lies within the dossier
+inside : (c : Turn) → at-of c < length (d-of c)
+inside c = omega (arith, In c .loop-test .taken)
+
 its-slot : (c : Turn) → c .entry-at .result .slot ≡ slotAt (mark (rest-of c)) (rest-of c)
 its-slot c = ap (λ (s : Entry). s .slot) (c .entry-at .ensures)
 
 its-found : (c : Turn) → found (drop (at-of c) (d-of c)) ≡ Record (mark (rest-of c)) (len-of c)
-its-found c = clean-found (d-of c) (at-of c) (In c .loop-test .taken) (At c .loop .inv .4) refl (ap (λ (s : Entry). s .len) (c .entry-at .ensures))
+its-found c = clean-found (d-of c) (at-of c) (inside c) (At c .loop .inv .4) refl (ap (λ (s : Entry). s .len) (c .entry-at .ensures))
 
 slot-fits : (c : Turn) → c .entry-at .result .slot < wide
 slot-fits c = below (d-of c) (at-of c) _ _ (its-found c) (its-slot c)
@@ -69,6 +73,9 @@ its c = (
 loop-holds : tie.Need-loop-holds Inv-loop μ-loop
 loop-holds c = (search needs, search needs, refl, refl, start _ _ _ _ (c .before .before .before .pre .0) (c .before .before .before .pre .1))
 
+sub-loop : tie.Need-sub-loop Inv-loop μ-loop
+sub-loop c = search needs
+
 sub-rest : tie.Need-sub-rest Inv-loop μ-loop
 sub-rest c = search needs
 
@@ -77,15 +84,6 @@ part-rest-start c = search needs
 
 part-rest-end : tie.Need-part-rest-end Inv-loop μ-loop
 part-rest-end c = search needs
-
-same-length : tie.Need-same-length Inv-loop μ-loop
-same-length c = search needs
-
-same-length-2 : tie.Need-same-length-2 Inv-loop μ-loop
-same-length-2 c = search needs
-
-returns : tie.Need-returns Inv-loop μ-loop
-returns c = absurd (not-short (c .before .before .before .before .before .before .before .args .d .now) (c .before .before .before .loop .at) (c .before .before .loop-test .taken) (c .before .before .before .loop .inv .4) (c .if1 .taken))
 
 entry-at-requires : tie.Need-entry-at-requires Inv-loop μ-loop
 entry-at-requires c κs = search needs
@@ -108,17 +106,17 @@ add-x c = omega (arith, slot-fits (c .before .before), c .u32-at .ok)
 enter-requires : tie.Need-enter-requires Inv-loop μ-loop
 enter-requires c κs = At (c .before .before .before .before) .loop .inv .4 .shape
 
-same-length-3 : tie.Need-same-length-3 Inv-loop μ-loop
-same-length-3 c = search needs
+same-length : tie.Need-same-length Inv-loop μ-loop
+same-length c = search needs
 
-same-length-4 : tie.Need-same-length-4 Inv-loop μ-loop
-same-length-4 c = search needs
+same-length-2 : tie.Need-same-length-2 Inv-loop μ-loop
+same-length-2 c = search needs
 
-returns-2 : tie.Need-returns-2 Inv-loop μ-loop
-returns-2 c =
+returns : tie.Need-returns Inv-loop μ-loop
+returns c =
     let u = c .before .before .before .before .before .before .before .before in
     let t = u .before .before in
-    twin-there (d-of t) (at-of t) _ (len-of t) (In t .loop-test .taken) (its-found t) (At t .loop .inv .4) (its-slot t) (u .u32-at .ensures) (u .u32-at .ok) (c .before .before .before .before .before .enter .ensures) (c .if2 .taken)
+    twin-there (d-of t) (at-of t) _ (len-of t) (inside t) (its-found t) (At t .loop .inv .4) (its-slot t) (u .u32-at .ensures) (u .u32-at .ok) (c .before .before .before .before .before .enter .ensures) (c .if1 .taken)
 
 add-count : tie.Need-add-count Inv-loop μ-loop
 add-count c = omega (arith, its (c .before .before .before .before .before .before .before .before .before .before))
@@ -130,16 +128,16 @@ loop-again : tie.Need-loop-again Inv-loop μ-loop
 loop-again c =
     let u = c .before .before .before .before .before .before .before .before in
     let t = u .before .before in
-    (omega (arith, its t), omega (arith, its t), search needs, search needs, none-there (d-of t) (at-of t) _ (len-of t) (In t .loop-test .taken) (its-found t) (At t .loop .inv .4) (its-slot t) (u .u32-at .ensures) (u .u32-at .ok) (c .before .before .before .before .before .enter .ensures) (c .if2 .left) (omega (arith, its t)))
+    (omega (arith, its t), omega (arith, its t), search needs, search needs, none-there (d-of t) (at-of t) _ (len-of t) (inside t) (its-found t) (At t .loop .inv .4) (its-slot t) (u .u32-at .ensures) (u .u32-at .ok) (c .before .before .before .before .before .enter .ensures) (c .if1 .left) (omega (arith, its t)))
 
-same-length-5 : tie.Need-same-length-5 Inv-loop μ-loop
-same-length-5 c = search needs
+same-length-3 : tie.Need-same-length-3 Inv-loop μ-loop
+same-length-3 c = search needs
 
-same-length-6 : tie.Need-same-length-6 Inv-loop μ-loop
-same-length-6 c = search needs
+same-length-4 : tie.Need-same-length-4 Inv-loop μ-loop
+same-length-4 c = search needs
 
-returns-3 : tie.Need-returns-3 Inv-loop μ-loop
-returns-3 c = finish _ _ (c .loop-test .left) (c .before .loop .inv .4)
+returns-2 : tie.Need-returns-2 Inv-loop μ-loop
+returns-2 c = finish _ _ (c .loop-test .left) (c .before .loop .inv .4)
 
 pub search-spec : {M : Type 1} → statement M
 search-spec =
@@ -148,12 +146,10 @@ search-spec =
     Inv-loop
     μ-loop
     loop-holds
+    sub-loop
     sub-rest
     part-rest-start
     part-rest-end
-    same-length
-    same-length-2
-    returns
     entry-at-requires
     add-next
     mul-x
@@ -161,12 +157,12 @@ search-spec =
     cast-x
     add-x
     enter-requires
-    same-length-3
-    same-length-4
-    returns-2
+    same-length
+    same-length-2
+    returns
     add-count
     loop-less
     loop-again
-    same-length-5
-    same-length-6
-    returns-3)
+    same-length-3
+    same-length-4
+    returns-2)
