@@ -64,7 +64,17 @@ fn search(d: &[u8], links: &mut [u16], ids: &mut [u64], roots: usize) -> Answer
     Answer::Accepted
 }
 
-// The same with a tree for at most 1,000 bytes: what is cleared stays small beside the dossier.
+// The same with a tree for at most 500 bytes: what is cleared stays small beside the dossier.
+fn in_500(d: &[u8]) -> Answer
+    requires { ⌜ (length (now d) ≤ 500) × (scan 0 (records (now d)) ≡ Accepted) ⌝ }
+    ensures { λ r. ⌜ r ≡ twins 0 [] (records (now (d .entry))) ⌝ }
+{
+    let mut links = [0u16; 232];
+    let mut ids = [0u64; 52];
+    search(d, &mut links, &mut ids, 128)
+}
+
+// The same with a tree for at most 1,000 bytes.
 fn in_1000(d: &[u8]) -> Answer
     requires { ⌜ (length (now d) ≤ 1000) × (scan 0 (records (now d)) ≡ Accepted) ⌝ }
     ensures { λ r. ⌜ r ≡ twins 0 [] (records (now (d .entry))) ⌝ }
@@ -72,6 +82,16 @@ fn in_1000(d: &[u8]) -> Answer
     let mut links = [0u16; 460];
     let mut ids = [0u64; 102];
     search(d, &mut links, &mut ids, 256)
+}
+
+// The same with a tree for at most 2,000 bytes.
+fn in_2000(d: &[u8]) -> Answer
+    requires { ⌜ (length (now d) ≤ 2000) × (scan 0 (records (now d)) ≡ Accepted) ⌝ }
+    ensures { λ r. ⌜ r ≡ twins 0 [] (records (now (d .entry))) ⌝ }
+{
+    let mut links = [0u16; 916];
+    let mut ids = [0u64; 202];
+    search(d, &mut links, &mut ids, 512)
 }
 
 // The same with a tree for at most 4,000 bytes.
@@ -84,6 +104,16 @@ fn in_4000(d: &[u8]) -> Answer
     search(d, &mut links, &mut ids, 1024)
 }
 
+// The same with a tree for at most 8,000 bytes.
+fn in_8000(d: &[u8]) -> Answer
+    requires { ⌜ (length (now d) ≤ 8000) × (scan 0 (records (now d)) ≡ Accepted) ⌝ }
+    ensures { λ r. ⌜ r ≡ twins 0 [] (records (now (d .entry))) ⌝ }
+{
+    let mut links = [0u16; 3652];
+    let mut ids = [0u64; 802];
+    search(d, &mut links, &mut ids, 2048)
+}
+
 // The same with a tree for at most 16,000 bytes.
 fn in_16000(d: &[u8]) -> Answer
     requires { ⌜ (length (now d) ≤ 16000) × (scan 0 (records (now d)) ≡ Accepted) ⌝ }
@@ -92,6 +122,16 @@ fn in_16000(d: &[u8]) -> Answer
     let mut links = [0u16; 7300];
     let mut ids = [0u64; 1602];
     search(d, &mut links, &mut ids, 4096)
+}
+
+// The same with a tree for at most 32,000 bytes.
+fn in_32000(d: &[u8]) -> Answer
+    requires { ⌜ (length (now d) ≤ 32000) × (scan 0 (records (now d)) ≡ Accepted) ⌝ }
+    ensures { λ r. ⌜ r ≡ twins 0 [] (records (now (d .entry))) ⌝ }
+{
+    let mut links = [0u16; 14596];
+    let mut ids = [0u64; 3202];
+    search(d, &mut links, &mut ids, 8192)
 }
 
 // The same with a tree for at most 60,000 bytes.
@@ -104,19 +144,50 @@ fn in_60000(d: &[u8]) -> Answer
     search(d, &mut links, &mut ids, 16384)
 }
 
+// Of a dossier of any length, by the trees for more than 4,000 bytes. Called from two functions, it keeps its 105 KB in a frame of its own.
+fn in_large(d: &[u8]) -> Answer
+    requires { ⌜ (length (now d) ≤ 60000) × (scan 0 (records (now d)) ≡ Accepted) ⌝ }
+    ensures { λ r. ⌜ r ≡ twins 0 [] (records (now (d .entry))) ⌝ }
+{
+    if d.len() <= 8000 {
+        return in_8000(d);
+    }
+    if d.len() <= 16000 {
+        return in_16000(d);
+    }
+    if d.len() <= 32000 {
+        return in_32000(d);
+    }
+    in_60000(d)
+}
+
+// Of a dossier of any length, by the trees for at most 4,000 bytes where it is no longer.
+fn in_small(d: &[u8]) -> Answer
+    requires { ⌜ (length (now d) ≤ 60000) × (scan 0 (records (now d)) ≡ Accepted) ⌝ }
+    ensures { λ r. ⌜ r ≡ twins 0 [] (records (now (d .entry))) ⌝ }
+{
+    if d.len() <= 500 {
+        return in_500(d);
+    }
+    if d.len() <= 1000 {
+        return in_1000(d);
+    }
+    if d.len() <= 2000 {
+        return in_2000(d);
+    }
+    if d.len() <= 4000 {
+        return in_4000(d);
+    }
+    in_large(d)
+}
+
 // The first record that has an earlier twin.
 pub fn first_twin(d: &[u8]) -> Answer
     requires { ⌜ (length (now d) ≤ 60000) × (scan 0 (records (now d)) ≡ Accepted) ⌝ }
     ensures { λ r. ⌜ r ≡ twins 0 [] (records (now (d .entry))) ⌝ }
 {
-    if d.len() <= 1000 {
-        return in_1000(d);
+    if 4000 < d.len() {
+        return in_large(d);
     }
-    if d.len() <= 4000 {
-        return in_4000(d);
-    }
-    if d.len() <= 16000 {
-        return in_16000(d);
-    }
-    in_60000(d)
+    in_small(d)
 }
