@@ -139,12 +139,12 @@ fn in_60000(d: &[u8]) -> Answer
     requires { ⌜ (length (now d) ≤ 60000) × (scan 0 (records (now d)) ≡ Accepted) ⌝ }
     ensures { λ r. ⌜ r ≡ twins 0 [] (records (now (d .entry))) ⌝ }
 {
-    let mut links = [0u16; 28388];
+    let mut links = [0u16; 20196];
     let mut ids = [0u64; 6002];
-    search(d, &mut links, &mut ids, 16384)
+    search(d, &mut links, &mut ids, 8192)
 }
 
-// Of a dossier of any length, by the trees for more than 4,000 bytes. Called from two functions, it keeps its 105 KB in a frame of its own.
+// Of a dossier of any length, by the trees for more than 4,000 bytes. Called from two functions, it keeps its 88 KB in a frame of its own.
 fn in_large(d: &[u8]) -> Answer
     requires { ⌜ (length (now d) ≤ 60000) × (scan 0 (records (now d)) ≡ Accepted) ⌝ }
     ensures { λ r. ⌜ r ≡ twins 0 [] (records (now (d .entry))) ⌝ }

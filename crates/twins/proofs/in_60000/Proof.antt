@@ -11,7 +11,7 @@ slice-aggregate-search-2 : tie.Need-slice-aggregate-search-2
 slice-aggregate-search-2 c = search needs
 
 search-requires : tie.Need-search-requires
-search-requires c κs = (fresh 16384 6002 (omega arith) (omega arith) (omega arith) (omega (arith, c .before .before .before .pre .0)), c .before .before .before .pre .1)
+search-requires c κs = (fresh 8192 6002 (omega arith) (omega arith) (omega arith) (omega (arith, c .before .before .before .pre .0)), c .before .before .before .pre .1)
 
 returns : tie.Need-returns
 returns c = search needs
