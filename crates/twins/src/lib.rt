@@ -144,7 +144,7 @@ fn in_60000(d: &[u8]) -> Answer
     search(d, &mut links, &mut ids, 8192)
 }
 
-// Of a dossier of any length, by the trees for more than 4,000 bytes. Called from two functions, it keeps its 88 KB in a frame of its own.
+// By the trees for more than 4,000 bytes. Called from two functions, it keeps its 88 KB in a frame of its own.
 fn in_large(d: &[u8]) -> Answer
     requires { ⌜ (length (now d) ≤ 60000) × (scan 0 (records (now d)) ≡ Accepted) ⌝ }
     ensures { λ r. ⌜ r ≡ twins 0 [] (records (now (d .entry))) ⌝ }
@@ -161,7 +161,7 @@ fn in_large(d: &[u8]) -> Answer
     in_60000(d)
 }
 
-// Of a dossier of any length, by the trees for at most 4,000 bytes where it is no longer.
+// By the trees for at most 4,000 bytes.
 fn in_small(d: &[u8]) -> Answer
     requires { ⌜ (length (now d) ≤ 60000) × (scan 0 (records (now d)) ≡ Accepted) ⌝ }
     ensures { λ r. ⌜ r ≡ twins 0 [] (records (now (d .entry))) ⌝ }
@@ -178,6 +178,7 @@ fn in_small(d: &[u8]) -> Answer
     if d.len() <= 4000 {
         return in_4000(d);
     }
+    // never so: it is the second call of `in_large`
     in_large(d)
 }
 
