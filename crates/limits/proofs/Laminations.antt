@@ -14,13 +14,13 @@ use Rattle.station.specs.Parameters.{Parameters}
 use Rattle.rules.specs.Fit.{energy, holds}
 use Rattle.reference.specs.declared.HourLevels.{HourLevels}
 use Rattle.formulas.specs.Levels.{Line, amount, Shown, row, shown}
-use Rattle.reference.specs.Packed.{laminationsFrom, singleOf, unpacked}
+use Rattle.reference.specs.Packed.{laminationsFrom, singleOf, unpacked, inArrays}
 use Rattle.limits.specs.declared.Threshold.{Threshold}
 use Rattle.limits.specs.declared.Pair.{Pair}
 use Rattle.verdicts.specs.declared.Verdict.{Verdict}
 use Rattle.verdicts.specs.declared.Verdict.the-variants.{Passes, Fails}
 use Rattle.verdicts.specs.Test.{limit, fails, failsUnder, failing, quantity, priceAt, before, overlap, offerFrom, priceTest}
-use Rattle.limits.specs.Shapes.{thresholdOf, failsAt, failingShown, offerShown, priceShown, failsIn, firstFailing, leastOf, inArrays, singleLevel, LastHighest}
+use Rattle.limits.specs.Shapes.{thresholdOf, failsAt, failingShown, offerShown, priceShown, failsIn, firstFailing, leastOf, singleLevel, LastHighest}
 use Rattle.verdicts.proofs.Stays.{pass-stays}
 use Rattle.limits.proofs.Turns.{one-less, all-left}
 
@@ -125,11 +125,11 @@ pairAt o k = record { low = before o k; high = quantity o k; price = priceAt o k
 -- of an offer the laminations alone are tested, and the arrays tell them
 pub told-by-arrays :
     (t : Threshold) (r : HourLevels) (o : List ℕ) (k n : ℕ)
-    → offerShown t (unpacked (inArrays (r .from) (r .to) (r .cents) (r .count))) o k n ≡ offerShown t (unpacked r) o k n
+    → offerShown t (unpacked (inArrays (r .from) (r .to) (r .cents) 0 (r .count))) o k n ≡ offerShown t (unpacked r) o k n
 unfolding offerShown
 told-by-arrays t r o k zero = refl
 told-by-arrays t r o k (suc n) =
-    pair-first t (pairAt o k) (inArrays (r .from) (r .to) (r .cents) (r .count)) (k + 1) _
+    pair-first t (pairAt o k) (inArrays (r .from) (r .to) (r .cents) 0 (r .count)) (k + 1) _
     ∙ ap (named (k + 1) (firstFailing t (pairAt o k) (r .from) (r .to) (r .cents) 0 (r .count))) (told-by-arrays t r o (k + 1) n)
     ∙ sym (pair-first t (pairAt o k) r (k + 1) _)
 

@@ -8,7 +8,6 @@ use lib.ListN.{getD}
 use Rattle.station.specs.Parameters.{Parameters, percent, margin, floor}
 use Rattle.rules.specs.Fit.{energy, start, noLoad}
 use Rattle.reference.specs.declared.HourLevels.{HourLevels}
-use Rattle.reference.specs.Packed.{hourLevels}
 use Rattle.limits.specs.declared.Threshold.{Threshold}
 use Rattle.limits.specs.declared.Pair.{Pair}
 use Rattle.verdicts.specs.declared.Verdict.{Verdict}
@@ -42,10 +41,6 @@ unfoldable pub priceShown : Threshold → ℕ → ℕ → List Shown → Verdict
 priceShown t v price l = failingShown v (λ a b. true) (failsAt t price) 0 l Passes
 
 -- ---- the same by the arrays, as code goes through them
-
--- levels of which the laminations alone are told, in arrays a of from, b of to and x of levels, n of them
-abbrev pub inArrays : List ℕ → List ℕ → List ℕ → ℕ → HourLevels
-inArrays a b x n = hourLevels 0 0 n a b x 0 0 0
 
 -- whether a pair fails in a lamination of level x
 unfoldable pub failsIn : Threshold → Pair → ℕ → ℕ → ℕ → Bool

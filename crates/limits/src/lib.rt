@@ -6,9 +6,9 @@ ghost use Prim.Native.Nat.{_+_, _*_, _<_, _≤_, _/_, min};
 ghost use lib.ListN.{length};
 ghost use Rattle.fields.specs.Numbers.{number, biasedOf};
 ghost use Rattle.rules.specs.Fit.{holds};
-ghost use Rattle.reference.specs.Packed.{unpacked};
+ghost use Rattle.reference.specs.Packed.{unpacked, inArrays};
 ghost use Rattle.verdicts.specs.Test.{limit as limitOf, overlap, quantity, priceAt};
-ghost use Rattle.limits.specs.Shapes.{failsAt, failsIn, firstFailing, leastOf, inArrays, singleLevel, offerShown, priceShown, LastHighest};
+ghost use Rattle.limits.specs.Shapes.{failsAt, failsIn, firstFailing, leastOf, singleLevel, offerShown, priceShown, LastHighest};
 use reference::HourLevels;
 use verdicts::Verdict;
 
@@ -180,7 +180,7 @@ fn offer_test<'a>(
     offer: &[u8],
 ) -> Verdict
     requires { ⌜ (count ≤ 20) × (length (now offer) ≤ 120) ⌝ }
-    ensures { λ r. ⌜ r ≡ offerShown t (unpacked (inArrays (now (from .entry)) (now (to .entry)) (now (cents .entry)) count)) (now (offer .entry)) 0 (length (now (offer .entry)) / 6) ⌝ }
+    ensures { λ r. ⌜ r ≡ offerShown t (unpacked (inArrays (now (from .entry)) (now (to .entry)) (now (cents .entry)) 0 count)) (now (offer .entry)) 0 (length (now (offer .entry)) / 6) ⌝ }
 {
     let least = least_level(cents, count);
     let pairs = offer.len() / 6;

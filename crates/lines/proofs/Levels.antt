@@ -13,8 +13,8 @@ use Rattle.text.proofs.Over.{Wrote, then}
 use Rattle.rules.specs.Fit.{start, noLoad, reserve, holds}
 use Rattle.reference.specs.declared.HourLevels.{HourLevels}
 use Rattle.formulas.specs.Levels.{Shown, row}
-use Rattle.reference.specs.Packed.{laminationAt, laminationsFrom, singleOf, unpacked}
-use Rattle.lines.specs.Parts.{packedReport, inArrays, laminationLines, heldLine, otherLines}
+use Rattle.reference.specs.Packed.{laminationAt, laminationsFrom, singleOf, unpacked, inArrays}
+use Rattle.lines.specs.Parts.{packedReport, laminationLines, heldLine, otherLines}
 use Rattle.layout.specs.Report.{profileLine, energyLine, amountLine, levelLine, levelLines, reportText}
 use Rattle.layout.proofs.Lines.{profile-length, lines-append, lines-within}
 
@@ -103,9 +103,9 @@ others-within t x y z = simp length-append (omega (arith, single-within t start 
 
 -- the energy lines are told by the arrays alone
 abbrev pub linesInArrays : HourLevels → List ℕ
-linesInArrays r = laminationLines (inArrays (r .from) (r .to) (r .cents)) (r .count)
+linesInArrays r = laminationLines (inArrays (r .from) (r .to) (r .cents) 0 0) (r .count)
 
-told-by-arrays : (r : HourLevels) (i n : ℕ) → laminationsFrom (inArrays (r .from) (r .to) (r .cents)) i n ≡ laminationsFrom r i n
+told-by-arrays : (r : HourLevels) (i n : ℕ) → laminationsFrom (inArrays (r .from) (r .to) (r .cents) 0 0) i n ≡ laminationsFrom r i n
 unfolding laminationsFrom
 told-by-arrays r i zero = refl
 told-by-arrays r i (suc n) = ap (λ (l : List Shown). laminationAt r i ∷ l) (told-by-arrays r (suc i) n)
@@ -126,6 +126,6 @@ report-within r h =
       report-length r,
       profile-length (r .profile),
       decimal-within (r .profile),
-      laminations-within (inArrays (r .from) (r .to) (r .cents)) (r .count),
+      laminations-within (inArrays (r .from) (r .to) (r .cents) 0 0) (r .count),
       others-within (r .technology) (r .start) (r .noload) (r .reserve),
     )

@@ -4,16 +4,12 @@ use mathlib.Core.List.{List, [], _++_}
 use Prim.Native.Nat.{ℕ}
 use Rattle.rules.specs.Fit.{start, noLoad, reserve}
 use Rattle.reference.specs.declared.HourLevels.{HourLevels}
-use Rattle.reference.specs.Packed.{laminationsFrom, singleOf, unpacked, hourLevels}
+use Rattle.reference.specs.Packed.{laminationsFrom, singleOf, unpacked}
 use Rattle.layout.specs.Report.{amountLine, levelLines, reportText}
 
 -- the whole
 unfoldable pub packedReport : HourLevels → List ℕ
 packedReport r = reportText (r .profile) (unpacked r)
-
--- levels of which the arrays alone are told: a of from, b of to and x of levels
-abbrev pub inArrays : List ℕ → List ℕ → List ℕ → HourLevels
-inArrays a b x = hourLevels 0 0 0 a b x 0 0 0
 
 -- the first n energy lines
 abbrev pub laminationLines : HourLevels → ℕ → List ℕ

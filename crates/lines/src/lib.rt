@@ -6,7 +6,8 @@ ghost use lib.ListN.{length};
 ghost use Rattle.text.specs.Text.{over, tenths, space};
 ghost use Rattle.rules.specs.Fit.{holds};
 ghost use Rattle.layout.specs.Report.{profileLine, energyLine, amountLine, shortFor, bufferWith, written};
-ghost use Rattle.lines.specs.Parts.{inArrays, laminationLines, heldLine, otherLines, packedReport};
+ghost use Rattle.reference.specs.Packed.{inArrays};
+ghost use Rattle.lines.specs.Parts.{laminationLines, heldLine, otherLines, packedReport};
 use layout::Written;
 use reference::HourLevels;
 use technology::level_held;
@@ -78,7 +79,7 @@ fn laminations_len<'a>(
     count: usize,
 ) -> usize
     requires { ⌜ count ≤ 20 ⌝ }
-    ensures { λ r. ⌜ r ≡ length (laminationLines (inArrays (now (from .entry)) (now (to .entry)) (now (cents .entry))) count) ⌝ }
+    ensures { λ r. ⌜ r ≡ length (laminationLines (inArrays (now (from .entry)) (now (to .entry)) (now (cents .entry)) 0 0) count) ⌝ }
 {
     let mut len = 0;
     let mut i = 0;
@@ -96,8 +97,8 @@ fn put_laminations<'a>(
     cents: &'a [u64; 20],
     count: usize,
 ) -> usize
-    requires { ⌜ (count ≤ 20) × (length (laminationLines (inArrays (now from) (now to) (now cents)) count) ≤ length (now buf)) ⌝ }
-    ensures { λ r. ⌜ (r ≡ length (laminationLines (inArrays (now (from .entry)) (now (to .entry)) (now (cents .entry))) count)) × (now (buf .exit) ≡ over (laminationLines (inArrays (now (from .entry)) (now (to .entry)) (now (cents .entry))) count) (now (buf .entry))) ⌝ }
+    requires { ⌜ (count ≤ 20) × (length (laminationLines (inArrays (now from) (now to) (now cents) 0 0) count) ≤ length (now buf)) ⌝ }
+    ensures { λ r. ⌜ (r ≡ length (laminationLines (inArrays (now (from .entry)) (now (to .entry)) (now (cents .entry)) 0 0) count)) × (now (buf .exit) ≡ over (laminationLines (inArrays (now (from .entry)) (now (to .entry)) (now (cents .entry)) 0 0) count) (now (buf .entry))) ⌝ }
 {
     let mut at = 0;
     let mut i = 0;

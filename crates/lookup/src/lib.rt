@@ -196,14 +196,6 @@ pub fn hr<'a>(d: &'a [u8], index: &[u16], n: usize) -> &'a [u8]
     part_at(d, index, index::keys::slot_hr(n), records::HR.length)
 }
 
-// The current CH of an interval.
-pub fn ch<'a>(d: &'a [u8], index: &[u16], n: usize) -> &'a [u8]
-    requires { ⌜ Indexed (now d) (now index) × (narrow ≤ length (now index)) × (1 ≤ n) × (n ≤ 2016) ⌝ }
-    ensures { λ r. ⌜ now r ≡ current 8 n (records (now (d .entry))) ⌝ }
-{
-    part_at(d, index, index::keys::slot_ch(n), records::CH.length)
-}
-
 // The current TH of a condition and level.
 pub fn th<'a>(d: &'a [u8], index: &[u16], c: usize, v: usize) -> &'a [u8]
     requires { ⌜ Indexed (now d) (now index) × (1 ≤ c) × (c ≤ 3) × (1 ≤ v) × (v ≤ 4) ⌝ }

@@ -77,12 +77,12 @@ begun a b s e =
     (eqb-true (getD s 1 0) b (and-right (eqb (getD s 0 0) a) (eqb (getD s 1 0) b) e))
 
 -- two letters as one number are alike if each is
-pub two-letters : (x y a b : ℕ) → y < 256 → b < 256 → eqb (x * 256 + y) (a * 256 + b) ≡ eqb x a && eqb y b
+pub two-letters : (x y a b : ℕ) → x < 256 → a < 256 → eqb (y * 256 + x) (b * 256 + a) ≡ eqb x a && eqb y b
 two-letters x y a b p q =
     split (eqb x a)
     (λ e. rw (e, eqb-true x a e) (alike (eqb y b) refl))
-    (λ e. rw e (ne-eqb (x * 256 + y) (a * 256 + b) (λ z. eqb-false x a e (omega (arith, p, q, z)))))
+    (λ e. rw e (ne-eqb (y * 256 + x) (b * 256 + a) (λ z. eqb-false x a e (omega (arith, p, q, z)))))
   where
-    alike : (t : Bool) → eqb y b ≡ t → eqb (a * 256 + y) (a * 256 + b) ≡ t
-    alike true e = eq-eqb (a * 256 + y) (a * 256 + b) (rw (eqb-true y b e) refl)
-    alike false e = ne-eqb (a * 256 + y) (a * 256 + b) (λ z. eqb-false y b e (omega (arith, z)))
+    alike : (t : Bool) → eqb y b ≡ t → eqb (y * 256 + a) (b * 256 + a) ≡ t
+    alike true e = eq-eqb (y * 256 + a) (b * 256 + a) (rw (eqb-true y b e) refl)
+    alike false e = ne-eqb (y * 256 + a) (b * 256 + a) (λ z. eqb-false y b e (omega (arith, z)))

@@ -158,11 +158,11 @@ pub fn in_key(kind: usize, n: usize) -> bool
     (0 < kind) & in_fields(mark_shape(kind), n)
 }
 
-// Two letters as one number, the first high: code that tries mark after mark then compares one number with constants.
+// Two letters as one number, the first low, as the machine reads them: code that tries mark after mark then compares one number with constants.
 fn letters(a: u8, b: u8) -> u16
-    ensures { λ r. ⌜ (r ≡ a * 256 + b) × (b < 256) ⌝ }
+    ensures { λ r. ⌜ (r ≡ b * 256 + a) × (a < 256) ⌝ }
 {
-    (a as u16) * 256 + (b as u16)
+    (b as u16) * 256 + (a as u16)
 }
 
 // The mark is compared as two fixed bytes.

@@ -58,6 +58,10 @@ abbrev pub hourLevels : ℕ → ℕ → ℕ → List ℕ → List ℕ → List �
 hourLevels t p n a b x s z r =
     record { technology = t; profile = p; count = n; from = a; to = b; cents = x; start = s; noload = z; reserve = r }
 
+-- levels of which the laminations alone are told, in arrays a of from, b of to and x of levels, at profile p, n of them
+abbrev pub inArrays : List ℕ → List ℕ → List ℕ → ℕ → ℕ → HourLevels
+inArrays a b x p n = hourLevels 0 p n a b x 0 0 0
+
 -- the levels l of technology t and profile p, packed
 unfoldable pub packed : ℕ → ℕ → List Line → HourLevels
 packed t p l =

@@ -9,7 +9,8 @@ use lib.Seq.{drop-cons, getD-take}
 use Rattle.reference.specs.declared.HourLevels.{HourLevels}
 use Rattle.text.specs.Text.{over}
 use Rattle.text.proofs.Over.{Wrote, byte}
-use Rattle.words.specs.Words.{heldBits, inArrays, laminationWords, Blank, wordsTo, wordsOf}
+use Rattle.reference.specs.Packed.{inArrays}
+use Rattle.words.specs.Words.{heldBits, laminationWords, Blank, wordsTo, wordsOf}
 
 -- ---- how many there are
 

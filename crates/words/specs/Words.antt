@@ -12,15 +12,11 @@ use Rattle.rules.specs.Fit.{energy, start, noLoad, reserve, holds}
 use Rattle.rules.specs.Answer.{answer}
 use Rattle.reference.specs.declared.HourLevels.{HourLevels}
 use Rattle.formulas.specs.Levels.{parametersIn, profile, levels}
-use Rattle.reference.specs.Packed.{hourLevels, packed}
+use Rattle.reference.specs.Packed.{packed}
 
 -- the levels that a technology holds as bits: 1 energy, 2 start, 4 no-load, 8 reserve
 unfoldable pub heldBits : ℕ → ℕ
 heldBits t = cond (holds t energy) 1 0 + cond (holds t start) 2 0 + cond (holds t noLoad) 4 0 + cond (holds t reserve) 8 0
-
--- levels of which the laminations alone are told, in arrays a of from, b of to and x of levels, at profile p, n of them
-abbrev pub inArrays : List ℕ → List ℕ → List ℕ → ℕ → ℕ → HourLevels
-inArrays a b x p n = hourLevels 0 p n a b x 0 0 0
 
 -- from, to and level of the lamination at place i of the arrays, from 0
 abbrev pub laminationWords : HourLevels → ℕ → List ℕ

@@ -4,9 +4,9 @@ use Prim.Native.Nat.{_-_, _/_, _≤_}
 use native.Mathlib.Omega.{arith}
 use lib.ListN.{length}
 use Rattle.reference.specs.declared.HourLevels.{HourLevels}
-use Rattle.reference.specs.Packed.{unpacked}
+use Rattle.reference.specs.Packed.{unpacked, inArrays}
 use Rattle.verdicts.specs.Test.{before}
-use Rattle.limits.specs.Shapes.{inArrays, offerShown}
+use Rattle.limits.specs.Shapes.{offerShown}
 use Rattle.limits.proofs.Turns.{all-left, before-next}
 use Rattle.limits.proofs.Laminations.{pair-stop, pair-next, pair-end}
 use Rattle.limits.proofs.offer_test.Statement.{statement}
@@ -14,7 +14,7 @@ use Rattle.limits.proofs.offer_test.Tie as tie
 
 abbrev Inv-loop : tie.InvT-loop
 Inv-loop from to cents count t offer least pairs low₀ k₀ low k =
-    let l = unpacked (inArrays from to cents count) in
+    let l = unpacked (inArrays from to cents 0 count) in
     (k ≤ pairs) × (pairs ≤ 20) × (low ≡ before offer k) × (offerShown t l offer k (pairs - k) ≡ offerShown t l offer 0 pairs)
 
 abbrev μ-loop : tie.MeasureT-loop
@@ -22,7 +22,7 @@ abbrev μ-loop : tie.MeasureT-loop
 
 -- what the arrays tell
 abbrev lv-of : tie.Start Inv-loop μ-loop → HourLevels
-lv-of c = inArrays (c .args .from .now) (c .args .to .now) (c .args .cents .now) (c .args .count)
+lv-of c = inArrays (c .args .from .now) (c .args .to .now) (c .args .cents .now) 0 (c .args .count)
 
 least-level-requires : tie.Need-least-level-requires Inv-loop μ-loop
 least-level-requires c κs = search needs

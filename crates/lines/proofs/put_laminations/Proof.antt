@@ -7,21 +7,22 @@ use borrow.Author.Needs.{needs}
 use lib.ListN.{length}
 use Rattle.text.proofs.Over.{Wrote}
 use Rattle.reference.specs.declared.HourLevels.{HourLevels}
-use Rattle.lines.specs.Parts.{inArrays, laminationLines}
+use Rattle.reference.specs.Packed.{inArrays}
+use Rattle.lines.specs.Parts.{laminationLines}
 use Rattle.lines.proofs.Levels.{lineAt, no-line, line-fits, turn}
 use Rattle.lines.proofs.put_laminations.Statement.{statement}
 use Rattle.lines.proofs.put_laminations.Tie as tie
 
 abbrev Inv-loop : tie.InvT-loop
 Inv-loop buf₀ from to cents count at₀ i₀ buf at i =
-    (i ≤ count) × (length buf ≡ length buf₀) × Wrote (laminationLines (inArrays from to cents) i) buf₀ at buf
+    (i ≤ count) × (length buf ≡ length buf₀) × Wrote (laminationLines (inArrays from to cents 0 0) i) buf₀ at buf
 
 abbrev μ-loop : tie.MeasureT-loop
 μ-loop buf₀ from to cents count at₀ i₀ buf at i = count - i
 
 -- what the arrays tell
 abbrev told : tie.Start Inv-loop μ-loop → HourLevels
-told c = inArrays (c .args .from .now) (c .args .to .now) (c .args .cents .now)
+told c = inArrays (c .args .from .now) (c .args .to .now) (c .args .cents .now) 0 0
 
 abbrev lv-of : tie.In-loop Inv-loop μ-loop → HourLevels
 lv-of c = told (c .before .before .before)

@@ -7,7 +7,8 @@ use borrow.Author.Needs.{needs}
 use lib.ListN.{length, set}
 use Rattle.text.proofs.Over.{Wrote}
 use Rattle.reference.specs.declared.HourLevels.{HourLevels}
-use Rattle.words.specs.Words.{inArrays, wordsTo}
+use Rattle.reference.specs.Packed.{inArrays}
+use Rattle.words.specs.Words.{wordsTo}
 use Rattle.words.proofs.Stores.{within, first-words, next-words, wrote-length, all-places}
 use Rattle.words.proofs.put_laminations.Statement.{statement}
 use Rattle.words.proofs.put_laminations.Tie as tie
