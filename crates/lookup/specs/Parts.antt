@@ -57,9 +57,9 @@ leanIn (suc n) s =
     cond (begins s 82 83) (eqb (number 6 1 s) thermal || eqb (number 6 1 s) nuclear)
     (not (eqb (mark s) HR || eqb (mark s) CH || eqb (mark s) FP || eqb (mark s) LC) && (eqb (mark s) 0 || leanIn n (drop (size (mark s)) s)))
 
--- of a dossier eight are looked at
+-- of a dossier eight are looked at; one above 600 bytes has other costs than a longer index
 abbrev pub lean : List ℕ → Bool
-lean d = leanIn 8 d
+lean d = not (ltb 600 (length d)) && leanIn 8 d
 
 -- where the record of a slot of value v stands in a dossier of e bytes, n being its length; nowhere if there is none
 abbrev pub placeOf : ℕ → ℕ → ℕ → Part

@@ -12,7 +12,7 @@ ghost use Rattle.records.specs.Dossier.{records, scan};
 ghost use Rattle.station.specs.Current.{current, readable, lookupBytes};
 ghost use Rattle.index.specs.declared.Passed.the-variants.{Ended};
 ghost use Rattle.index.specs.Slots.{slot, narrow};
-ghost use Rattle.lookup.specs.Parts.{scanned, lean, placeOf, placeAt, bytesOf, partAt, currentPart, lookupPart, Empty, Indexed, Complete, UpTo, Covers};
+ghost use Rattle.lookup.specs.Parts.{scanned, leanIn, lean, placeOf, placeAt, bytesOf, partAt, currentPart, lookupPart, Empty, Indexed, Complete, UpTo, Covers};
 use index::Passed;
 use records::Answer;
 
@@ -25,10 +25,10 @@ pub struct Part {
     pub length: usize,
 }
 
-// Whether a short index is likely enough: of the first records the RS of a thermal or nuclear station comes first, or none is of a mark that
-// only other stations have. Nothing rests on it.
-pub fn lean(d: &[u8]) -> bool
-    ensures { λ r. ⌜ r ≡ lean (now (d .entry)) ⌝ }
+// Whether a short index is likely enough, as far as the first records tell: the RS of a thermal or nuclear station comes first, or none is of a
+// mark that only other stations have.
+fn lean_in(d: &[u8]) -> bool
+    ensures { λ r. ⌜ r ≡ leanIn 8 (now (d .entry)) ⌝ }
 {
     let mut at = 0;
     let mut i = 0usize;
@@ -53,6 +53,17 @@ pub fn lean(d: &[u8]) -> bool
         i += 1;
     }
     true
+}
+
+// Whether a short index is likely enough and worth the guess: where it is wrong the dossier is read again, and in a long one a longer index
+// costs little. Nothing rests on it.
+pub fn lean(d: &[u8]) -> bool
+    ensures { λ r. ⌜ r ≡ lean (now (d .entry)) ⌝ }
+{
+    if 600 < d.len() {
+        return false;
+    }
+    lean_in(d)
 }
 
 // The first part of it: 13, 1 to 3, and the index.
