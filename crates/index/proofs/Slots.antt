@@ -11,7 +11,7 @@ use Rattle.lists.specs.Tests.{allBelow, between, everyOf}
 use Rattle.lists.proofs.Tests.{and-left, and-right, and-both, between-low, between-high, in-between, below-at, everyOf-at}
 use Rattle.fields.specs.Numbers.{number}
 use Rattle.records.specs.declared.MarkShape.{MarkShape}
-use Rattle.records.specs.Table.{table, rowOf, fieldOf, HR, TH, FP, kinds}
+use Rattle.records.specs.Table.{table, rowOf, fieldOf, CH, TH, FP, kinds}
 use Rattle.records.specs.Record.{mark, offsetIn, offset, read, value, keyIn, keyWidth, keyOf, inRange, rangesHold, fault}
 use Rattle.records.specs.Shapes.{shape, shapeOf, keyField, keyFits, keyTest}
 use Rattle.records.proofs.Record.{faultless, field-in}
@@ -201,14 +201,14 @@ apart k j a b c d e =
     below-at kinds (λ x. apartTest x j) (below-at kinds (λ y. allBelow kinds (λ x. apartTest x y)) refl j d) k c in
     rw (ne-eqb k 0 (λ z. omega (arith, z)), ne-eqb j 0 (λ z. omega (arith, z)), e) at t
 
--- the marks that every station may have
+-- the marks that every station may have, and HR
 abbrev pub early : ℕ → Bool
-early k = ltb k HR || eqb k TH
+early k = ltb k CH || eqb k TH
 
 shortTest : ℕ → Bool
 shortTest k = not (early k) || ltb (high k) short
 
--- of every mark that every station may have
+-- of each of these
 pub slot-short : (k n : ℕ) → InKey k n → early k ≡ true → slot k n < short
 unfolding shortTest
 slot-short k n p h =

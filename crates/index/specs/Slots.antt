@@ -28,9 +28,9 @@ slot (suc (suc (suc (suc (suc (suc (suc (suc (suc zero))))))))) n = 149 + n / 25
 slot (suc (suc (suc (suc (suc (suc (suc (suc (suc (suc zero)))))))))) n = 2350 + n
 slot (suc (suc (suc (suc (suc (suc (suc (suc (suc (suc (suc k))))))))))) n = 2350
 
--- the slots of marks that every station may have, which come first: an index may end behind them
+-- the slots of marks that every station may have, which come first, and of HR: an index may end behind them
 abbrev pub short : ℕ
-short = 166
+short = 334
 
 -- the slots of all marks but FP, whose slots come last: an index may do without them
 abbrev pub narrow : ℕ

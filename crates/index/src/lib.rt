@@ -10,8 +10,8 @@ ghost use Rattle.records.specs.Walk.{walk};
 ghost use Rattle.index.specs.Slots.{heldIssue, newer, higher, kept, keepStep, passOf, slotsOf, slotsEmpty};
 use crate::reader::read;
 
-// The slots of marks that every station may have, of all marks but FP, and with them.
-pub const SHORT: usize = 166;
+// The slots of marks that every station may have and of HR; of all marks but FP; and with them.
+pub const SHORT: usize = 334;
 
 pub const NARROW: usize = 2351;
 

@@ -1,65 +1,79 @@
--- The first records, one after the other.
-use mathlib.Core.Path.{_≡_, refl, ap, sym, _∙_}
-use mathlib.Core.Bool.{Bool, true, false, _||_}
-use mathlib.Core.List.{List, []}
-use Prim.Native.Nat.{ℕ, zero, suc, _+_, _-_, _≤_, _<_}
+-- The records by their marks, one after the other.
+use mathlib.Core.Path.{_≡_, refl, ap, sym, subst, _∙_}
+use mathlib.Core.Bool.{Bool, true, false, _&&_, _||_, not, true≢false}
+use mathlib.Core.List.{List, [], _∷_}
+use Prim.Native.Nat.{ℕ, _+_, _-_, _≤_, _<_}
 use native.Mathlib.Omega.{arith}
-use lib.Dec.{eqb}
-use lib.ListN.{length, take, drop, drop-of-length-le}
+use lib.Dec.{eqb, lit≤}
+use borrow.Author.Tests.{eqb-true, eqb-false}
+use lib.ListN.{length, take, drop, length-drop, drop-of-length-le}
 use lib.Seq.{drop-drop}
-use borrow.Author.Tests.{ne-eqb}
-use Rattle.fields.specs.Numbers.{number}
-use Rattle.records.specs.Record.{mark, markIn, size}
-use Rattle.records.specs.Table.{table}
-use Rattle.records.specs.Shapes.{begins}
-use Rattle.records.proofs.Record.{mark-nil}
+use Rattle.lists.specs.Lists.{Each, done, also}
+use Rattle.lists.specs.Tests.{everyOf}
+use Rattle.lists.proofs.Lists.{each-map}
+use Rattle.lists.proofs.Tests.{split, and-left, and-right}
+use Rattle.records.specs.Table.{CH, FP, LC, kinds}
+use Rattle.records.specs.Record.{mark, size}
+use Rattle.records.specs.Dossier.{firstOf, restOf, recordsIn, records}
+use Rattle.records.proofs.Record.{no-size}
+use Rattle.records.proofs.Marks.{size-most}
+use Rattle.records.proofs.Dossier.{first-mark, records-step}
+use Rattle.station.specs.Current.{matches, current}
+use Rattle.station.proofs.Current.{matches-mark}
 use Rattle.index.proofs.Turn.{tail}
-use Rattle.lookup.specs.Parts.{leanIn}
+use Rattle.lookup.specs.Parts.{plain, Indexed}
+use Rattle.lookup.proofs.Parts.{none-current}
 
--- i records were looked at, the next is at place p
-abbrev pub Left : List ℕ → ℕ → ℕ → Type 0
-Left d i p = leanIn (8 - i) (drop p d) ≡ leanIn 8 d
+-- a mark whose slots come last
+abbrev Late : ℕ → Bool
+Late k = eqb k CH || eqb k FP || eqb k LC
 
--- nothing is left
-none-left : (n : ℕ) → leanIn n [] ≡ true
-unfolding leanIn
-none-left zero = refl
-none-left (suc n) = rw mark-nil refl
+-- no record is longer than 31 bytes
+pub size-le : (k : ℕ) → k < kinds → size k ≤ 31
+size-le k h = split (eqb k 0) (λ z. rw (eqb-true k 0 z, no-size) (lit≤ tt)) (λ z. size-most k (eqb-false k 0 z) h)
 
-pub all-read : (d : List ℕ) (i p : ℕ) → length d ≤ p → Left d i p → true ≡ leanIn 8 d
-all-read d i p h left = sym (none-left (8 - i)) ∙ rw (drop-of-length-le d {i = p} h) at left
+-- what is left from place p on tells
+abbrev pub Left : List ℕ → ℕ → Type 0
+Left d p = everyOf (λ r. not (Late (mark r))) (records (drop p d)) ≡ plain d
 
-pub all-looked : (d : List ℕ) (i p : ℕ) → 8 ≤ i → Left d i p → true ≡ leanIn 8 d
-unfolding leanIn
-all-looked d i p h left = let z : 8 - i ≡ 0 = omega arith in rw z at left
+pub all-left : (d : List ℕ) → Left d 0
+unfolding plain
+all-left d = refl
 
-module _ (d : List ℕ) (i p : ℕ) (h : i < 8) (left : Left d i p) where
-  step : leanIn (suc (7 - i)) (drop p d) ≡ leanIn 8 d
-  step = ap (λ (n : ℕ). leanIn n (drop p d)) (omega arith) ∙ left
+pub none-left : (d : List ℕ) (p : ℕ) → length d ≤ p → Left d p → true ≡ plain d
+unfolding records recordsIn everyOf
+none-left d p h left = rw (drop-of-length-le d {i = p} h) at left
 
-  pub at-rs : {b : Bool} {t : ℕ} → b ≡ true → b ≡ begins (take (length d - p) (drop p d)) 82 83 → t ≡ number 6 1 (take (length d - p) (drop p d)) → eqb t 1 || eqb t 2 ≡ leanIn 8 d
-  unfolding leanIn
-  at-rs z e q = rw (q, tail d p) (let w = sym z ∙ e in rw (← step, rw (tail d p) at (sym w)) refl)
+module _ (d : List ℕ) (p : ℕ) (h : p < length d) (left : Left d p) {k : ℕ} (q : k ≡ mark (take (length d - p) (drop p d))) where
+  step : not (Late k) && everyOf (λ r. not (Late (mark r))) (records (restOf (drop p d))) ≡ plain d
+  unfolding everyOf
+  step =
+      rw (q, tail d p, ← first-mark (drop p d)) (subst (λ (l : List (List ℕ)). everyOf (λ r. not (Late (mark r))) l ≡ plain d) (records-step (drop p d) (omega (arith, length-drop p d))) left)
 
-  module _ {b : Bool} {k : ℕ} (z : b ≡ false) (e : b ≡ begins (take (length d - p) (drop p d)) 82 83) (q : k ≡ mark (take (length d - p) (drop p d))) where
-    other : begins (drop p d) 82 83 ≡ false
-    other = rw (tail d p) at (sym e ∙ z)
+  pub at-late : Late k ≡ true → false ≡ plain d
+  at-late e = rw e at step
 
-    kind : k ≡ mark (drop p d)
-    kind = rw (tail d p) at q
+  pub at-next : Late k ≡ false → {n : ℕ} → n ≡ size k → Left d (p + n)
+  unfolding restOf
+  at-next e s = rw (s, q, tail d p, ← drop-drop (size (mark (drop p d))) p d) (rw e at step)
 
-    pub at-priced : eqb k 7 || eqb k 8 || eqb k 10 || eqb k 11 ≡ true → false ≡ leanIn 8 d
-    unfolding leanIn
-    at-priced w = rw (← step, other, (rw kind at w)) refl
+every-each : {A : Type 0} (f : A → Bool) (l : List A) → everyOf f l ≡ true → Each (λ a. f a ≡ true) l
+unfolding everyOf
+every-each f [] e = done
+every-each f (a ∷ l) e = also (and-left (f a) (everyOf f l) e) (every-each f l (and-right (f a) (everyOf f l) e))
 
-    module _ (w : eqb k 7 || eqb k 8 || eqb k 10 || eqb k 11 ≡ false) where
-      pub at-unknown : k ≡ 0 → true ≡ leanIn 8 d
-      unfolding leanIn
-      at-unknown u = rw (← step, other, ← kind, w, u) refl
-
-      pub at-next : (k ≡ 0 → ⊥) → {n : ℕ} → n ≡ size k → Left d (i + 1) (p + n)
-      unfolding leanIn
-      at-next u {n} s =
-          let m : 8 - (i + 1) ≡ 7 - i = omega arith in
-          rw (m, s, ← drop-drop (size k) p d)
-          (rw (other, ← kind, w, ne-eqb k 0 u) at step)
+-- a dossier without such a record has none of them
+pub plain-none : (d ix : List ℕ) → Indexed d ix → true ≡ plain d → (k n : ℕ) → Late k ≡ true → current k n (records d) ≡ []
+unfolding plain current
+plain-none d ix h e k n late =
+    none-current d ix h k n []
+    (each-map
+    (λ r z. split (matches k n r) (λ m. absurd (true≢false (sym late ∙ ap Late (sym (matches-mark k n r m)) ∙ not-late r z))) (λ m. m))
+    (every-each (λ r. not (Late (mark r))) (records d) (sym e)))
+  where
+    not-late : (r : List ℕ) → not (Late (mark r)) ≡ true → Late (mark r) ≡ false
+    not-late r z = go (Late (mark r)) z
+      where
+        go : (b : Bool) → not b ≡ true → b ≡ false
+        go true e = sym e
+        go false e = refl

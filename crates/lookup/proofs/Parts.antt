@@ -119,7 +119,7 @@ module _ (d ix : List ℕ) (h : Indexed d ix) where
   -- ---- no key: a clean dossier has no such record
 
   module _ (k n : ℕ) where
-    none-current : (c : List ℕ) {l : List (List ℕ)} → Each (λ r. matches k n r ≡ false) l → currentFrom k n c l ≡ c
+    pub none-current : (c : List ℕ) {l : List (List ℕ)} → Each (λ r. matches k n r ≡ false) l → currentFrom k n c l ≡ c
     unfolding currentFrom better
     none-current c done = refl
     none-current c (also m e) = rw m (none-current c e)

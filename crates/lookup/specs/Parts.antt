@@ -1,15 +1,16 @@
 -- The current records through the index, and where they lie in the dossier.
-use mathlib.Core.Bool.{Bool, true, cond, _&&_, _||_, not}
+use mathlib.Core.Bool.{Bool, cond, _&&_, _||_, not}
 use mathlib.Core.List.{List}
 use mathlib.Core.Path.{_≡_}
-use Prim.Native.Nat.{ℕ, zero, suc, _+_, _-_, _≤_, _<_}
+use Prim.Native.Nat.{ℕ, _+_, _-_, _≤_, _<_}
 use lib.Dec.{ltb, eqb}
 use lib.ListN.{length, getD, take, drop, replicate}
 use Rattle.lists.specs.Lists.{Each}
+use Rattle.lists.specs.Tests.{everyOf}
 use Rattle.fields.specs.Numbers.{number}
 use Rattle.records.specs.declared.Answer.the-variants.{Accepted}
-use Rattle.records.specs.Table.{HR, CH, FP, LC, thermal, nuclear}
-use Rattle.records.specs.Record.{mark, size, keyOf}
+use Rattle.records.specs.Table.{CH, FP, LC, thermal, nuclear}
+use Rattle.records.specs.Record.{mark, keyOf}
 use Rattle.records.specs.Shapes.{begins}
 use Rattle.records.specs.Answers.{isAccepted}
 use Rattle.records.specs.Dossier.{records, scan}
@@ -50,16 +51,13 @@ scanned w d = cond (ltb longest (length d)) (Stopped 13 0) (passOf (walk (keepSt
 abbrev pub Empty : List ℕ → Type 0
 Empty ix = (short ≤ length ix) × (ix ≡ replicate (length ix) 0)
 
--- whether a short index is likely enough, as far as the first n records tell: no HR, CH, FP or LC comes before the RS of a thermal or nuclear station; nothing rests on it
-unfoldable pub leanIn : ℕ → List ℕ → Bool
-leanIn zero s = true
-leanIn (suc n) s =
-    cond (begins s 82 83) (eqb (number 6 1 s) thermal || eqb (number 6 1 s) nuclear)
-    (not (eqb (mark s) HR || eqb (mark s) CH || eqb (mark s) FP || eqb (mark s) LC) && (eqb (mark s) 0 || leanIn n (drop (size (mark s)) s)))
+-- no record is of CH, FP or LC, whose slots come last
+unfoldable pub plain : List ℕ → Bool
+plain d = everyOf (λ r. not (eqb (mark r) CH || eqb (mark r) FP || eqb (mark r) LC)) (records d)
 
--- of a dossier eight are looked at; one above 600 bytes has other costs than a longer index
+-- a short index is enough, or likely so, since the dossier begins with the RS of a thermal or nuclear station; nothing rests on it
 abbrev pub lean : List ℕ → Bool
-lean d = not (ltb 600 (length d)) && leanIn 8 d
+lean d = not (ltb 600 (length d)) && (begins d 82 83 && (eqb (number 6 1 d) thermal || eqb (number 6 1 d) nuclear) || plain d)
 
 -- where the record of a slot of value v stands in a dossier of e bytes, n being its length; nowhere if there is none
 abbrev pub placeOf : ℕ → ℕ → ℕ → Part

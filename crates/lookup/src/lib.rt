@@ -12,7 +12,7 @@ ghost use Rattle.records.specs.Dossier.{records, scan};
 ghost use Rattle.station.specs.Current.{current, readable, lookupBytes};
 ghost use Rattle.index.specs.declared.Passed.the-variants.{Ended};
 ghost use Rattle.index.specs.Slots.{slot, narrow};
-ghost use Rattle.lookup.specs.Parts.{scanned, leanIn, lean, placeOf, placeAt, bytesOf, partAt, currentPart, lookupPart, Empty, Indexed, Complete, UpTo, Covers};
+ghost use Rattle.lookup.specs.Parts.{scanned, plain, lean, placeOf, placeAt, bytesOf, partAt, currentPart, lookupPart, Empty, Indexed, Complete, UpTo, Covers};
 use index::Passed;
 use records::Answer;
 
@@ -25,45 +25,35 @@ pub struct Part {
     pub length: usize,
 }
 
-// Whether a short index is likely enough, as far as the first records tell: the RS of a thermal or nuclear station comes first, or none is of a
-// mark that only other stations have.
-fn lean_in(d: &[u8]) -> bool
-    ensures { λ r. ⌜ r ≡ leanIn 8 (now (d .entry)) ⌝ }
+// Whether no record is of CH, FP or LC, which a short index has no slots for.
+pub fn plain(d: &[u8]) -> bool
+    requires { ⌜ length (now d) ≤ 60000 ⌝ }
+    ensures { λ r. ⌜ r ≡ plain (now (d .entry)) ⌝ }
 {
     let mut at = 0;
-    let mut i = 0usize;
-    while i < 8 {
-        if d.len() <= at {
-            return true;
-        }
-        let rest = &d[at..];
-        if records::is_mark(rest, b"RS") {
-            let t = fields::u8_at(rest, 6);
-            return (t == 1) | (t == 2);
-        }
-        let k = records::kind_at(rest);
-        if (k == 7) | (k == 8) | (k == 10) | (k == 11) {
+    while at < d.len() {
+        let k = records::kind_at(&d[at..]);
+        if (k == 8) | (k == 10) | (k == 11) {
             return false;
         }
-        if k == 0 {
-            return true;
-        }
-        let m = records::mark_shape(k);
-        at += m.length;
-        i += 1;
+        at += records::length_of(k);
     }
     true
 }
 
-// Whether a short index is likely enough and worth the guess: where it is wrong the dossier is read again, and in a long one a longer index
-// costs little. Nothing rests on it.
+// Whether a short index is enough, or likely so: the dossier begins with the RS of a thermal or nuclear station. A long dossier costs more to
+// look through than a longer index. Nothing rests on it.
 pub fn lean(d: &[u8]) -> bool
     ensures { λ r. ⌜ r ≡ lean (now (d .entry)) ⌝ }
 {
     if 600 < d.len() {
         return false;
     }
-    lean_in(d)
+    let t = fields::u8_at(d, 6);
+    if records::is_mark(d, b"RS") & ((t == 1) | (t == 2)) {
+        return true;
+    }
+    plain(d)
 }
 
 // The first part of it: 13, 1 to 3, and the index.
@@ -201,7 +191,7 @@ pub fn rq<'a>(d: &'a [u8], index: &[u16], n: usize) -> &'a [u8]
 
 // The current HR of an hour of the window.
 pub fn hr<'a>(d: &'a [u8], index: &[u16], n: usize) -> &'a [u8]
-    requires { ⌜ Indexed (now d) (now index) × (narrow ≤ length (now index)) × (1 ≤ n) × (n ≤ 168) ⌝ }
+    requires { ⌜ Indexed (now d) (now index) × (1 ≤ n) × (n ≤ 168) ⌝ }
     ensures { λ r. ⌜ now r ≡ current 7 n (records (now (d .entry))) ⌝ }
 {
     part_at(d, index, index::keys::slot_hr(n), records::HR.length)

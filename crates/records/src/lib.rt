@@ -7,7 +7,7 @@ ghost use lib.ListN.{getD};
 ghost use Rattle.lists.specs.Tests.{between};
 ghost use Rattle.fields.specs.Numbers.{number, biased};
 ghost use Rattle.records.specs.Table.{kinds};
-ghost use Rattle.records.specs.Record.{mark, rangesHold};
+ghost use Rattle.records.specs.Record.{mark, size, rangesHold};
 ghost use Rattle.records.specs.Shapes.{begins, shapeOf, keyField, keyFits, keyTest};
 
 // What the reader finds at the front of the rest of a dossier: a whole record, or the fault that it draws.
@@ -127,6 +127,47 @@ pub fn mark_shape(kind: usize) -> MarkShape
     ensures { λ r. ⌜ r ≡ shapeOf kind ⌝ }
 {
     MARKS[kind]
+}
+
+// The length of a kind's records. A row of the table, asked for by a number, would be made with the whole table each time.
+pub fn length_of(kind: usize) -> usize
+    requires { ⌜ kind < kinds ⌝ }
+    ensures { λ r. ⌜ r ≡ size kind ⌝ }
+{
+    if kind == 0 {
+        return UNKNOWN.length;
+    }
+    if kind == 8 {
+        return CH.length;
+    }
+    if kind == 2 {
+        return HP.length;
+    }
+    if kind == 9 {
+        return TH.length;
+    }
+    if kind == 7 {
+        return HR.length;
+    }
+    if kind == 10 {
+        return FP.length;
+    }
+    if kind == 3 {
+        return FU.length;
+    }
+    if kind == 4 {
+        return AD.length;
+    }
+    if kind == 5 {
+        return MM.length;
+    }
+    if kind == 6 {
+        return RQ.length;
+    }
+    if kind == 1 {
+        return RS.length;
+    }
+    LC.length
 }
 
 // Whether a number is within the bounds of a key field.

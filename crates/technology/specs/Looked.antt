@@ -11,7 +11,7 @@ use Rattle.records.specs.Table.{RS, FU, MM, thermal, nuclear, storage, hydro}
 use Rattle.records.specs.Record.{mark, size}
 use Rattle.records.specs.Dossier.{records}
 use Rattle.station.specs.Current.{current}
-use Rattle.index.specs.Slots.{short, narrow, slotAt, slotsEmpty}
+use Rattle.index.specs.Slots.{narrow, slotAt, slotsEmpty}
 use Rattle.lookup.specs.Parts.{partAt}
 use Rattle.technology.specs.declared.Tried.{Tried}
 use Rattle.rules.specs.Fit.{fits, holds}
@@ -52,7 +52,7 @@ proratedFit t ix = eqb t nuclear || allBelow 4 (λ p. slotsEmpty ix (42 + 20 * p
 
 -- HR, CH and LC are there at storage alone; the highest slot m of a record tells at once that none is, else the index must have their slots
 abbrev pub pricedFit : ℕ → List ℕ → ℕ → Bool
-pricedFit t ix m = ltb m short || eqb t storage || (not (ltb (length ix) narrow) && slotsEmpty ix 166 2185)
+pricedFit t ix m = ltb m 166 || eqb t storage || (not (ltb (length ix) narrow) && slotsEmpty ix 166 2185)
 
 -- every current record fits, r being RS; FP has slots where there is an FP, which fits a hydroelectric station alone
 unfoldable pub allFit : ℕ → List ℕ → List ℕ → List ℕ → ℕ → Bool

@@ -5,7 +5,7 @@ use Rattle.records.specs.Table.{table, rowOf}
 use Rattle.records.specs.Record.{widths, size}
 use Rattle.records.specs.Shapes.{shape, shapeOf}
 use Rattle.index.proofs.Slots.{InKey}
-use Rattle.lookup.proofs.Parts.{one-field, narrow-fits, part-current}
+use Rattle.lookup.proofs.Parts.{one-field, slot-fits, part-found}
 use borrow.Author.Needs.{needs}
 use Rattle.lookup.proofs.hr.Statement.{statement}
 use Rattle.lookup.proofs.hr.Tie as tie
@@ -20,14 +20,13 @@ slot-hr-requires c κs = search needs
 part-at-requires : tie.Need-part-at-requires
 part-at-requires c κs =
     let p = c .before .before .before .pre in
-    (rw (c .slot-hr .ensures) (narrow-fits _ _ (p .0) (p .1) 7 _ (key _ (p .2) (p .3)) refl), search needs)
+    (slot-fits _ _ (p .0) 7 _ refl (key _ (p .1) (p .2)) (c .slot-hr .ensures), search needs)
 
 returns : tie.Need-returns
 unfolding size widths rowOf table
 returns c =
     let p = c .before .before .before .before .pre in
-    let k = key _ (p .2) (p .3) in
-    c .part-at .ensures ∙ part-current _ _ (p .0) 7 _ k (narrow-fits _ _ (p .0) (p .1) 7 _ k refl) (c .before .slot-hr .ensures) refl
+    c .part-at .ensures ∙ part-found _ _ (p .0) 7 _ refl (key _ (p .1) (p .2)) (c .before .slot-hr .ensures) refl
 
 pub hr-spec : {M : Type 1} → statement M
 hr-spec = tie.close (tie.spec slot-hr-requires part-at-requires returns)
