@@ -42,9 +42,22 @@ above-next v (x ∷ l) = go (decLe (v + 1) x) (above-next v l)
     go (yes h) e = omega (arith, least-head (v + 1) x h, above-head v x (omega arith), e)
     go (no h) e = omega (arith, least-not (v + 1) x (omega arith), above-not v x (omega arith), e)
 
+above-least : (v : ℕ) (l : List ℕ) → above v l ≤ atLeast v l
+unfolding sumOf
+above-least v [] = le-refl 0
+above-least v (x ∷ l) = go (decLe v x) (above-least v l)
+  where
+    go : Dec (v ≤ x) → above v l ≤ atLeast v l → cond (ltb v x) 1 0 + above v l ≤ cond (leb v x) 1 0 + atLeast v l
+    go (yes h) e = omega (arith, least-head v x h, one-cond (ltb v x), e)
+    go (no h) e = omega (arith, above-not v x (omega arith), e)
+
+-- a middle that has neither too many above it nor too few
+pub threshold-middle : (n most v : ℕ) (s : List ℕ) → n ≤ above v s → above v s ≤ most → Threshold n most v s
+threshold-middle n most v s p q = record { few = q; enough = omega (arith, p, above-least v s) }
+
 -- where the two ends of the search meet
-pub threshold-met : (n lo hi : ℕ) (s : List ℕ) → hi ≤ lo → lo ≤ hi → n ≤ atLeast lo s → above hi s ≤ n - 1 → Threshold n lo s
-threshold-met n lo hi s p q e f =
+pub threshold-met : (n most lo hi : ℕ) (s : List ℕ) → hi ≤ lo → lo ≤ hi → n ≤ atLeast lo s → above hi s ≤ most → Threshold n most lo s
+threshold-met n most lo hi s p q e f =
     let z : hi ≡ lo = omega arith in
     record { few = rw z at f; enough = e }
 
@@ -113,8 +126,8 @@ first-sum (suc n) v b (x ∷ l) f p q = go (decLe v x) (decLe x v) (first-sum n 
     go (yes h) (no g) r = omega (arith, r (omega (arith, above-head v x (omega arith))) (omega (arith, least-head v x h)))
     go (no h) g r = absurd (omega (arith, least-not v x (omega arith), falls-least x v l (f .1) (omega arith)))
 
--- the n highest together: what those above their threshold have above it, and the threshold n times
-pub highest-sum : (n v : ℕ) (l : List ℕ) → Threshold n v l → sumHighest n l ≡ excess v l + n * v
+-- the n highest together: what those above a threshold have above it, and the threshold n times
+pub highest-sum : (n v : ℕ) (l : List ℕ) → Threshold n n v l → sumHighest n l ≡ excess v l + n * v
 unfolding sumHighest
 highest-sum n v l h =
     first-sum n v (top l) (falling l) (sorted l) (omega (arith, falling-sum (λ x. cond (ltb v x) 1 0) l, h .few)) (rw falling-sum (h .enough))
@@ -137,8 +150,8 @@ unfolding sumOf
 least-length v [] = le-refl 0
 least-length v (x ∷ l) = omega (arith, one-cond (leb v x), least-length v l)
 
--- the threshold of the n highest is the n-th
-pub threshold-place : (n v : ℕ) (l : List ℕ) → 1 ≤ n → Threshold n v l → fromTop n l ≡ v
+-- the threshold with fewer than n above it is the n-th
+pub threshold-place : (n v : ℕ) (l : List ℕ) → 1 ≤ n → Threshold n (n - 1) v l → fromTop n l ≡ v
 threshold-place n v l h t = go (decLe (fromTop n l) v) (decLe v (fromTop n l))
   where
     go : Dec (fromTop n l ≤ v) → Dec (v ≤ fromTop n l) → fromTop n l ≡ v

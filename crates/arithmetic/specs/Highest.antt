@@ -1,5 +1,5 @@
 -- The n highest of a list by a threshold: what each lies above it, and the threshold n times. The law `highest-sum` says
--- that this is their sum, and `threshold-place` that the threshold is the number at place n from the top.
+-- that this is their sum, and `threshold-place` that a threshold with fewer than n above it is the number at place n from the top.
 use mathlib.Core.List.{List, [], _∷_}
 use Prim.Native.Nat.{ℕ, _-_, _≤_}
 use Rattle.formulas.specs.Sums.{sumOf, above, atLeast}
@@ -8,9 +8,9 @@ use Rattle.formulas.specs.Sums.{sumOf, above, atLeast}
 abbrev pub excess : ℕ → List ℕ → ℕ
 excess v l = sumOf (λ x. x - v) l
 
--- fewer than n are above v, and no fewer are v or more; for n = 0: none is above v
-pub record Threshold (n v : ℕ) (l : List ℕ) : Type 0 where
-  pub few : above v l ≤ n - 1
+-- so many at most are above v, and n at least are v or more
+pub record Threshold (n most v : ℕ) (l : List ℕ) : Type 0 where
+  pub few : above v l ≤ most
   pub enough : n ≤ atLeast v l
 
 -- a price in its range, plus 2^31

@@ -1,4 +1,4 @@
-// The highest of some prices, by the price that parts them from the others: it is found by halving the range that they lie in.
+// The highest of some prices, by a price that parts them from the others: it is found by halving the range that they lie in.
 ghost use mathlib.Core.Path.{_≡_};
 ghost use Prim.Native.Nat.{_+_, _*_, _-_, _≤_, _<_, max, min};
 ghost use lib.ListN.{length, drop};
@@ -104,47 +104,50 @@ fn excess(s: &[u32], v: u32) -> u64
     sum
 }
 
-// The threshold of the n highest, between two that lie on either side of it.
-fn threshold(s: &[u32], n: usize, low: u32, high: u32) -> u32
-    requires { ⌜ (low ≤ high) × (n ≤ atLeast low (now s)) × (above high (now s) ≤ n - 1) ⌝ }
-    ensures { λ r. ⌜ Threshold n r (now (s .entry)) × (low ≤ r) × (r ≤ high) ⌝ }
+// A threshold of the n highest with no more than `most` above it, between two that lie on either side of it. Any is as good as another, so that the halving stops at the first middle that is one.
+fn threshold(s: &[u32], n: usize, most: usize, low: u32, high: u32) -> u32
+    requires { ⌜ (n ≤ most + 1) × (low ≤ high) × (n ≤ atLeast low (now s)) × (above high (now s) ≤ most) ⌝ }
+    ensures { λ r. ⌜ Threshold n most r (now (s .entry)) × (low ≤ r) × (r ≤ high) ⌝ }
 {
     let mut lo = low;
     let mut hi = high;
     while lo < hi {
         let mid = lo + (hi - lo) / 2;
-        if above(s, mid) < n {
+        let count = above(s, mid);
+        if most < count {
+            lo = mid + 1;
+        } else if count < n {
             hi = mid;
         } else {
-            lo = mid + 1;
+            return mid;
         }
     }
     lo
 }
 
-// The threshold of the n highest of prices that may lie anywhere in their range.
-fn price_threshold(s: &[u32], n: usize) -> u32
-    requires { ⌜ (n ≤ length (now s)) × Each PriceIn (now s) ⌝ }
-    ensures { λ r. ⌜ Threshold n r (now (s .entry)) × (2147283648 ≤ r) × (r ≤ 2147683648) ⌝ }
+// Such a threshold of prices that may lie anywhere in their range.
+fn price_threshold(s: &[u32], n: usize, most: usize) -> u32
+    requires { ⌜ (n ≤ most + 1) × (n ≤ length (now s)) × Each PriceIn (now s) ⌝ }
+    ensures { λ r. ⌜ Threshold n most r (now (s .entry)) × (2147283648 ≤ r) × (r ≤ 2147683648) ⌝ }
 {
     let low = lowest(s, HIGHEST);
     let high = topmost(s, low);
-    threshold(s, n, low, high)
+    threshold(s, n, most, low, high)
 }
 
-// The sum of the n highest.
+// The sum of the n highest. Any price with just these above it will do for a threshold, and the fewer the prices, the sooner a middle lies in that gap.
 pub fn highest(s: &[u32], n: usize) -> u64
     requires { ⌜ (n ≤ length (now s)) × (length (now s) ≤ 168) × Each PriceIn (now s) ⌝ }
     ensures { λ r. ⌜ (r ≡ sumHighest n (now (s .entry))) × (r ≤ 336 * 4294967295) ⌝ }
 {
-    let v = price_threshold(s, n);
+    let v = price_threshold(s, n, n);
     excess(s, v) + (n as u64) * (v as u64)
 }
 
-// The n-th from the top, repeated prices counted each.
+// The n-th from the top, repeated prices counted each: it is the only threshold with fewer than n above it.
 pub fn from_top(s: &[u32], n: usize) -> u32
     requires { ⌜ (1 ≤ n) × (n ≤ length (now s)) × Each PriceIn (now s) ⌝ }
     ensures { λ r. ⌜ (r ≡ fromTop n (now (s .entry))) × (2147283648 ≤ r) × (r ≤ 2147683648) ⌝ }
 {
-    price_threshold(s, n)
+    price_threshold(s, n, n - 1)
 }

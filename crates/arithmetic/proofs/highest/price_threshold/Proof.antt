@@ -21,6 +21,7 @@ threshold-requires c κs =
     let low = c .before .lowest .result in
     let e : low ≡ inTurn min 2147683648 s = c .before .lowest .ensures in
     let f : c .topmost .result ≡ inTurn max low s = c .topmost .ensures in (
+      search needs,
       omega (arith, f, topmost-le low s),
       omega (arith, all-least low 2147683648 s (omega (arith, e))),
       omega (arith, none-above (c .topmost .result) low s (omega (arith, f))),
@@ -36,8 +37,8 @@ returns c =
     let low = c .before .before .lowest .result in
     let e : low ≡ inTurn min 2147683648 s = c .before .before .lowest .ensures in
     let f : c .before .topmost .result ≡ inTurn max low s = c .before .topmost .ensures in
-    let p : PriceIn low = rw e (lowest-in 2147683648 (b .pre .1) highest-price) in
-    let q = topmost-in low (b .pre .1) p in
+    let p : PriceIn low = rw e (lowest-in 2147683648 (b .pre .2) highest-price) in
+    let q = topmost-in low (b .pre .2) p in
     (c .threshold .ensures .0, omega (arith, c .threshold .ensures .1, p .low), omega (arith, c .threshold .ensures .2, f, q .high))
 
 pub price-threshold-spec : {M : Type 1} → statement M
