@@ -6,23 +6,25 @@ use Prim.Native.Nat.{ℕ, suc, _+_, _-_, _*_, _≤_, _<_}
 use native.Mathlib.Omega.{arith}
 use lib.Dec.{ltb, eqb}
 use lib.ListN.{length, getD, take, drop}
-use borrow.Author.Tests.{eqb-true, ne-eqb, ltb-false}
+use borrow.Author.Tests.{eqb-true, eq-eqb, ne-eqb, ltb-false}
 use Rattle.lists.specs.Tests.{allBelow}
 use Rattle.lists.proofs.Tests.{below-at, or-false-right}
 use Rattle.fields.specs.Numbers.{number}
 use Rattle.fields.proofs.Numbers.{number-nil}
-use Rattle.records.specs.Table.{table, rowOf, CH}
+use Rattle.records.specs.Table.{table, rowOf, CH, LC}
 use Rattle.records.specs.Record.{size, widths}
 use Rattle.records.specs.Dossier.{records}
 use Rattle.station.specs.Current.{current}
 use Rattle.station.specs.Parameters.{chargePrice, chargeEnergy}
-use Rattle.station.proofs.Fields.{chargeEnergy-at}
+use Rattle.station.proofs.Fields.{chargeEnergy-at, lastCost-at}
 use Rattle.index.specs.Slots.{slot, narrow, slotsEmpty}
 use Rattle.index.proofs.Slots.{slot-narrow}
-use Rattle.lookup.specs.Parts.{part, bytesOf, placeAt, partAt, Indexed}
+use Rattle.lookup.specs.Parts.{part, bytesOf, placeAt, partAt, plain, Indexed}
 use Rattle.lookup.proofs.Parts.{current-none, slot-tells, part-current, interval-key}
+use Rattle.lookup.proofs.Guess.{plain-none}
 use Rattle.formulas.specs.Sums.{sumTo}
-use Rattle.formulas.specs.Levels.{parametersIn, amountsIn}
+use Rattle.formulas.specs.Exact.{microDollars}
+use Rattle.formulas.specs.Levels.{parametersIn, amountsIn, totalEnergy, chargingCost}
 use Rattle.costs.specs.Intervals.{Summed}
 use Rattle.formulas.proofs.Sums.{sumTo-zeros, sum-more}
 
@@ -89,3 +91,16 @@ module _ {d ix : List ℕ} (h : Indexed d ix) (roomy : narrow ≤ length ix) whe
           cost-high = s .cost-high;
           energy-high = omega (arith, s .energy-high);
         }
+
+-- a dossier without CH and LC has no charging cost
+module _ (d ix : List ℕ) (h : Indexed d ix) (e : true ≡ plain d) where
+  no-energy : (n : ℕ) → chargeEnergy (parametersIn d) n ≡ 0
+  no-energy n = chargeEnergy-at (records d) n ∙ ap (number 12 4) (plain-none d ix h e CH n refl) ∙ number-nil 12 4
+
+  none-charged : totalEnergy (parametersIn d) ≡ 0
+  unfolding totalEnergy sumTo
+  none-charged = sumTo-zeros (chargeEnergy (parametersIn d)) 0 2016 (λ i _. no-energy (suc (0 + i)))
+
+  pub plain-uncharged : 0 ≡ microDollars (chargingCost (parametersIn d) (amountsIn d))
+  unfolding microDollars chargingCost
+  plain-uncharged = rw (eq-eqb (totalEnergy (parametersIn d)) 0 none-charged) (sym (lastCost-at (records d) ∙ ap (number 6 4) (plain-none d ix h e LC 0 refl) ∙ number-nil 6 4))

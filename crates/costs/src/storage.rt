@@ -115,8 +115,8 @@ fn intervals(d: &[u8], index: &[u16]) -> Charging
     sums
 }
 
-// The charging cost; where no energy was charged, the last one.
-fn charging_cost(d: &[u8], index: &[u16]) -> u64
+// The charging cost, through an index with the slots of CH and LC; where no energy was charged, the last one.
+fn charging_through(d: &[u8], index: &[u16]) -> u64
     requires { ⌜ Indexed (now d) (now index) × (narrow ≤ length (now index)) ⌝ }
     ensures { λ r. ⌜ (r ≡ microDollars (chargingCost (parametersIn (now (d .entry))) (amountsIn (now (d .entry))))) × (r ≤ 2000000000) ⌝ }
 {
@@ -128,9 +128,26 @@ fn charging_cost(d: &[u8], index: &[u16]) -> u64
     arithmetic::share(sum * 10000, c.energy)
 }
 
+// The charging cost. An index at hand without the slots of CH and LC is mostly one of a dossier without them, whose cost is 0; else another is
+// filled.
+fn charging_cost(d: &[u8], index: &[u16]) -> u64
+    requires { ⌜ Indexed (now d) (now index) ⌝ }
+    ensures { λ r. ⌜ (r ≡ microDollars (chargingCost (parametersIn (now (d .entry))) (amountsIn (now (d .entry))))) × (r ≤ 2000000000) ⌝ }
+{
+    if index::NARROW <= index.len() {
+        return charging_through(d, index);
+    }
+    if lookup::plain(d) {
+        return 0;
+    }
+    let mut full = [0u16; index::NARROW];
+    lookup::fill(d, &mut full);
+    charging_through(d, &full)
+}
+
 // The short-run cost.
 fn short_run_cost(d: &[u8], index: &[u16], p: usize) -> u64
-    requires { ⌜ Indexed (now d) (now index) × (narrow ≤ length (now index)) × (1 ≤ p) × (p ≤ 4) ⌝ }
+    requires { ⌜ Indexed (now d) (now index) × (1 ≤ p) × (p ≤ 4) ⌝ }
     ensures { λ r. ⌜ r ≡ microDollars (shortRunCost (parametersIn (now (d .entry))) (amountsIn (now (d .entry))) p) ⌝ }
 {
     let charge = charging_cost(d, index) + parameters::fuel(d, index, p);
@@ -140,7 +157,7 @@ fn short_run_cost(d: &[u8], index: &[u16], p: usize) -> u64
 
 // The prices of hours 1 to the window, into the last places of an array, hour 1 the very last.
 fn prices(d: &[u8], index: &[u16], window: usize, prices: &mut [u32])
-    requires { ⌜ Indexed (now d) (now index) × (narrow ≤ length (now index)) × (window ≤ 168) × (length (now prices) ≡ 168) ⌝ }
+    requires { ⌜ Indexed (now d) (now index) × (window ≤ 168) × (length (now prices) ≡ 168) ⌝ }
     ensures { λ r. ⌜ drop (168 - window) (now (prices .exit)) ≡ listTo window (hourPrice (amountsIn (now (d .entry)))) ⌝ }
 {
     let mut n = 0;
@@ -152,7 +169,7 @@ fn prices(d: &[u8], index: &[u16], window: usize, prices: &mut [u32])
 
 // The sum of the highest prices of the window.
 fn highest_sum(d: &[u8], index: &[u16], hours: usize, window: usize) -> u64
-    requires { ⌜ Indexed (now d) (now index) × (narrow ≤ length (now index)) × (window ≤ 168) × (hours ≤ window) ⌝ }
+    requires { ⌜ Indexed (now d) (now index) × (window ≤ 168) × (hours ≤ window) ⌝ }
     ensures { λ r. ⌜ (r ≡ sumHighest hours (listTo window (hourPrice (amountsIn (now (d .entry)))))) × (r ≤ 336 * 4294967295) ⌝ }
 {
     let mut table = [0u32; 168];
@@ -163,7 +180,7 @@ fn highest_sum(d: &[u8], index: &[u16], hours: usize, window: usize) -> u64
 
 // The opportunity cost.
 fn opportunity_cost(d: &[u8], index: &[u16]) -> u64
-    requires { ⌜ Indexed (now d) (now index) × (narrow ≤ length (now index)) × (fullHours (parametersIn (now d)) ≤ window (parametersIn (now d))) × (window (parametersIn (now d)) ≤ 168) ⌝ }
+    requires { ⌜ Indexed (now d) (now index) × (fullHours (parametersIn (now d)) ≤ window (parametersIn (now d))) × (window (parametersIn (now d)) ≤ 168) ⌝ }
     ensures { λ r. ⌜ r ≡ microDollars (opportunityCost (parametersIn (now (d .entry))) (amountsIn (now (d .entry)))) ⌝ }
 {
     let hours = support::full_hours(d, index) as u64;
@@ -176,22 +193,9 @@ fn opportunity_cost(d: &[u8], index: &[u16]) -> u64
 }
 
 // The greater is taken.
-fn energy_through(d: &[u8], index: &[u16], p: usize) -> u64
-    requires { ⌜ Indexed (now d) (now index) × (narrow ≤ length (now index)) × (1 ≤ p) × (p ≤ 4) × (fullHours (parametersIn (now d)) ≤ window (parametersIn (now d))) × (window (parametersIn (now d)) ≤ 168) ⌝ }
-    ensures { λ r. ⌜ r ≡ microDollars (storageEnergy (parametersIn (now (d .entry))) (amountsIn (now (d .entry))) p) ⌝ }
-{
-    arithmetic::greater(short_run_cost(d, index, p), opportunity_cost(d, index))
-}
-
-// The same; the index at hand may have no slots for HR, CH and LC, and is then filled anew.
 pub fn storage_energy(d: &[u8], index: &[u16], p: usize) -> u64
     requires { ⌜ Indexed (now d) (now index) × (1 ≤ p) × (p ≤ 4) × (fullHours (parametersIn (now d)) ≤ window (parametersIn (now d))) × (window (parametersIn (now d)) ≤ 168) ⌝ }
     ensures { λ r. ⌜ r ≡ microDollars (storageEnergy (parametersIn (now (d .entry))) (amountsIn (now (d .entry))) p) ⌝ }
 {
-    if index.len() < index::NARROW {
-        let mut full = [0u16; index::NARROW];
-        lookup::fill(d, &mut full);
-        return energy_through(d, &full, p);
-    }
-    energy_through(d, index, p)
+    arithmetic::greater(short_run_cost(d, index, p), opportunity_cost(d, index))
 }

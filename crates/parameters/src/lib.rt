@@ -108,7 +108,7 @@ pub fn last_cost(d: &[u8], index: &[u16]) -> u64
 
 // Plus 2^31, as prices are held.
 pub fn hour_price(d: &[u8], index: &[u16], n: usize) -> u32
-    requires { ⌜ Indexed (now d) (now index) × (narrow ≤ length (now index)) × (1 ≤ n) × (n ≤ 168) ⌝ }
+    requires { ⌜ Indexed (now d) (now index) × (1 ≤ n) × (n ≤ 168) ⌝ }
     ensures { λ r. ⌜ r ≡ hourPrice (amountsIn (now (d .entry))) n ⌝ }
 {
     arithmetic::biased(fields::u32_at(lookup::hr(d, index, n), 7))

@@ -1,59 +1,47 @@
-use borrow.Author.Needs.{needs}
-use borrow.Author.Tests.{eq-eqb, ne-eqb}
-use mathlib.Core.Path.{ap, ap₂, sym, _∙_}
-use Prim.Native.Nat.{ℕ, _*_, _-_}
+use mathlib.Core.Path.{sym, _∙_}
 use native.Mathlib.Omega.{arith}
-use Rattle.formulas.specs.Exact.{quotient, microDollars}
-use Rattle.formulas.specs.Levels.{totalEnergy, chargingSum, chargingCost}
-use Rattle.formulas.proofs.Rounding.{quotient-le}
+use Rattle.costs.proofs.Intervals.{plain-uncharged}
+use borrow.Author.Needs.{needs}
 use Rattle.costs.proofs.storage.charging_cost.Statement.{statement}
 use Rattle.costs.proofs.storage.charging_cost.Tie as tie
 
-intervals-requires : tie.Need-intervals-requires
-intervals-requires c κs = search needs
-
-last-cost-requires : tie.Need-last-cost-requires
-last-cost-requires c κs = search needs
+charging-through-requires : tie.Need-charging-through-requires
+charging-through-requires c κs = search needs
 
 returns : tie.Need-returns
-unfolding microDollars chargingCost
-returns c =
-    let e = c .before .before .before .intervals .ensures in
-    (rw (eq-eqb (totalEnergy _) 0 (sym (e .1) ∙ c .before .if1 .taken)) (c .last-cost .ensures .0), c .last-cost .ensures .1)
+returns c = search needs
 
-mul-less : tie.Need-mul-less
-mul-less c = omega arith
-
-less-requires : tie.Need-less-requires
-less-requires c κs = search needs
-
-mul-share : tie.Need-mul-share
-mul-share c = omega (arith, c .less .ensures)
-
-share-requires : tie.Need-share-requires
-share-requires c κs = search needs
+plain-requires : tie.Need-plain-requires
+plain-requires c κs = search needs
 
 returns-2 : tie.Need-returns-2
-unfolding microDollars chargingCost chargingSum
-returns-2 c =
-    let c1 = c .before .before .before in
-    let e = c1 .before .before .intervals .ensures in
-    let x = c .before .less .result in
-    let y = c1 .before .before .intervals .result .energy in (
-      rw (ne-eqb (totalEnergy _) 0 (λ z. c1 .if1 .left (e .1 ∙ z)))
-          (c .share .ensures .0 ∙ ap₂ quotient (ap (λ (z : ℕ). z * 10000) (c .before .less .ensures ∙ ap₂ (λ (a b : ℕ). a - 2147483648 * b) (e .0) (e .1))) (e .1)),
-      omega (arith, c .share .ensures .0, quotient-le (x * 10000) y 2000000000 (omega (arith, c .before .less .ensures))),
-    )
+returns-2 c = (plain-uncharged _ _ (c .before .before .before .before .before .pre) (sym (c .if2 .taken) ∙ c .before .plain .ensures), omega arith)
+
+slice-aggregate-fill : tie.Need-slice-aggregate-fill
+slice-aggregate-fill c = search needs
+
+fill-requires : tie.Need-fill-requires
+fill-requires c κs = search needs
+
+slice-aggregate-charging-through : tie.Need-slice-aggregate-charging-through
+slice-aggregate-charging-through c = search needs
+
+charging-through-requires-2 : tie.Need-charging-through-requires-2
+charging-through-requires-2 c κs = search needs
+
+returns-3 : tie.Need-returns-3
+returns-3 c = search needs
 
 pub charging-cost-spec : {M : Type 1} → statement M
 charging-cost-spec =
     tie.close
     (tie.spec
-    intervals-requires
-    last-cost-requires
+    charging-through-requires
     returns
-    mul-less
-    less-requires
-    mul-share
-    share-requires
-    returns-2)
+    plain-requires
+    returns-2
+    slice-aggregate-fill
+    fill-requires
+    slice-aggregate-charging-through
+    charging-through-requires-2
+    returns-3)

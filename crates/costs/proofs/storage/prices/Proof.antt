@@ -17,7 +17,7 @@ abbrev μ-loop : tie.MeasureT-loop
 μ-loop d index window prices₀ n₀ prices n = window - n
 
 loop-holds : tie.Need-loop-holds Inv-loop μ-loop
-loop-holds c = (search needs, search needs, prices-none 168 _ (c .before .before .before .args .prices .now) (c .before .before .before .pre .3))
+loop-holds c = (search needs, search needs, prices-none 168 _ (c .before .before .before .args .prices .now) (c .before .before .before .pre .2))
 
 add-hour-price : tie.Need-add-hour-price Inv-loop μ-loop
 add-hour-price c = omega arith
