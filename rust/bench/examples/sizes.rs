@@ -9,10 +9,10 @@
 //! station has no single price to test. The status is 1 if an answer differs, and 2 if an argument
 //! is wrong.
 //!
-//! --write leaves each dossier in the folder, behind its hour, condition and offer, as anchor/ratio
-//! reads them, which is kept beside this repository and takes the inputs that lie beside it. From
-//! the root of the repository, this times them beside the fastest unproved C, but for those that
-//! the C doesn't know:
+//! --write leaves each dossier in the folder, and with them the smallest of each technology and some
+//! that are refused, behind hour, condition and offer, as anchor/ratio reads them, which is kept
+//! beside this repository and takes the inputs that lie beside it. From the root of the repository,
+//! this times them beside the fastest unproved C, but for those that the C doesn't know:
 //!
 //!     mkdir -p target/anchor
 //!     cp ../shared/anchor/ratio ../shared/anchor/*.c target/anchor
@@ -26,6 +26,7 @@ mod times;
 
 use calls::{status, Input, CONDITION, HOUR, NAMES};
 use model::make::sized::sized;
+use model::make::small::{least, refused, small};
 use model::table::{Technology, TECHNOLOGIES};
 use std::fs;
 use std::process::ExitCode;
@@ -53,6 +54,22 @@ fn write(folder: &str, name: &str, input: &Input) -> Result<(), String> {
     let path = format!("{folder}/{name}");
     let written = fs::create_dir_all(folder).and_then(|()| fs::write(&path, bytes));
     written.map_err(|fault| format!("{path}: {fault}"))
+}
+
+/// Writes the smallest dossiers, and some that are refused.
+fn write_small(folder: &str) -> Result<(), String> {
+    for technology in TECHNOLOGIES {
+        for (name, dossier) in small(technology) {
+            let name = format!("{technology:?}-{name}").to_lowercase();
+            write(folder, &name, &Input::of(dossier))?;
+        }
+    }
+    let mut input = Input::of(least(Technology::Thermal));
+    for (name, dossier) in refused() {
+        input.dossier = dossier;
+        write(folder, &format!("refused-{name}"), &input)?;
+    }
+    Ok(())
 }
 
 /// Prints the table of a technology; whether all answers are the same.
@@ -91,6 +108,9 @@ fn growth(rounds: usize, shortest: &Input, longest: &Input) -> String {
 fn run(words: &[&str]) -> Result<bool, String> {
     let (rounds, folder) = arguments(words)?;
     let mut all_same = true;
+    if let Some(folder) = folder {
+        write_small(folder)?;
+    }
     for technology in TECHNOLOGIES {
         all_same &= table(technology, rounds, folder)?;
     }

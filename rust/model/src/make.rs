@@ -11,6 +11,7 @@ mod incomplete;
 pub mod nearest;
 pub mod offers;
 pub mod sized;
+pub mod small;
 pub mod sound;
 mod stations;
 mod unfit;

@@ -11,7 +11,7 @@ use crate::table::{Role, Technology};
 /// Issues of a key, and more where the station has too few keys to fill the length.
 const ISSUES: usize = 3;
 
-const CAPACITY: i128 = 1_000;
+pub(super) const CAPACITY: i128 = 1_000;
 
 /// A dossier of this length or a few bytes less; 1,000 are enough for each technology.
 pub fn sized(technology: Technology, length: usize) -> Vec<u8> {
@@ -62,7 +62,7 @@ fn reissued(random: &mut Random, key: &[u8], issue: u32) -> Vec<u8> {
 /// A record for each key: those that the station needs, and of the others as many as leave room for
 /// the issues. A key's rank is the part of its mark that lies before it, so that there is as large a
 /// part of each mark.
-fn keys(technology: Technology, length: usize) -> Vec<Vec<u8>> {
+pub(super) fn keys(technology: Technology, length: usize) -> Vec<Vec<u8>> {
     let mut keys = needed(technology, window(technology, length));
     let taken: usize = keys.iter().map(Vec::len).sum();
     let mut left = (length / ISSUES).saturating_sub(taken);
@@ -100,7 +100,7 @@ fn needed(technology: Technology, window: i128) -> Vec<Vec<u8>> {
 }
 
 /// The RS, and its curve, its prices or its forecast. A battery's charge lasts 4 hours.
-fn station(technology: Technology, window: i128) -> Vec<Vec<u8>> {
+pub(super) fn station(technology: Technology, window: i128) -> Vec<Vec<u8>> {
     let used = match technology {
         Technology::Thermal => [1_000, 500_000, 100_000, 0, 0, 0, 0],
         Technology::Nuclear => [1_000, 0, 0, 1_000, 0, 0, 0],
@@ -132,7 +132,7 @@ fn price(key: i128) -> i128 {
     100 * (37 * key % 80) - 500
 }
 
-fn fuel(technology: Technology, profile: i128) -> Vec<u8> {
+pub(super) fn fuel(technology: Technology, profile: i128) -> Vec<u8> {
     let mut fuel = record(b"FU", 1, &[profile, 4_000_000, 1_000_000]);
     for price in technology.unpriced() {
         price.write(&mut fuel, 0);
