@@ -9,7 +9,8 @@ ghost use Rattle.station.specs.Parameters.{technology, window};
 ghost use Rattle.lookup.specs.Parts.{Indexed, Empty};
 ghost use Rattle.rules.specs.Curve.{fullHours};
 ghost use Rattle.rules.specs.Answer.{IsAccepted};
-ghost use Rattle.formulas.specs.Levels.{parametersIn, amountsIn, profile, linesOf, levels};
+ghost use Rattle.formulas.specs.Exact.{microDollars};
+ghost use Rattle.formulas.specs.Levels.{parametersIn, amountsIn, profile, hydroEnergy, linesOf, levels};
 ghost use Rattle.reference.specs.Packed.{padded, hourLevels, packed, noLevels, levelsAnswer};
 use arithmetic::Money;
 use records::Answer;
@@ -111,11 +112,11 @@ fn storage_levels(d: &[u8], index: &[u16], p: usize) -> HourLevels
     )
 }
 
-fn hydro_levels(d: &[u8], index: &[u16], p: usize) -> HourLevels
-    requires { ⌜ Indexed (now d) (now index) × (1 ≤ p) × (p ≤ 4) × (technology (parametersIn (now d)) ≡ 4) × (50 ≤ window (parametersIn (now d))) ⌝ }
+fn hydro_levels(d: &[u8], index: &[u16], p: usize, sum: u64) -> HourLevels
+    requires { ⌜ Indexed (now d) (now index) × (1 ≤ p) × (p ≤ 4) × (technology (parametersIn (now d)) ≡ 4) × (sum ≡ microDollars (hydroEnergy (parametersIn (now d)) (amountsIn (now d)) p)) ⌝ }
     ensures { λ r. ⌜ r ≡ packed (technology (parametersIn (now (d .entry)))) p (linesOf (parametersIn (now (d .entry))) (amountsIn (now (d .entry))) p) ⌝ }
 {
-    let energy = Money::from_sum(costs::hydro::hydro_energy(d, index, p));
+    let energy = Money::from_sum(sum);
     let reserve = Money::from_sum(costs::maintenance::adders(d, index, p, 4));
     one_lamination(
         4,
@@ -142,16 +143,18 @@ pub fn hour_levels(d: &[u8], index: &[u16], hour: u32) -> HourLevels
     if technology == 3 {
         return storage_levels(d, index, p);
     }
-    hydro_levels(d, index, p)
+    hydro_levels(d, index, p, costs::hydro::hydro_energy(d, index, p))
 }
 
-// The same, for the test of a single price. `hydro_levels`, called from two functions, keeps a frame of its own, and its tables cost nothing where it isn't called.
+// The same, for the test of a single price. `hydro_energy`, called from two functions, keeps a frame of its own, and its tables cost nothing where it
+// isn't called; it hands over a number, since levels from another frame would be copied here.
 pub fn tested_levels(d: &[u8], index: &[u16], hour: u32) -> HourLevels
     requires { ⌜ IsAccepted (now d) × Indexed (now d) (now index) ⌝ }
     ensures { λ r. ⌜ r ≡ packed (technology (parametersIn (now (d .entry)))) (profile (parametersIn (now (d .entry))) hour) (levels (now (d .entry)) hour) ⌝ }
 {
     if parameters::technology(d, index) == 4 {
-        return hydro_levels(d, index, profile::profile(d, index, hour));
+        let p = profile::profile(d, index, hour);
+        return hydro_levels(d, index, p, costs::hydro::hydro_energy(d, index, p));
     }
     hour_levels(d, index, hour)
 }

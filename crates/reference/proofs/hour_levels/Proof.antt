@@ -10,6 +10,13 @@ use Rattle.reference.proofs.Packed.{levels-packed}
 use Rattle.reference.proofs.hour_levels.Statement.{statement}
 use Rattle.reference.proofs.hour_levels.Tie as tie
 
+-- the station is of no other technology
+is-hydro : (c : tie.Else3) → technology (parameters (records (c .before .before .before .before .before .before .before .args .d .now))) ≡ 4
+is-hydro c =
+    let t = c .before .before .before in
+    let a = t .before .before .before .before in
+    omega (arith, technology-low (accepted-sound (a .args .d .now) (a .pre .0) .1), t .technology .ensures .0, t .technology .ensures .1, c .if3 .left, c .before .if2 .left, c .before .before .if1 .left)
+
 profile-requires : tie.Need-profile-requires
 profile-requires c κs = search needs
 
@@ -46,17 +53,18 @@ storage-levels-requires c κs =
 returns-3 : tie.Need-returns-3
 returns-3 c = levels-packed _ _ (c .before .before .before .before .before .profile .ensures .0) (c .storage-levels .ensures)
 
+hydro-energy-requires : tie.Need-hydro-energy-requires
+hydro-energy-requires c κs =
+    let a = c .before .before .before .before .before .before .before in
+    (a .pre .1, c .before .before .before .before .profile .ensures .1, c .before .before .before .before .profile .ensures .2, places-fit (accepted-sound (a .args .d .now) (a .pre .0) .1) (is-hydro c))
+
 hydro-levels-requires : tie.Need-hydro-levels-requires
 hydro-levels-requires c κs =
-    let t = c .before .before .before in
-    let p = t .before in
-    let a = p .before .before .before in
-    let s = accepted-sound (a .args .d .now) (a .pre .0) .1 in
-    let e : technology (parameters (records (a .args .d .now))) ≡ 4 = omega (arith, technology-low s, t .technology .ensures .0, t .technology .ensures .1, c .if3 .left, c .before .if2 .left, c .before .before .if1 .left) in
-    (a .pre .1, p .profile .ensures .1, p .profile .ensures .2, e, places-fit s e)
+    let p = c .before .before .before .before .before in
+    (p .before .before .before .pre .1, p .profile .ensures .1, p .profile .ensures .2, is-hydro (c .before), c .hydro-energy .ensures)
 
 returns-4 : tie.Need-returns-4
-returns-4 c = levels-packed _ _ (c .before .before .before .before .before .profile .ensures .0) (c .hydro-levels .ensures)
+returns-4 c = levels-packed _ _ (c .before .before .before .before .before .before .profile .ensures .0) (c .hydro-levels .ensures)
 
 pub hour-levels-spec : {M : Type 1} → statement M
 hour-levels-spec =
@@ -70,5 +78,6 @@ hour-levels-spec =
     returns-2
     storage-levels-requires
     returns-3
+    hydro-energy-requires
     hydro-levels-requires
     returns-4)

@@ -5,9 +5,6 @@ use Rattle.reference.proofs.Packed.{hydro-packed}
 use Rattle.reference.proofs.hydro_levels.Statement.{statement}
 use Rattle.reference.proofs.hydro_levels.Tie as tie
 
-hydro-energy-requires : tie.Need-hydro-energy-requires
-hydro-energy-requires c κs = search needs
-
 from-sum-requires : tie.Need-from-sum-requires
 from-sum-requires c κs = search needs
 
@@ -26,15 +23,14 @@ one-lamination-requires c κs = search needs
 returns : tie.Need-returns
 returns c =
     let a = c .before .before .before in
-    let e = a .before .before in
-    hydro-packed _ _ _ (e .before .before .before .pre .3) (c .before .capacity .ensures .0) (a .before .from-sum .ensures ∙ ap cents (e .hydro-energy .ensures))
+    let p = a .before .before .before .before .pre in
+    hydro-packed _ _ _ (p .3) (c .before .capacity .ensures .0) (a .before .from-sum .ensures ∙ ap cents (p .4))
     (c .before .before .from-sum2 .ensures ∙ ap cents (a .adders .ensures .0)) (c .one-lamination .ensures)
 
 pub hydro-levels-spec : {M : Type 1} → statement M
 hydro-levels-spec =
     tie.close
     (tie.spec
-    hydro-energy-requires
     from-sum-requires
     adders-requires
     from-sum-requires-2

@@ -14,14 +14,19 @@ technology-requires c κs = search needs
 profile-requires : tie.Need-profile-requires
 profile-requires c κs = search needs
 
-hydro-levels-requires : tie.Need-hydro-levels-requires
-hydro-levels-requires c κs =
+hydro-energy-requires : tie.Need-hydro-energy-requires
+hydro-energy-requires c κs =
     let a = c .before .before .before .before .before in
     let e : technology (parameters (records (a .args .d .now))) ≡ 4 = sym (c .before .before .technology .ensures .0) ∙ c .before .if1 .taken in
-    (a .pre .1, c .profile .ensures .1, c .profile .ensures .2, e, places-fit (accepted-sound (a .args .d .now) (a .pre .0) .1) e)
+    (a .pre .1, c .profile .ensures .1, c .profile .ensures .2, places-fit (accepted-sound (a .args .d .now) (a .pre .0) .1) e)
+
+hydro-levels-requires : tie.Need-hydro-levels-requires
+hydro-levels-requires c κs =
+    let p = c .before in
+    (p .before .before .before .before .before .pre .1, p .profile .ensures .1, p .profile .ensures .2, sym (p .before .before .technology .ensures .0) ∙ p .before .if1 .taken, c .hydro-energy .ensures)
 
 returns : tie.Need-returns
-returns c = levels-packed _ _ (c .before .profile .ensures .0) (c .hydro-levels .ensures)
+returns c = levels-packed _ _ (c .before .before .profile .ensures .0) (c .hydro-levels .ensures)
 
 hour-levels-requires : tie.Need-hour-levels-requires
 hour-levels-requires c κs = search needs
@@ -35,6 +40,7 @@ tested-levels-spec =
     (tie.spec
     technology-requires
     profile-requires
+    hydro-energy-requires
     hydro-levels-requires
     returns
     hour-levels-requires
