@@ -72,6 +72,9 @@ fn thermal_levels(d: &[u8], index: &[u16], p: usize) -> HourLevels
     let to = [0u64; 20];
     let cents = [0u64; 20];
     let count = costs::thermal::lamination_count(d, index);
+    let start = Money::from_sum(costs::thermal::start_cost(d, index, p));
+    let noload = Money::from_sum(costs::thermal::no_load_cost(d, index, p));
+    let reserve = Money::from_sum(costs::maintenance::adders(d, index, p, 4));
     let bare = HourLevels {
         technology: 1,
         profile: p,
@@ -79,19 +82,11 @@ fn thermal_levels(d: &[u8], index: &[u16], p: usize) -> HourLevels
         from,
         to,
         cents,
-        start: 0,
-        noload: 0,
-        reserve: 0,
+        start: start.cents,
+        noload: noload.cents,
+        reserve: reserve.cents,
     };
-    // the laminations first: what was just written can't be copied as quickly
-    let mut levels = laminations::laminations(d, index, p, bare);
-    let start = Money::from_sum(costs::thermal::start_cost(d, index, p));
-    let noload = Money::from_sum(costs::thermal::no_load_cost(d, index, p));
-    let reserve = Money::from_sum(costs::maintenance::adders(d, index, p, 4));
-    levels.start = start.cents;
-    levels.noload = noload.cents;
-    levels.reserve = reserve.cents;
-    levels
+    laminations::laminations(d, index, p, bare)
 }
 
 fn nuclear_levels(d: &[u8], index: &[u16], p: usize) -> HourLevels

@@ -1,17 +1,12 @@
+use borrow.Author.Needs.{needs}
 use mathlib.Core.Path.{ap, _∙_}
 use Rattle.formulas.specs.Exact.{cents}
-use Rattle.reference.specs.declared.HourLevels.{HourLevels}
-use Rattle.reference.specs.Packed.{hourLevels}
 use Rattle.reference.proofs.Packed.{thermal-packed}
-use borrow.Author.Needs.{needs}
 use Rattle.reference.proofs.thermal_levels.Statement.{statement}
 use Rattle.reference.proofs.thermal_levels.Tie as tie
 
 lamination-count-requires : tie.Need-lamination-count-requires
 lamination-count-requires c κs = search needs
-
-laminations-requires : tie.Need-laminations-requires
-laminations-requires c κs = search needs
 
 start-cost-requires : tie.Need-start-cost-requires
 start-cost-requires c κs = search needs
@@ -31,28 +26,30 @@ adders-requires c κs = search needs
 from-sum-requires-3 : tie.Need-from-sum-requires-3
 from-sum-requires-3 c κs = search needs
 
+laminations-requires : tie.Need-laminations-requires
+laminations-requires c κs = search needs
+
 returns : tie.Need-returns
 returns c =
-    let x = c .before .before .before .before .from-sum in
-    let y = c .before .before .from-sum2 in
-    let z = c .from-sum3 in
-    let k = c .before .before .before .before .before .before .before in
+    let n = c .before .before .before .before in
+    let s = n .before .before in
+    let k = s .before in
     thermal-packed _ _ _ (k .before .before .before .pre .3) (k .lamination-count .ensures .0)
-    (x .ensures ∙ ap cents (c .before .before .before .before .before .start-cost .ensures))
-    (y .ensures ∙ ap cents (c .before .before .before .no-load-cost .ensures))
-    (z .ensures ∙ ap cents (c .before .adders .ensures .0))
-    (ap (λ (l : HourLevels). hourLevels (l .technology) (l .profile) (l .count) (l .from) (l .to) (l .cents) (x .result .cents) (y .result .cents) (z .result .cents)) (c .before .before .before .before .before .before .laminations .ensures))
+    (n .before .from-sum .ensures ∙ ap cents (s .start-cost .ensures))
+    (c .before .before .before .from-sum2 .ensures ∙ ap cents (n .no-load-cost .ensures))
+    (c .before .from-sum3 .ensures ∙ ap cents (c .before .before .adders .ensures .0))
+    (c .laminations .ensures)
 
 pub thermal-levels-spec : {M : Type 1} → statement M
 thermal-levels-spec =
     tie.close
     (tie.spec
     lamination-count-requires
-    laminations-requires
     start-cost-requires
     from-sum-requires
     no-load-cost-requires
     from-sum-requires-2
     adders-requires
     from-sum-requires-3
+    laminations-requires
     returns)
