@@ -33,6 +33,12 @@ padded-set (suc k) i [] h g = absurd (omega arith)
 padded-set (suc k) zero (x ∷ l) h g = refl
 padded-set (suc k) (suc i) (x ∷ l) h g = ap (λ (r : List ℕ). x ∷ r) (padded-set k i l (omega arith) (omega arith))
 
+pub padded-length : (k : ℕ) (l : List ℕ) → length (padded k l) ≡ k
+unfolding padded
+padded-length zero l = refl
+padded-length (suc k) [] = ap suc (padded-length k [])
+padded-length (suc k) (x ∷ l) = ap suc (padded-length k l)
+
 -- one more place
 pub row-more : (l a : List ℕ) (i x : ℕ) → i < 20 → i < length l → a ≡ padded 20 (take i l) → x ≡ getD l i 0 → set a i x ≡ padded 20 (take (i + 1) l)
 row-more l a i x h g e f = rw (e, f, add-one i) (padded-set 20 i l h g)
@@ -40,6 +46,9 @@ row-more l a i x h g e f = rw (e, f, add-one i) (padded-set 20 i l h g)
 -- all places
 pub row-ends : (l a : List ℕ) (i : ℕ) → length l ≤ i → a ≡ padded 20 (take i l) → a ≡ padded 20 l
 row-ends l a i h e = e ∙ ap (padded 20) (take-all i l h)
+
+pub row-length : (l a : List ℕ) (i : ℕ) → a ≡ padded 20 (take i l) → length a ≡ 20
+row-length l a i e = ap length e ∙ padded-length 20 (take i l)
 
 -- ---- the laminations one by one
 
@@ -92,12 +101,13 @@ packed-laminations s m t p n a b c =
 -- ---- by technology
 
 module _ (s : Parameters) (m : Amounts) (p : ℕ) where
-  pub thermal-packed : technology s ≡ 1 → {n x y z : ℕ} {r : HourLevels} → n ≡ points s - 1 → x ≡ cents (microDollars (startCost s m p)) → y ≡ cents (microDollars (noLoadCost s m p)) → z ≡ cents (microDollars (adders m p reserve))
-      → r ≡ hourLevels 1 p n (padded 20 (map (λ l. l .from) (laminations s m p 1 n []))) (padded 20 (map (λ l. l .to) (laminations s m p 1 n []))) (padded 20 (map (λ l. amount l) (laminations s m p 1 n []))) x y z
-      → r ≡ packed (technology s) p (linesOf s m p)
+  pub thermal-packed : technology s ≡ 1 → {t n x y z : ℕ} {a b c : List ℕ} → t ≡ 1 → n ≡ points s - 1
+      → a ≡ padded 20 (map (λ l. l .from) (laminations s m p 1 n [])) → b ≡ padded 20 (map (λ l. l .to) (laminations s m p 1 n [])) → c ≡ padded 20 (map (λ l. amount l) (laminations s m p 1 n []))
+      → x ≡ cents (microDollars (startCost s m p)) → y ≡ cents (microDollars (noLoadCost s m p)) → z ≡ cents (microDollars (adders m p reserve))
+      → hourLevels t p n a b c x y z ≡ packed (technology s) p (linesOf s m p)
   unfolding linesOf
-  thermal-packed e n x y z r =
-      rw (r, e, x, y, z, n) (sym (packed-laminations s m 1 p (points s - 1) (startCost s m p) (noLoadCost s m p) (adders m p reserve)))
+  thermal-packed e r n a b c x y z =
+      rw (e, r, a, b, c, x, y, z, n) (sym (packed-laminations s m 1 p (points s - 1) (startCost s m p) (noLoadCost s m p) (adders m p reserve)))
 
   pub nuclear-packed : technology s ≡ 2 → {w x : ℕ} {r : HourLevels} → w ≡ capacity s → x ≡ cents (microDollars (nuclearEnergy s m p))
       → r ≡ hourLevels 2 p 1 (padded 20 (0 ∷ [])) (padded 20 (w ∷ [])) (padded 20 (x ∷ [])) 0 0 0 → r ≡ packed (technology s) p (linesOf s m p)

@@ -68,14 +68,15 @@ fn thermal_levels(d: &[u8], index: &[u16], p: usize) -> HourLevels
     requires { ⌜ Indexed (now d) (now index) × (1 ≤ p) × (p ≤ 4) × (technology (parametersIn (now d)) ≡ 1) ⌝ }
     ensures { λ r. ⌜ r ≡ packed (technology (parametersIn (now (d .entry)))) p (linesOf (parametersIn (now (d .entry))) (amountsIn (now (d .entry))) p) ⌝ }
 {
-    let from = [0u64; 20];
-    let to = [0u64; 20];
-    let cents = [0u64; 20];
+    let mut from = [0u64; 20];
+    let mut to = [0u64; 20];
+    let mut cents = [0u64; 20];
     let count = costs::thermal::lamination_count(d, index);
+    laminations::laminations(d, index, p, count, &mut from, &mut to, &mut cents);
     let start = Money::from_sum(costs::thermal::start_cost(d, index, p));
     let noload = Money::from_sum(costs::thermal::no_load_cost(d, index, p));
     let reserve = Money::from_sum(costs::maintenance::adders(d, index, p, 4));
-    let bare = HourLevels {
+    HourLevels {
         technology: 1,
         profile: p,
         count,
@@ -85,8 +86,7 @@ fn thermal_levels(d: &[u8], index: &[u16], p: usize) -> HourLevels
         start: start.cents,
         noload: noload.cents,
         reserve: reserve.cents,
-    };
-    laminations::laminations(d, index, p, bare)
+    }
 }
 
 fn nuclear_levels(d: &[u8], index: &[u16], p: usize) -> HourLevels

@@ -1,15 +1,14 @@
 use borrow.Author.Needs.{needs}
-use mathlib.Core.Path.{_≡_, refl, ap, ap₂, _∙_}
+use mathlib.Core.Path.{_≡_, ap, ap₂, _∙_}
 use mathlib.Core.List.{List, [], map}
 use Prim.Native.Nat.{ℕ, _+_, _-_, _≤_}
 use native.Mathlib.Omega.{arith}
-use lib.ListN.{take, set}
+use lib.ListN.{length, take, set}
 use Rattle.records.specs.Dossier.{records}
 use Rattle.station.specs.Parameters.{parameters, amounts, output}
 use Rattle.formulas.specs.Levels.{Line, amount, lamination, laminations}
-use Rattle.reference.specs.declared.HourLevels.{HourLevels}
-use Rattle.reference.specs.Packed.{padded, hourLevels}
-use Rattle.reference.proofs.Packed.{row-more, row-ends, laminations-length, lamination-at}
+use Rattle.reference.specs.Packed.{padded}
+use Rattle.reference.proofs.Packed.{row-more, row-ends, row-length, laminations-length, lamination-at}
 use Rattle.reference.proofs.laminations.laminations.Statement.{statement}
 use Rattle.reference.proofs.laminations.laminations.Tie as tie
 
@@ -17,17 +16,15 @@ use Rattle.reference.proofs.laminations.laminations.Tie as tie
 abbrev column : List ℕ → ℕ → ℕ → (Line → ℕ) → List ℕ
 column d p n g = map g (laminations (parameters (records d)) (amounts (records d)) p 1 n [])
 
--- some levels with other arrays
-abbrev with-arrays : HourLevels → List ℕ → List ℕ → List ℕ → HourLevels
-with-arrays r a b c = hourLevels (r .technology) (r .profile) (r .count) a b c (r .start) (r .noload) (r .reserve)
-
 abbrev Inv-loop : tie.InvT-loop
-Inv-loop d index p bare more levels₀ i₀ levels i =
-    (i ≤ bare .count)
-    × (levels ≡ with-arrays bare (padded 20 (take i (column d p (bare .count) (λ x. x .from)))) (padded 20 (take i (column d p (bare .count) (λ x. x .to)))) (padded 20 (take i (column d p (bare .count) (λ x. amount x)))))
+Inv-loop d index p n from₀ to₀ cents₀ more i₀ from to cents i =
+    (i ≤ n)
+    × (from ≡ padded 20 (take i (column d p n (λ x. x .from))))
+    × (to ≡ padded 20 (take i (column d p n (λ x. x .to))))
+    × (cents ≡ padded 20 (take i (column d p n (λ x. amount x))))
 
 abbrev μ-loop : tie.MeasureT-loop
-μ-loop d index p bare more levels₀ i₀ levels i = bare .count - i
+μ-loop d index p n from₀ to₀ cents₀ more i₀ from to cents i = n - i
 
 adders-requires : tie.Need-adders-requires Inv-loop μ-loop
 adders-requires c κs = search needs
@@ -41,9 +38,30 @@ add-more c = omega arith
 loop-holds : tie.Need-loop-holds Inv-loop μ-loop
 unfolding padded
 loop-holds c =
-    let a = c .before .before .before .before in
-    let h = a .pre in
-    (omega arith, λ k. with-arrays (a .args .bare) (h .4 k) (h .5 k) (h .6 k))
+    let h = c .before .before .before .before .before .before .before .pre in
+    (search needs, h .4, h .5, h .6)
+
+abbrev At : Type 0
+At = tie.At-loop Inv-loop μ-loop
+
+-- what the loop was given
+abbrev d-of : At → List ℕ
+d-of c = c .before .before .before .before .before .before .before .before .args .d .now
+
+abbrev p-of : At → ℕ
+p-of c = c .before .before .before .before .before .before .before .before .args .p
+
+abbrev n-of : At → ℕ
+n-of c = c .before .before .before .before .before .before .before .before .args .n
+
+from-long : (c : At) → length (c .loop .from) ≡ 20
+from-long c = row-length (column (d-of c) (p-of c) (n-of c) (λ x. x .from)) _ (c .loop .i) (c .loop .inv .1)
+
+to-long : (c : At) → length (c .loop .to) ≡ 20
+to-long c = row-length (column (d-of c) (p-of c) (n-of c) (λ x. x .to)) _ (c .loop .i) (c .loop .inv .2)
+
+cents-long : (c : At) → length (c .loop .cents) ≡ 20
+cents-long c = row-length (column (d-of c) (p-of c) (n-of c) (λ x. amount x)) _ (c .loop .i) (c .loop .inv .3)
 
 add-bottom : tie.Need-add-bottom Inv-loop μ-loop
 add-bottom c = omega arith
@@ -51,11 +69,11 @@ add-bottom c = omega arith
 bottom-requires : tie.Need-bottom-requires Inv-loop μ-loop
 bottom-requires c κs = search needs
 
-mul-levels : tie.Need-mul-levels Inv-loop μ-loop
-mul-levels c = omega arith
+mul-from : tie.Need-mul-from Inv-loop μ-loop
+mul-from c = omega arith
 
-element-write-levels : tie.Need-element-write-levels Inv-loop μ-loop
-element-write-levels c = omega arith
+slice-write-from : tie.Need-slice-write-from Inv-loop μ-loop
+slice-write-from c = omega (arith, from-long (c .before .before))
 
 add-output : tie.Need-add-output Inv-loop μ-loop
 add-output c = omega arith
@@ -63,26 +81,26 @@ add-output c = omega arith
 output-requires : tie.Need-output-requires Inv-loop μ-loop
 output-requires c κs = search needs
 
-mul-levels-2 : tie.Need-mul-levels-2 Inv-loop μ-loop
-mul-levels-2 c = omega arith
+mul-to : tie.Need-mul-to Inv-loop μ-loop
+mul-to c = omega arith
 
-element-write-levels-2 : tie.Need-element-write-levels-2 Inv-loop μ-loop
-element-write-levels-2 c = omega arith
+slice-write-to : tie.Need-slice-write-to Inv-loop μ-loop
+slice-write-to c = omega (arith, to-long (c .before .before .before))
 
 add-lamination : tie.Need-add-lamination Inv-loop μ-loop
 add-lamination c = omega arith
 
 lamination-requires : tie.Need-lamination-requires Inv-loop μ-loop
 lamination-requires c κs =
-    let m = c .before .before .before .before .before in
-    let h = m .before .before .before .before .pre in
+    let m = c .before .before .before .before in
+    let h = m .before .before .before .before .before .before .before .pre in
     (h .0, h .1, h .2, omega arith, omega arith, ap₂ (λ (x y : ℕ). x + y) (m .before .adders .ensures .0) (m .maintenance .ensures .0), omega arith)
 
-mul-levels-3 : tie.Need-mul-levels-3 Inv-loop μ-loop
-mul-levels-3 c = omega arith
+mul-cents : tie.Need-mul-cents Inv-loop μ-loop
+mul-cents c = omega arith
 
-element-write-levels-3 : tie.Need-element-write-levels-3 Inv-loop μ-loop
-element-write-levels-3 c = omega arith
+slice-write-cents : tie.Need-slice-write-cents Inv-loop μ-loop
+slice-write-cents c = omega (arith, cents-long (c .before .before .before .before))
 
 add-i : tie.Need-add-i Inv-loop μ-loop
 add-i c = omega arith
@@ -91,42 +109,45 @@ loop-less : tie.Need-loop-less Inv-loop μ-loop
 loop-less c = omega arith
 
 -- what one turn writes to an array is the next number of its column
-turn : (d : List ℕ) (p n i : ℕ) (g : Line → ℕ) (x : ℕ) → n ≤ 20 → i + 1 ≤ n → x ≡ g (lamination (parameters (records d)) (amounts (records d)) p (i + 1))
-    → set (padded 20 (take i (column d p n g))) i x ≡ padded 20 (take (i + 1) (column d p n g))
-turn d p n i g x h k f =
-    row-more (column d p n g) _ i x (omega arith) (omega (arith, laminations-length (parameters (records d)) (amounts (records d)) p g 1 n)) refl
+turn : (d : List ℕ) (p n i : ℕ) (g : Line → ℕ) (a : List ℕ) (x : ℕ) → n ≤ 20 → i + 1 ≤ n → a ≡ padded 20 (take i (column d p n g)) → x ≡ g (lamination (parameters (records d)) (amounts (records d)) p (i + 1))
+    → set a i x ≡ padded 20 (take (i + 1) (column d p n g))
+turn d p n i g a x h k e f =
+    row-more (column d p n g) a i x (omega arith) (omega (arith, laminations-length (parameters (records d)) (amounts (records d)) p g 1 n)) e
     (f ∙ lamination-at (parameters (records d)) (amounts (records d)) p g 1 n i (i + 1) (omega arith) (omega arith))
-
--- and all else stays
-written : (r b : HourLevels) {x y z x′ y′ z′ : List ℕ} (i u v w : ℕ) → r ≡ with-arrays b x y z → set x i u ≡ x′ → set y i v ≡ y′ → set z i w ≡ z′ → with-arrays r (set (r .from) i u) (set (r .to) i v) (set (r .cents) i w) ≡ with-arrays b x′ y′ z′
-written r b i u v w e f g h = rw (e, f, g, h) refl
 
 loop-again : tie.Need-loop-again Inv-loop μ-loop
 loop-again c =
-    let l = c .before .before .before .before .before .loop in
-    let a = c .before .before .before .before .before .before .before .before .before .before in
-    let n = a .args .bare .count in
-    let d = a .args .d .now in (
+    let t = c .before .before .before .before in
+    let l = t .loop in
+    let h = t .before .before .before .before .before .before .before .before .pre in (
       omega arith,
-      written (l .levels) (a .args .bare) (l .i) _ _ _ (l .inv .1)
-          (turn d (a .args .p) n (l .i) (λ x. x .from) _ (a .pre .3) (omega arith) (c .before .before .bottom .ensures))
-          (turn d (a .args .p) n (l .i) (λ x. x .to) _ (a .pre .3) (omega arith) (c .before .output .ensures .0 ∙ ap (λ (j : ℕ). output (parameters (records d)) j) (omega arith)))
-          (turn d (a .args .p) n (l .i) (λ x. amount x) _ (a .pre .3) (omega arith) (c .lamination .ensures)),
+      turn (d-of t) (p-of t) (n-of t) (l .i) (λ x. x .from) (l .from) _ (h .3) (omega arith) (l .inv .1) (c .before .before .bottom .ensures),
+      turn (d-of t) (p-of t) (n-of t) (l .i) (λ x. x .to) (l .to) _ (h .3) (omega arith) (l .inv .2)
+          (c .before .output .ensures .0 ∙ ap (λ (j : ℕ). output (parameters (records (d-of t))) j) (omega arith)),
+      turn (d-of t) (p-of t) (n-of t) (l .i) (λ x. amount x) (l .cents) _ (h .3) (omega arith) (l .inv .3) (c .lamination .ensures),
     )
 
--- a column that is filled
-filled : (d : List ℕ) (p n i : ℕ) (g : Line → ℕ) → n ≤ i → padded 20 (take i (column d p n g)) ≡ padded 20 (column d p n g)
-filled d p n i g h = row-ends (column d p n g) _ i (omega (arith, laminations-length (parameters (records d)) (amounts (records d)) p g 1 n)) refl
+same-length : tie.Need-same-length Inv-loop μ-loop
+same-length c = omega (arith, from-long (c .before), ap length (c .before .before .before .before .before .before .before .before .before .pre .4))
 
-ends : (r b : HourLevels) {x y z x′ y′ z′ : List ℕ} → r ≡ with-arrays b x y z → x ≡ x′ → y ≡ y′ → z ≡ z′ → r ≡ with-arrays b x′ y′ z′
-ends r b e f g h = rw (← f, ← g, ← h) e
+same-length-2 : tie.Need-same-length-2 Inv-loop μ-loop
+same-length-2 c = omega (arith, to-long (c .before), ap length (c .before .before .before .before .before .before .before .before .before .pre .5))
+
+same-length-3 : tie.Need-same-length-3 Inv-loop μ-loop
+same-length-3 c = omega (arith, cents-long (c .before), ap length (c .before .before .before .before .before .before .before .before .before .pre .6))
+
+-- a column that is filled
+filled : (c : tie.After-loop Inv-loop μ-loop) (g : Line → ℕ) {a : List ℕ} → a ≡ padded 20 (take (c .before .loop .i) (column (d-of (c .before)) (p-of (c .before)) (n-of (c .before)) g))
+    → a ≡ padded 20 (column (d-of (c .before)) (p-of (c .before)) (n-of (c .before)) g)
+filled c g e =
+    let t = c .before in
+    row-ends (column (d-of t) (p-of t) (n-of t) g) _ (t .loop .i)
+    (omega (arith, laminations-length (parameters (records (d-of t))) (amounts (records (d-of t))) (p-of t) g 1 (n-of t), c .loop-test .left)) e
 
 returns : tie.Need-returns Inv-loop μ-loop
 returns c =
-    let l = c .before .before .loop in
-    let a = c .before .before .before .before .before .before .before in
-    let full = filled (a .args .d .now) (a .args .p) (a .args .bare .count) (l .i) in
-    ends _ (a .args .bare) (l .inv .1) (full (λ x. x .from) (c .if1 .left)) (full (λ x. x .to) (c .if1 .left)) (full (λ x. amount x) (c .if1 .left))
+    let h = c .before .loop .inv in
+    (filled c (λ x. x .from) (h .1), filled c (λ x. x .to) (h .2), filled c (λ x. amount x) (h .3))
 
 pub laminations-spec : {M : Type 1} → statement M
 laminations-spec =
@@ -140,17 +161,20 @@ laminations-spec =
     loop-holds
     add-bottom
     bottom-requires
-    mul-levels
-    element-write-levels
+    mul-from
+    slice-write-from
     add-output
     output-requires
-    mul-levels-2
-    element-write-levels-2
+    mul-to
+    slice-write-to
     add-lamination
     lamination-requires
-    mul-levels-3
-    element-write-levels-3
+    mul-cents
+    slice-write-cents
     add-i
     loop-less
     loop-again
+    same-length
+    same-length-2
+    same-length-3
     returns)
