@@ -5,12 +5,11 @@ mod profile;
 ghost use mathlib.Core.Path.{_≡_};
 ghost use mathlib.Core.List.{[], _∷_};
 ghost use Prim.Native.Nat.{_≤_};
-ghost use Rattle.station.specs.Parameters.{technology, window};
+ghost use Rattle.station.specs.Parameters.{technology};
 ghost use Rattle.lookup.specs.Parts.{Indexed, Empty};
-ghost use Rattle.rules.specs.Curve.{fullHours};
 ghost use Rattle.rules.specs.Answer.{IsAccepted};
 ghost use Rattle.formulas.specs.Exact.{microDollars};
-ghost use Rattle.formulas.specs.Levels.{parametersIn, amountsIn, profile, hydroEnergy, linesOf, levels};
+ghost use Rattle.formulas.specs.Levels.{parametersIn, amountsIn, profile, storageEnergy, hydroEnergy, linesOf, levels};
 ghost use Rattle.reference.specs.Packed.{padded, hourLevels, packed, noLevels, levelsAnswer};
 use arithmetic::Money;
 use records::Answer;
@@ -97,11 +96,11 @@ fn nuclear_levels(d: &[u8], index: &[u16], p: usize) -> HourLevels
     one_lamination(2, p, parameters::capacity(d, index), energy.cents, 0)
 }
 
-fn storage_levels(d: &[u8], index: &[u16], p: usize) -> HourLevels
-    requires { ⌜ Indexed (now d) (now index) × (1 ≤ p) × (p ≤ 4) × (technology (parametersIn (now d)) ≡ 3) × (fullHours (parametersIn (now d)) ≤ window (parametersIn (now d))) × (window (parametersIn (now d)) ≤ 168) ⌝ }
+fn storage_levels(d: &[u8], index: &[u16], p: usize, sum: u64) -> HourLevels
+    requires { ⌜ Indexed (now d) (now index) × (1 ≤ p) × (p ≤ 4) × (technology (parametersIn (now d)) ≡ 3) × (sum ≡ microDollars (storageEnergy (parametersIn (now d)) (amountsIn (now d)) p)) ⌝ }
     ensures { λ r. ⌜ r ≡ packed (technology (parametersIn (now (d .entry)))) p (linesOf (parametersIn (now (d .entry))) (amountsIn (now (d .entry))) p) ⌝ }
 {
-    let energy = Money::from_sum(costs::storage::storage_energy(d, index, p));
+    let energy = Money::from_sum(sum);
     let reserve = Money::from_sum(costs::maintenance::adders(d, index, p, 4));
     one_lamination(
         3,
@@ -141,18 +140,23 @@ pub fn hour_levels(d: &[u8], index: &[u16], hour: u32) -> HourLevels
         return nuclear_levels(d, index, p);
     }
     if technology == 3 {
-        return storage_levels(d, index, p);
+        return storage_levels(d, index, p, costs::storage::storage_energy(d, index, p));
     }
     hydro_levels(d, index, p, costs::hydro::hydro_energy(d, index, p))
 }
 
-// The same, for the test of a single price. `hydro_energy`, called from two functions, keeps a frame of its own, and its tables cost nothing where it
-// isn't called; it hands over a number, since levels from another frame would be copied here.
+// The same, for the test of a single price. `storage_energy` and `hydro_energy`, called from two functions, keep frames of their own, and their
+// tables cost nothing where they aren't called; they hand over a number, since levels from another frame would be copied here.
 pub fn tested_levels(d: &[u8], index: &[u16], hour: u32) -> HourLevels
     requires { ⌜ IsAccepted (now d) × Indexed (now d) (now index) ⌝ }
     ensures { λ r. ⌜ r ≡ packed (technology (parametersIn (now (d .entry)))) (profile (parametersIn (now (d .entry))) hour) (levels (now (d .entry)) hour) ⌝ }
 {
-    if parameters::technology(d, index) == 4 {
+    let technology = parameters::technology(d, index);
+    if technology == 3 {
+        let p = profile::profile(d, index, hour);
+        return storage_levels(d, index, p, costs::storage::storage_energy(d, index, p));
+    }
+    if technology == 4 {
         let p = profile::profile(d, index, hour);
         return hydro_levels(d, index, p, costs::hydro::hydro_energy(d, index, p));
     }

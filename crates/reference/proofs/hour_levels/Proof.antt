@@ -41,17 +41,22 @@ nuclear-levels-requires c κs =
 returns-2 : tie.Need-returns-2
 returns-2 c = levels-packed _ _ (c .before .before .before .before .profile .ensures .0) (c .nuclear-levels .ensures)
 
-storage-levels-requires : tie.Need-storage-levels-requires
-storage-levels-requires c κs =
+storage-energy-requires : tie.Need-storage-energy-requires
+storage-energy-requires c κs =
     let t = c .before .before .before in
     let p = t .before in
     let a = p .before .before .before in
-    let s = accepted-sound (a .args .d .now) (a .pre .0) .1 in
     let e : technology (parameters (records (a .args .d .now))) ≡ 3 = sym (t .technology .ensures .0) ∙ c .if3 .taken in
-    (a .pre .1, p .profile .ensures .1, p .profile .ensures .2, e, hours-fit s e, storage-window _ _ (a .pre .1) e)
+    (a .pre .1, p .profile .ensures .1, p .profile .ensures .2, hours-fit (accepted-sound (a .args .d .now) (a .pre .0) .1) e, storage-window _ _ (a .pre .1) e)
+
+storage-levels-requires : tie.Need-storage-levels-requires
+storage-levels-requires c κs =
+    let t = c .before .before .before .before in
+    let p = t .before in
+    (p .before .before .before .pre .1, p .profile .ensures .1, p .profile .ensures .2, sym (t .technology .ensures .0) ∙ c .before .if3 .taken, c .storage-energy .ensures)
 
 returns-3 : tie.Need-returns-3
-returns-3 c = levels-packed _ _ (c .before .before .before .before .before .profile .ensures .0) (c .storage-levels .ensures)
+returns-3 c = levels-packed _ _ (c .before .before .before .before .before .before .profile .ensures .0) (c .storage-levels .ensures)
 
 hydro-energy-requires : tie.Need-hydro-energy-requires
 hydro-energy-requires c κs =
@@ -76,6 +81,7 @@ hour-levels-spec =
     returns
     nuclear-levels-requires
     returns-2
+    storage-energy-requires
     storage-levels-requires
     returns-3
     hydro-energy-requires

@@ -5,9 +5,6 @@ use Rattle.reference.proofs.Packed.{storage-packed}
 use Rattle.reference.proofs.storage_levels.Statement.{statement}
 use Rattle.reference.proofs.storage_levels.Tie as tie
 
-storage-energy-requires : tie.Need-storage-energy-requires
-storage-energy-requires c κs = search needs
-
 from-sum-requires : tie.Need-from-sum-requires
 from-sum-requires c κs = search needs
 
@@ -26,15 +23,14 @@ one-lamination-requires c κs = search needs
 returns : tie.Need-returns
 returns c =
     let a = c .before .before .before in
-    let e = a .before .before in
-    storage-packed _ _ _ (e .before .before .before .pre .3) (c .before .capacity .ensures .0) (a .before .from-sum .ensures ∙ ap cents (e .storage-energy .ensures))
+    let p = a .before .before .before .before .pre in
+    storage-packed _ _ _ (p .3) (c .before .capacity .ensures .0) (a .before .from-sum .ensures ∙ ap cents (p .4))
     (c .before .before .from-sum2 .ensures ∙ ap cents (a .adders .ensures .0)) (c .one-lamination .ensures)
 
 pub storage-levels-spec : {M : Type 1} → statement M
 storage-levels-spec =
     tie.close
     (tie.spec
-    storage-energy-requires
     from-sum-requires
     adders-requires
     from-sum-requires-2
