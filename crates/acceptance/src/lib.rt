@@ -43,6 +43,7 @@ fn answer_in(d: &[u8], index: &mut [u16], top: usize) -> Answer
 }
 
 // The answer to a dossier with a record that the index at hand has no slot for: it is read once more, with as many slots as the highest wants.
+// No slot is above 6,350, the last of the widest index.
 fn judge_again(d: &[u8], top: usize) -> Answer
     requires { ⌜ (scan 0 (records (now d)) ≡ Accepted) × UpTo (now d) top ⌝ }
     ensures { λ r. ⌜ r ≡ answer (now (d .entry)) ⌝ }
@@ -104,7 +105,7 @@ fn accept_in(d: &[u8], index: &mut [u16]) -> Answer
     }
 }
 
-// The answer to a dossier. One that is too long needs no index; for a thermal or nuclear station a short one is likely enough, and sooner made.
+// The answer to a dossier. One that is too long needs no index; for a small one a short index is mostly enough, and sooner made.
 pub fn accept(d: &[u8]) -> Answer
     ensures { λ r. ⌜ r ≡ answer (now (d .entry)) ⌝ }
 {

@@ -82,7 +82,7 @@ fn energy_test_in(d: &[u8], index: &mut [u16], hour: u32, condition: u8, offer: 
     }
 }
 
-// The same. A dossier that is too long needs no index; for a thermal or nuclear station a short one is likely enough, and sooner made.
+// The same. A dossier that is too long needs no index; for a small one a short index is mostly enough, and sooner made.
 pub fn energy_test(d: &[u8], hour: u32, condition: u8, offer: &[u8]) -> Verdict
     ensures { λ r. ⌜ r ≡ onOffer (now (d .entry)) hour condition (now (offer .entry)) ⌝ }
 {
@@ -118,7 +118,7 @@ fn price_test_in(
     }
 }
 
-// The same. A dossier that is too long needs no index; for a thermal or nuclear station a short one is likely enough, and sooner made.
+// The same. A dossier that is too long needs no index; for a small one a short index is mostly enough, and sooner made.
 pub fn price_test(d: &[u8], hour: u32, level: u8, condition: u8, price: i32) -> Verdict
     ensures { λ r. ⌜ r ≡ onPrice (now (d .entry)) hour level condition price ⌝ }
 {

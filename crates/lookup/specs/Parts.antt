@@ -55,7 +55,7 @@ Empty ix = (short ≤ length ix) × (ix ≡ replicate (length ix) 0)
 unfoldable pub plain : List ℕ → Bool
 plain d = everyOf (λ r. not (eqb (mark r) CH || eqb (mark r) FP || eqb (mark r) LC)) (records d)
 
--- a short index is enough, or likely so, since the dossier begins with the RS of a thermal or nuclear station; nothing rests on it
+-- a dossier of up to 600 bytes for which a short index is enough, or likely so, since it begins with the RS of a thermal or nuclear station; nothing rests on it
 abbrev pub lean : List ℕ → Bool
 lean d = not (ltb 600 (length d)) && (begins d 82 83 && (eqb (number 6 1 d) thermal || eqb (number 6 1 d) nuclear) || plain d)
 

@@ -41,8 +41,8 @@ pub fn plain(d: &[u8]) -> bool
     true
 }
 
-// Whether a short index is enough, or likely so: the dossier begins with the RS of a thermal or nuclear station. A long dossier costs more to
-// look through than a longer index. Nothing rests on it.
+// Whether a short index is enough, or likely so, since the dossier begins with the RS of a thermal or nuclear station. To look through a long
+// dossier would cost more than a longer index does. Nothing rests on it.
 pub fn lean(d: &[u8]) -> bool
     ensures { λ r. ⌜ r ≡ lean (now (d .entry)) ⌝ }
 {

@@ -202,7 +202,7 @@ fn levels_in(d: &[u8], index: &mut [u16], hour: u32) -> LevelsAnswer
     }
 }
 
-// The same. A dossier that is too long needs no index; for a thermal or nuclear station a short one is likely enough, and sooner made.
+// The same. A dossier that is too long needs no index; for a small one a short index is mostly enough, and sooner made.
 pub fn levels(d: &[u8], hour: u32) -> LevelsAnswer
     ensures { λ r. ⌜ r ≡ levelsAnswer (now (d .entry)) hour ⌝ }
 {

@@ -20,7 +20,7 @@ fn report_in(d: &[u8], index: &mut [u16], hour: u32, buf: &mut [u8]) -> Written
     }
 }
 
-// The same. A dossier that is too long needs no index; for a thermal or nuclear station a short one is likely enough, and sooner made.
+// The same. A dossier that is too long needs no index; for a small one a short index is mostly enough, and sooner made.
 pub fn report(d: &[u8], hour: u32, buf: &mut [u8]) -> Written
     ensures answer { λ r. ⌜ r ≡ written (reportAnswer (now (d .entry)) hour (length (now (buf .entry)))) (length (report (now (d .entry)) hour)) ⌝ }
     ensures buffer { λ r. ⌜ now (buf .exit) ≡ bufferAfter (now (d .entry)) hour (now (buf .entry)) ⌝ }

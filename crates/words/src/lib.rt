@@ -92,7 +92,7 @@ fn levels_words_in(d: &[u8], index: &mut [u16], hour: u32, words: &mut [u64]) ->
     }
 }
 
-// The same. A dossier that is too long needs no index; for a thermal or nuclear station a short one is likely enough, and sooner made.
+// The same. A dossier that is too long needs no index; for a small one a short index is mostly enough, and sooner made.
 pub fn levels_words(d: &[u8], hour: u32, words: &mut [u64]) -> Answer
     ensures { λ r. ⌜ (r ≡ wordsAnswer (now (d .entry)) hour (length (now (words .entry)))) × (now (words .exit) ≡ wordsAfter (now (d .entry)) hour (now (words .entry))) ⌝ }
 {
