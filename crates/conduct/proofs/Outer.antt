@@ -6,38 +6,37 @@ use lib.ListN.{length}
 use Rattle.records.specs.declared.Answer.the-variants.{Accepted}
 use Rattle.station.specs.Parameters.{Parameters}
 use Rattle.rules.specs.Fit.{energy}
-use Rattle.formulas.specs.Levels.{Line, shown}
+use Rattle.formulas.specs.Levels.{parametersIn, amountsIn, Line, shown, profile, lines, levels}
 use Rattle.reference.specs.declared.HourLevels.{HourLevels}
-use Rattle.reference.specs.Packed.{unpacked}
+use Rattle.reference.specs.Packed.{unpacked, amountOf, inArrays}
 use Rattle.verdicts.specs.declared.Verdict.{Verdict}
 use Rattle.verdicts.specs.Refusals.{offerRefusal, priceRefusal}
 use Rattle.verdicts.specs.Verdict.{offerVerdict, priceVerdict}
-use Rattle.verdicts.proofs.Settled.{settle-accepted}
+use Rattle.verdicts.proofs.Settled.{settle-accepted, price-accepted}
 use Rattle.limits.specs.declared.Threshold.{Threshold}
-use Rattle.limits.specs.Shapes.{thresholdOf, offerShown, priceShown}
-use Rattle.limits.proofs.Laminations.{offer-shown, price-shown}
+use Rattle.limits.specs.Shapes.{thresholdOf, offerShown, singleShown}
+use Rattle.limits.proofs.Laminations.{told-by-arrays, offer-shown}
+use Rattle.limits.proofs.Single.{single-tested}
 
--- the levels r were handed over for l
+-- the levels r were handed over for l; their arrays alone are tested
 pub offer-tested :
     (s : Parameters) (c : ℕ) (l : List Line) (o : List ℕ) (r : HourLevels) (t : Threshold) {w : Verdict}
     → offerRefusal s c o ≡ Accepted → unpacked r ≡ map shown l → t ≡ thresholdOf s c energy
-    → w ≡ offerShown t (unpacked r) o 0 (length o / 6) → w ≡ offerVerdict s c l o
+    → w ≡ offerShown t (unpacked (inArrays (r .from) (r .to) (r .cents) 0 (r .count))) o 0 (length o / 6) → w ≡ offerVerdict s c l o
 unfolding offerVerdict
 offer-tested s c l o r t a u e f =
     settle-accepted a
     (f
+    ∙ told-by-arrays t r o 0 (length o / 6)
     ∙ ap (λ (z : Threshold). offerShown z (unpacked r) o 0 (length o / 6)) e
     ∙ ap (λ m. offerShown (thresholdOf s c energy) m o 0 (length o / 6)) u
     ∙ offer-shown s c l o 0 (length o / 6))
 
 pub price-tested :
-    (s : Parameters) (v c : ℕ) (l : List Line) (price : ℕ) (r : HourLevels) (t : Threshold) {w : Verdict}
-    → priceRefusal s v c ≡ Accepted → unpacked r ≡ map shown l → t ≡ thresholdOf s c v
-    → w ≡ priceShown t v price (unpacked r) → w ≡ priceVerdict s v c l price
-unfolding priceVerdict
-price-tested s v c l price r t a u e f =
-    settle-accepted a
-    (f
-    ∙ ap (λ (z : Threshold). priceShown z v price (unpacked r)) e
-    ∙ ap (priceShown (thresholdOf s c v) v price) u
-    ∙ price-shown s c l v price)
+    (d : List ℕ) (h v c price : ℕ) (t : Threshold) {x : ℕ} {w : Verdict}
+    → priceRefusal (parametersIn d) v c ≡ Accepted → x ≡ amountOf v (levels d h) → t ≡ thresholdOf (parametersIn d) c v
+    → w ≡ singleShown t price x → w ≡ priceVerdict (parametersIn d) v c (levels d h) price
+unfolding priceVerdict levels lines
+price-tested d h v c price t a e f g =
+    let q = price-accepted (parametersIn d) v c a in
+    settle-accepted a (rw (e, f) at g ∙ single-tested (parametersIn d) (amountsIn d) (profile (parametersIn d) h) c price v (q .1) (q .2) (q .0))

@@ -41,14 +41,17 @@ fn offer_verdict(d: &[u8], index: &[u16], hour: u32, condition: u8, offer: &[u8]
     match offer_refusal(d, index, c, offer) {
         Answer::Refused { number, place } => Verdict::Refused { number, place },
         Answer::Accepted => {
-            let lv = reference::hour_levels(d, index, hour);
+            let mut from = [0u64; 20];
+            let mut to = [0u64; 20];
+            let mut cents = [0u64; 20];
+            let lv = reference::hour_levels(d, index, hour, &mut from, &mut to, &mut cents);
             let t = threshold_of(d, index, c, 1);
-            limits::rising_offer_test(lv, t, offer)
+            limits::rising_offer_test(&from, &to, &cents, lv.count, t, offer)
         }
     }
 }
 
-// The verdict on a single price, held plus 2^31, of an accepted dossier.
+// The verdict on a single price, held plus 2^31, of an accepted dossier. Its level alone is worked out.
 fn price_verdict(
     d: &[u8],
     index: &[u16],
@@ -64,9 +67,9 @@ fn price_verdict(
     match price_refusal(d, index, level, c) {
         Answer::Refused { number, place } => Verdict::Refused { number, place },
         Answer::Accepted => {
-            let lv = reference::tested_levels(d, index, hour);
+            let x = reference::single_level(d, index, hour, level);
             let t = threshold_of(d, index, c, level as usize);
-            limits::single_test(lv, t, level, price)
+            limits::single_test(x, t, price)
         }
     }
 }

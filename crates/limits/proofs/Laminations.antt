@@ -19,8 +19,8 @@ use Rattle.limits.specs.declared.Threshold.{Threshold}
 use Rattle.limits.specs.declared.Pair.{Pair}
 use Rattle.verdicts.specs.declared.Verdict.{Verdict}
 use Rattle.verdicts.specs.declared.Verdict.the-variants.{Passes, Fails}
-use Rattle.verdicts.specs.Test.{limit, fails, failsUnder, failing, quantity, priceAt, before, overlap, offerFrom, priceTest}
-use Rattle.limits.specs.Shapes.{thresholdOf, failsAt, failingShown, offerShown, priceShown, failsIn, firstFailing, leastOf, singleLevel, LastHighest}
+use Rattle.verdicts.specs.Test.{limit, fails, failsUnder, failing, quantity, priceAt, before, overlap, offerFrom}
+use Rattle.limits.specs.Shapes.{thresholdOf, failsAt, failingShown, offerShown, failsIn, firstFailing, leastOf, LastHighest}
 use Rattle.verdicts.proofs.Stays.{pass-stays}
 use Rattle.limits.proofs.Turns.{one-less, all-left}
 
@@ -56,11 +56,6 @@ module _ (v : ℕ) (meets : ℕ → ℕ → Bool) (test : ℕ → Bool) (k : ℕ
       go true = refl
       go false = refl
 
-  laminations-other : (r : HourLevels) (i n : ℕ) (rest : Verdict) → eqb energy v ≡ false → failingShown v meets test k (laminationsFrom r i n) rest ≡ rest
-  unfolding failingShown laminationsFrom
-  laminations-other r i zero rest e = refl
-  laminations-other r i (suc n) rest e = rw e (laminations-other r (suc i) n rest e)
-
   failing-unpacked :
       (r : HourLevels) (rest : Verdict)
       → failingShown v meets test k (unpacked r) rest
@@ -81,10 +76,6 @@ module _ (s : Parameters) (c : ℕ) (l : List Line) where
   offer-shown o k (suc n) =
       ap (failingShown energy (overlap (before o k) (quantity o k)) (failsUnder s c energy (priceAt o k)) (k + 1) (map shown l)) (offer-shown o (k + 1) n)
       ∙ failing-shown energy (overlap (before o k) (quantity o k)) (failsUnder s c energy (priceAt o k)) (k + 1) l (offerFrom s c l o (k + 1) n)
-
-  pub price-shown : (v price : ℕ) → priceShown (thresholdOf s c v) v price (map shown l) ≡ priceTest s c v price l
-  unfolding priceShown priceTest failsUnder failsAt
-  price-shown v price = failing-shown v (λ a b. true) (failsUnder s c v price) 0 l Passes
 
 -- ---- by the arrays' places
 
@@ -234,45 +225,3 @@ module _ (t : Threshold) (r : HourLevels) (o : List ℕ) (n : ℕ) (h : LastHigh
 
   pub all-pass : Passes ≡ offerShown t (unpacked r) o 0 n
   all-pass = pass-from n 0 (omega arith) ∙ all-left (offerShown t (unpacked r) o 0) n
-
--- ---- a single price, against the level of a kind that the technology holds
-
-by-kind : (P : ℕ → Type 0) → P 2 → P 3 → P 4 → (v : ℕ) → 2 ≤ v → v ≤ 4 → P v
-by-kind P x y z zero a b = absurd (omega arith)
-by-kind P x y z (suc zero) a b = absurd (omega arith)
-by-kind P x y z (suc (suc zero)) a b = x
-by-kind P x y z (suc (suc (suc zero))) a b = y
-by-kind P x y z (suc (suc (suc (suc zero)))) a b = z
-by-kind P x y z (suc (suc (suc (suc (suc v))))) a b = absurd (omega arith)
-
-module _ (t : Threshold) (r : HourLevels) (price : ℕ) where
-  abbrev at : ℕ → List Shown → Verdict → Verdict
-  at v l rest = failingShown v (λ a b. true) (failsAt t price) 0 l rest
-
-  abbrev others : (v u x : ℕ) (rest : Verdict) → eqb u v ≡ false → at v (singleOf (r .technology) u x) rest ≡ rest
-  others v u x rest e = single-other v (λ a b. true) (failsAt t price) 0 (r .technology) u x rest e
-
-  own : (v x : ℕ) (rest : Verdict) → holds (r .technology) v ≡ true → at v (singleOf (r .technology) v x) rest ≡ cond (failsAt t price x) (Fails 0 0) rest
-  own v x rest h = failing-single v (λ a b. true) (failsAt t price) 0 (r .technology) v x rest ∙ rw (h, eq-eqb v v refl) refl
-
-  singles : (v : ℕ) → eqb energy v ≡ false → at v (unpacked r) Passes ≡ at v (singleOf (r .technology) 2 (r .start)) (at v (singleOf (r .technology) 3 (r .noload)) (at v (singleOf (r .technology) 4 (r .reserve)) Passes))
-  singles v e = failing-unpacked v (λ a b. true) (failsAt t price) 0 r Passes ∙ laminations-other v (λ a b. true) (failsAt t price) 0 r 0 (r .count) _ e
-
-  single-verdict : (v : ℕ) → 2 ≤ v → v ≤ 4 → holds (r .technology) v ≡ true → cond (failsAt t price (singleLevel r v)) (Fails 0 0) Passes ≡ priceShown t v price (unpacked r)
-  unfolding priceShown singleLevel
-  single-verdict =
-      by-kind (λ (v : ℕ). holds (r .technology) v ≡ true → cond (failsAt t price (singleLevel r v)) (Fails 0 0) Passes ≡ priceShown t v price (unpacked r))
-      (λ h. sym (singles 2 refl ∙ own 2 (r .start) _ h ∙ ap (cond (failsAt t price (r .start)) (Fails 0 0)) (others 2 3 (r .noload) _ refl ∙ others 2 4 (r .reserve) _ refl)))
-      (λ h. sym (singles 3 refl ∙ others 3 2 (r .start) _ refl ∙ own 3 (r .noload) _ h ∙ ap (cond (failsAt t price (r .noload)) (Fails 0 0)) (others 3 4 (r .reserve) _ refl)))
-      (λ h. sym (singles 4 refl ∙ others 4 2 (r .start) _ refl ∙ others 4 3 (r .noload) _ refl ∙ own 4 (r .reserve) _ h))
-
-  -- with what was read of the levels
-  module _ (v x : ℕ) (a : 2 ≤ v) (b : v ≤ 4) (h : holds (r .technology) v ≡ true) (e : x ≡ singleLevel r v) where
-    settled : (w : Bool) → failsAt t price x ≡ w → cond w (Fails 0 0) Passes ≡ priceShown t v price (unpacked r)
-    settled w f = ap (λ (z : Bool). cond z (Fails 0 0) Passes) (sym f ∙ ap (failsAt t price) e) ∙ single-verdict v a b h
-
-    pub single-fails : failsAt t price x ≡ true → Fails 0 0 ≡ priceShown t v price (unpacked r)
-    single-fails f = settled true f
-
-    pub single-passes : failsAt t price x ≡ false → Passes ≡ priceShown t v price (unpacked r)
-    single-passes f = settled false f

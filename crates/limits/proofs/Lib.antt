@@ -1,3 +1,4 @@
 pub mod Signed
 pub mod Turns
 pub mod Laminations
+pub mod Single

@@ -6,8 +6,7 @@ use Prim.Native.Nat.{ℕ, zero, suc, _+_, _-_, _≤_, _<_, min}
 use lib.Dec.{eqb}
 use lib.ListN.{getD}
 use Rattle.station.specs.Parameters.{Parameters, percent, margin, floor}
-use Rattle.rules.specs.Fit.{energy, start, noLoad}
-use Rattle.reference.specs.declared.HourLevels.{HourLevels}
+use Rattle.rules.specs.Fit.{energy}
 use Rattle.limits.specs.declared.Threshold.{Threshold}
 use Rattle.limits.specs.declared.Pair.{Pair}
 use Rattle.verdicts.specs.declared.Verdict.{Verdict}
@@ -36,9 +35,9 @@ offerShown t l o k zero = Passes
 offerShown t l o k (suc n) =
     failingShown energy (overlap (before o k) (quantity o k)) (failsAt t (priceAt o k)) (k + 1) l (offerShown t l o (k + 1) n)
 
--- as `priceTest`
-unfoldable pub priceShown : Threshold → ℕ → ℕ → List Shown → Verdict
-priceShown t v price l = failingShown v (λ a b. true) (failsAt t price) 0 l Passes
+-- as `priceTest`, against a level x of its kind
+unfoldable pub singleShown : Threshold → ℕ → ℕ → Verdict
+singleShown t price x = cond (failsAt t price x) (Fails 0 0) Passes
 
 -- ---- the same by the arrays, as code goes through them
 
@@ -56,10 +55,6 @@ firstFailing t pair from to cents i (suc n) =
 unfoldable pub leastOf : List ℕ → ℕ → ℕ
 leastOf cents zero = 18446744073709551615
 leastOf cents (suc n) = min (leastOf cents n) (getD cents n 0)
-
--- the level of a kind that has no laminations
-unfoldable pub singleLevel : HourLevels → ℕ → ℕ
-singleLevel r v = cond (eqb v start) (r .start) (cond (eqb v noLoad) (r .noload) (r .reserve))
 
 -- of n pairs none has a higher price than the last
 pub record LastHighest (o : List ℕ) (n : ℕ) : Type 0 where

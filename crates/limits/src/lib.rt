@@ -1,15 +1,12 @@
 // A price and an offer against levels in arrays: the limit, the laminations that a pair overlaps. The shapes of the definitions that code
 // takes are in specs/, their laws in proofs/.
 ghost use mathlib.Core.Path.{_≡_};
-ghost use mathlib.Core.Bool.{true};
 ghost use Prim.Native.Nat.{_+_, _*_, _<_, _≤_, _/_, min};
 ghost use lib.ListN.{length};
 ghost use Rattle.fields.specs.Numbers.{number, biasedOf};
-ghost use Rattle.rules.specs.Fit.{holds};
 ghost use Rattle.reference.specs.Packed.{unpacked, inArrays};
 ghost use Rattle.verdicts.specs.Test.{limit as limitOf, overlap, quantity, priceAt};
-ghost use Rattle.limits.specs.Shapes.{failsAt, failsIn, firstFailing, leastOf, singleLevel, offerShown, priceShown, LastHighest};
-use reference::HourLevels;
+ghost use Rattle.limits.specs.Shapes.{failsAt, failsIn, firstFailing, leastOf, offerShown, singleShown, LastHighest};
 use verdicts::Verdict;
 
 // What a TH says of a condition and level.
@@ -203,43 +200,35 @@ fn offer_test<'a>(
     Verdict::Passes
 }
 
-// The same of an offer whose last price is its highest: where that passes at the least level all pass, and most offers do. The
-// arrays are lent: levels handed on as a value would be copied once more.
-pub fn rising_offer_test(lv: HourLevels, t: Threshold, offer: &[u8]) -> Verdict
-    requires { ⌜ (lv .count ≤ 20) × (length (now offer) ≤ 120) × LastHighest (now offer) (length (now offer) / 6) ⌝ }
-    ensures { λ r. ⌜ r ≡ offerShown t (unpacked lv) (now (offer .entry)) 0 (length (now (offer .entry)) / 6) ⌝ }
+// The same of an offer whose last price is its highest: where that passes at the least level all pass, and most offers do.
+pub fn rising_offer_test<'a>(
+    from: &'a [u64; 20],
+    to: &'a [u64; 20],
+    cents: &'a [u64; 20],
+    count: usize,
+    t: Threshold,
+    offer: &[u8],
+) -> Verdict
+    requires { ⌜ (count ≤ 20) × (length (now offer) ≤ 120) × LastHighest (now offer) (length (now offer) / 6) ⌝ }
+    ensures { λ r. ⌜ r ≡ offerShown t (unpacked (inArrays (now (from .entry)) (now (to .entry)) (now (cents .entry)) 0 count)) (now (offer .entry)) 0 (length (now (offer .entry)) / 6) ⌝ }
 {
     let pairs = offer.len() / 6;
     if pairs == 0 {
         return Verdict::Passes;
     }
-    let least = least_level(&lv.cents, lv.count);
+    let least = least_level(cents, count);
     if fails(least, t, price_at(offer, pairs - 1)) {
-        return offer_test(&lv.from, &lv.to, &lv.cents, lv.count, t, offer);
+        return offer_test(from, to, cents, count, t, offer);
     }
     Verdict::Passes
 }
 
-// The level that a single price is held against.
-fn single_level(lv: HourLevels, level: u8) -> u64
-    ensures { λ r. ⌜ r ≡ singleLevel lv level ⌝ }
+// The test of a single price against its level.
+pub fn single_test(level: u64, t: Threshold, price: u64) -> Verdict
+    requires { ⌜ price < 4294967296 ⌝ }
+    ensures { λ r. ⌜ r ≡ singleShown t price level ⌝ }
 {
-    if level == 2 {
-        lv.start
-    } else if level == 3 {
-        lv.noload
-    } else {
-        lv.reserve
-    }
-}
-
-// The test of a single price.
-pub fn single_test(lv: HourLevels, t: Threshold, level: u8, price: u64) -> Verdict
-    requires { ⌜ (holds (lv .technology) level ≡ true) × (2 ≤ level) × (level ≤ 4) × (price < 4294967296) ⌝ }
-    ensures { λ r. ⌜ r ≡ priceShown t level price (unpacked lv) ⌝ }
-{
-    let cents = single_level(lv, level);
-    if fails(cents, t, price) {
+    if fails(level, t, price) {
         Verdict::Fails {
             pair: 0,
             lamination: 0,

@@ -2,14 +2,23 @@
 use mathlib.Core.Bool.{Bool, cond}
 use mathlib.Core.List.{List, [], _++_}
 use Prim.Native.Nat.{ℕ}
+use lib.ListN.{length}
 use Rattle.rules.specs.Fit.{start, noLoad, reserve}
 use Rattle.reference.specs.declared.HourLevels.{HourLevels}
 use Rattle.reference.specs.Packed.{laminationsFrom, singleOf, unpacked}
-use Rattle.layout.specs.Report.{amountLine, levelLines, reportText}
+use Rattle.layout.specs.declared.Written.{Written}
+use Rattle.layout.specs.Report.{amountLine, levelLines, reportText, shortFor, bufferWith, written}
 
 -- the whole
 unfoldable pub packedReport : HourLevels → List ℕ
 packedReport r = reportText (r .profile) (unpacked r)
+
+-- what writing it into n bytes tells, and what it leaves of a buffer
+abbrev pub writtenOf : HourLevels → ℕ → Written
+writtenOf r n = written (shortFor (packedReport r) n) (length (packedReport r))
+
+abbrev pub bufferOf : HourLevels → List ℕ → List ℕ
+bufferOf r b = bufferWith (shortFor (packedReport r) (length b)) (packedReport r) b
 
 -- the first n energy lines
 abbrev pub laminationLines : HourLevels → ℕ → List ℕ

@@ -5,11 +5,11 @@ ghost use Prim.Native.Nat.{_≤_};
 ghost use lib.ListN.{length};
 ghost use Rattle.text.specs.Text.{over, tenths, space};
 ghost use Rattle.rules.specs.Fit.{holds};
-ghost use Rattle.layout.specs.Report.{profileLine, energyLine, amountLine, shortFor, bufferWith, written};
-ghost use Rattle.reference.specs.Packed.{inArrays};
-ghost use Rattle.lines.specs.Parts.{laminationLines, heldLine, otherLines, packedReport};
+ghost use Rattle.layout.specs.Report.{profileLine, energyLine, amountLine};
+ghost use Rattle.reference.specs.Packed.{hourOf, inArrays};
+ghost use Rattle.lines.specs.Parts.{laminationLines, heldLine, otherLines, writtenOf, bufferOf};
 use layout::Written;
-use reference::HourLevels;
+use reference::SingleLevels;
 use technology::level_held;
 
 // No report is longer.
@@ -159,15 +159,20 @@ fn put_others(buf: &mut [u8], technology: u8, start: u64, noload: u64, reserve: 
 }
 
 // The whole report. Its length comes first, so that a buffer too short keeps every byte; a buffer that any report fits needs none.
-// The arrays are lent: levels handed on as a value would be copied once more.
-pub fn put_report(buf: &mut [u8], lv: HourLevels) -> Written
+pub fn put_report<'a>(
+    buf: &mut [u8],
+    lv: SingleLevels,
+    from: &'a [u64; 20],
+    to: &'a [u64; 20],
+    cents: &'a [u64; 20],
+) -> Written
     requires { ⌜ lv .count ≤ 20 ⌝ }
-    ensures answer { λ r. ⌜ r ≡ written (shortFor (packedReport lv) (length (now (buf .entry)))) (length (packedReport lv)) ⌝ }
-    ensures buffer { λ r. ⌜ now (buf .exit) ≡ bufferWith (shortFor (packedReport lv) (length (now (buf .entry)))) (packedReport lv) (now (buf .entry)) ⌝ }
+    ensures answer { λ r. ⌜ r ≡ writtenOf (hourOf lv (now (from .entry)) (now (to .entry)) (now (cents .entry))) (length (now (buf .entry))) ⌝ }
+    ensures buffer { λ r. ⌜ now (buf .exit) ≡ bufferOf (hourOf lv (now (from .entry)) (now (to .entry)) (now (cents .entry))) (now (buf .entry)) ⌝ }
 {
     if buf.len() < LONGEST {
         let first = profile_line_len(lv.profile as u64);
-        let energy = laminations_len(&lv.from, &lv.to, &lv.cents, lv.count);
+        let energy = laminations_len(from, to, cents, lv.count);
         if buf.len() < first + energy + others_len(lv.technology, lv.start, lv.noload, lv.reserve) {
             return Written::Refused {
                 number: 15,
@@ -176,7 +181,7 @@ pub fn put_report(buf: &mut [u8], lv: HourLevels) -> Written
         }
     }
     let a = put_profile_line(buf, lv.profile as u64);
-    let b = a + put_laminations(&mut buf[a..], &lv.from, &lv.to, &lv.cents, lv.count);
+    let b = a + put_laminations(&mut buf[a..], from, to, cents, lv.count);
     Written::Bytes(
         b
             + put_others(

@@ -7,7 +7,7 @@ use native.Mathlib.Nat.{le-refl}
 use native.Mathlib.Numerals.{add-one}
 use native.Mathlib.Omega.{arith}
 use lib.Dec.{eqb, lit≤}
-use lib.ListN.{length, getD, take, set}
+use lib.ListN.{length, getD, take, set, replicate}
 use lib.Seq.{take-all}
 use Rattle.lists.specs.Tests.{countTo, among}
 use Rattle.lists.proofs.Tests.{split}
@@ -20,9 +20,10 @@ use Rattle.rules.specs.Fit.{energy, start, noLoad, reserve, levelsOf, holds}
 use Rattle.rules.specs.Curve.{points}
 use Rattle.rules.specs.Answer.{answer}
 use Rattle.reference.specs.declared.HourLevels.{HourLevels}
-use Rattle.formulas.specs.Exact.{Sum, microDollars, cents}
+use Rattle.reference.specs.declared.SingleLevels.{SingleLevels}
+use Rattle.formulas.specs.Exact.{Sum, quotient, microDollars, cents}
 use Rattle.formulas.specs.Levels.{parametersIn, amountsIn, Line, amount, adders, startCost, noLoadCost, nuclearEnergy, storageEnergy, hydroEnergy, lamination, laminations, oneLamination, single, profile, linesOf, lines, levels, Shown, row, shown}
-use Rattle.reference.specs.Packed.{laminationsFrom, singleOf, unpacked, energyLines, amountOf, padded, hourLevels, packed, noLevels, levelsAnswer}
+use Rattle.reference.specs.Packed.{laminationsFrom, singleOf, unpacked, energyLines, amountOf, padded, hourLevels, singleLevels, hourOf, packed, noLevels, levelsAnswer}
 
 -- ---- an array filled from the front
 
@@ -38,6 +39,14 @@ unfolding padded
 padded-length zero l = refl
 padded-length (suc k) [] = ap suc (padded-length k [])
 padded-length (suc k) (x ∷ l) = ap suc (padded-length k l)
+
+-- an empty array, and its first place filled
+pub twenty : {a : List ℕ} → a ≡ replicate 20 0 → length a ≡ 20
+twenty e = ap length e
+
+pub first-set : {a : List ℕ} {x y : ℕ} → a ≡ replicate 20 0 → x ≡ y → set a 0 x ≡ padded 20 (y ∷ [])
+unfolding padded
+first-set e f = rw (e, f) refl
 
 -- one more place
 pub row-more : (l a : List ℕ) (i x : ℕ) → i < 20 → i < length l → a ≡ padded 20 (take i l) → x ≡ getD l i 0 → set a i x ≡ padded 20 (take (i + 1) l)
@@ -76,12 +85,12 @@ unfolding energyLines laminations
 energy-laminations s m p k zero l = refl
 energy-laminations s m p k (suc n) l = ap (λ (r : List Line). lamination s m p k ∷ r) (energy-laminations s m p (k + 1) n l)
 
-amount-laminations : (s : Parameters) (m : Amounts) (p k n v : ℕ) (l : List Line) → eqb energy v ≡ false → amountOf v (laminations s m p k n l) ≡ amountOf v l
+pub amount-laminations : (s : Parameters) (m : Amounts) (p k n v : ℕ) (l : List Line) → eqb energy v ≡ false → amountOf v (laminations s m p k n l) ≡ amountOf v l
 unfolding amountOf laminations
 amount-laminations s m p k zero v l e = refl
 amount-laminations s m p k (suc n) v l e = rw e (amount-laminations s m p (k + 1) n v l e)
 
-abbrev others : Sum → Sum → Sum → List Line
+abbrev pub others : Sum → Sum → Sum → List Line
 others a b c = single start a ∷ single noLoad b ∷ single reserve c ∷ []
 
 -- n laminations in the arrays, with three other levels
@@ -109,20 +118,28 @@ module _ (s : Parameters) (m : Amounts) (p : ℕ) where
   thermal-packed e r n a b c x y z =
       rw (e, r, a, b, c, x, y, z, n) (sym (packed-laminations s m 1 p (points s - 1) (startCost s m p) (noLoadCost s m p) (adders m p reserve)))
 
-  pub nuclear-packed : technology s ≡ 2 → {w x : ℕ} {r : HourLevels} → w ≡ capacity s → x ≡ cents (microDollars (nuclearEnergy s m p))
-      → r ≡ hourLevels 2 p 1 (padded 20 (0 ∷ [])) (padded 20 (w ∷ [])) (padded 20 (x ∷ [])) 0 0 0 → r ≡ packed (technology s) p (linesOf s m p)
-  unfolding linesOf packed energyLines amountOf oneLamination
-  nuclear-packed e w x r = rw (r, e, w, x) refl
+  -- one lamination in the arrays, of energy y, with reserve z
+  abbrev one : ℕ → ℕ → ℕ → HourLevels
+  one t y z = hourLevels t p 1 (replicate 20 0) (padded 20 (capacity s ∷ [])) (padded 20 (cents y ∷ [])) 0 0 (cents z)
 
-  pub storage-packed : technology s ≡ 3 → {w x z : ℕ} {r : HourLevels} → w ≡ capacity s → x ≡ cents (microDollars (storageEnergy s m p)) → z ≡ cents (microDollars (adders m p reserve))
-      → r ≡ hourLevels 3 p 1 (padded 20 (0 ∷ [])) (padded 20 (w ∷ [])) (padded 20 (x ∷ [])) 0 0 z → r ≡ packed (technology s) p (linesOf s m p)
-  unfolding linesOf packed energyLines amountOf oneLamination single
-  storage-packed e w x z r = rw (r, e, w, x, z) refl
+  pub nuclear-packed : technology s ≡ 2 → {y : ℕ} → y ≡ microDollars (nuclearEnergy s m p) → one 2 y 0 ≡ packed (technology s) p (linesOf s m p)
+  unfolding linesOf packed energyLines amountOf oneLamination padded cents quotient
+  nuclear-packed e y = rw (e, y) refl
 
-  pub hydro-packed : technology s ≡ 4 → {w x z : ℕ} {r : HourLevels} → w ≡ capacity s → x ≡ cents (microDollars (hydroEnergy s m p)) → z ≡ cents (microDollars (adders m p reserve))
-      → r ≡ hourLevels 4 p 1 (padded 20 (0 ∷ [])) (padded 20 (w ∷ [])) (padded 20 (x ∷ [])) 0 0 z → r ≡ packed (technology s) p (linesOf s m p)
-  unfolding linesOf packed energyLines amountOf oneLamination single
-  hydro-packed e w x z r = rw (r, e, w, x, z) refl
+  pub storage-packed : technology s ≡ 3 → {y z : ℕ} → y ≡ microDollars (storageEnergy s m p) → z ≡ microDollars (adders m p reserve) → one 3 y z ≡ packed (technology s) p (linesOf s m p)
+  unfolding linesOf packed energyLines amountOf oneLamination single padded
+  storage-packed e y z = rw (e, y, z) refl
+
+  pub hydro-packed : technology s ≡ 4 → {y z : ℕ} → y ≡ microDollars (hydroEnergy s m p) → z ≡ microDollars (adders m p reserve) → one 4 y z ≡ packed (technology s) p (linesOf s m p)
+  unfolding linesOf packed energyLines amountOf oneLamination single padded
+  hydro-packed e y z = rw (e, y, z) refl
+
+-- what `one_lamination` hands over, given the levels that it is to be
+pub one-handed :
+    {t p z : ℕ} {r : SingleLevels} {a b x b' x' : List ℕ} {h : HourLevels}
+    → r ≡ singleLevels t p 1 0 0 z → a ≡ replicate 20 0 → b ≡ b' → x ≡ x'
+    → hourLevels t p 1 (replicate 20 0) b' x' 0 0 z ≡ h → hourOf r a b x ≡ h
+one-handed r a b x e = rw (r, a, b, x) e
 
 -- at an hour
 pub levels-packed : (d : List ℕ) (h : ℕ) {q : ℕ} {r : HourLevels} → q ≡ profile (parameters (records d)) h

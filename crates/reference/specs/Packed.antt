@@ -5,12 +5,14 @@ use Prim.Native.Nat.{ℕ, zero, suc, _+_}
 use lib.Dec.{eqb}
 use lib.ListN.{length, getD, replicate}
 use Rattle.records.specs.Answers.{isAccepted}
-use Rattle.station.specs.Parameters.{technology}
+use Rattle.station.specs.Parameters.{Parameters, Amounts, technology}
 use Rattle.rules.specs.Fit.{energy, start, noLoad, reserve, holds}
 use Rattle.rules.specs.Answer.{answer}
 use Rattle.reference.specs.declared.HourLevels.{HourLevels}
+use Rattle.reference.specs.declared.SingleLevels.{SingleLevels}
 use Rattle.reference.specs.declared.LevelsAnswer.{LevelsAnswer}
-use Rattle.formulas.specs.Levels.{parametersIn, profile, Line, amount, Shown, row, levels}
+use Rattle.formulas.specs.Exact.{Sum}
+use Rattle.formulas.specs.Levels.{parametersIn, profile, Line, amount, adders, startCost, noLoadCost, Shown, row, levels}
 
 -- ---- from the arrays to lines
 
@@ -58,7 +60,15 @@ abbrev pub hourLevels : ℕ → ℕ → ℕ → List ℕ → List ℕ → List �
 hourLevels t p n a b x s z r =
     record { technology = t; profile = p; count = n; from = a; to = b; cents = x; start = s; noload = z; reserve = r }
 
--- levels of which the laminations alone are told, in arrays a of from, b of to and x of levels, at profile p, n of them
+-- those beside the laminations at once, in the order of `SingleLevels`
+abbrev pub singleLevels : ℕ → ℕ → ℕ → ℕ → ℕ → ℕ → SingleLevels
+singleLevels t p n s z r = record { technology = t; profile = p; count = n; start = s; noload = z; reserve = r }
+
+-- the levels r, with their laminations in arrays a of from, b of to and x of levels
+abbrev pub hourOf : SingleLevels → List ℕ → List ℕ → List ℕ → HourLevels
+hourOf r a b x = hourLevels (r .technology) (r .profile) (r .count) a b x (r .start) (r .noload) (r .reserve)
+
+-- levels of which the laminations alone are told, at profile p, n of them
 abbrev pub inArrays : List ℕ → List ℕ → List ℕ → ℕ → ℕ → HourLevels
 inArrays a b x p n = hourLevels 0 p n a b x 0 0 0
 
@@ -72,6 +82,10 @@ packed t p l =
     (amountOf start l)
     (amountOf noLoad l)
     (amountOf reserve l)
+
+-- the sum of a level v without laminations, where it is held
+unfoldable pub singleSum : Parameters → Amounts → ℕ → ℕ → Sum
+singleSum s m p v = cond (eqb v start) (startCost s m p) (cond (eqb v noLoad) (noLoadCost s m p) (adders m p reserve))
 
 -- ---- the answer to a dossier, with its levels at an hour
 

@@ -4,13 +4,16 @@ mod profile;
 
 ghost use mathlib.Core.Path.{_≡_};
 ghost use mathlib.Core.List.{[], _∷_};
+ghost use mathlib.Core.Bool.{true};
 ghost use Prim.Native.Nat.{_≤_};
-ghost use Rattle.station.specs.Parameters.{technology};
+ghost use lib.ListN.{replicate};
+ghost use Rattle.station.specs.Parameters.{technology, capacity};
 ghost use Rattle.lookup.specs.Parts.{Indexed, Empty};
+ghost use Rattle.rules.specs.Fit.{holds};
 ghost use Rattle.rules.specs.Answer.{IsAccepted};
-ghost use Rattle.formulas.specs.Exact.{microDollars};
-ghost use Rattle.formulas.specs.Levels.{parametersIn, amountsIn, profile, storageEnergy, hydroEnergy, linesOf, levels};
-ghost use Rattle.reference.specs.Packed.{padded, hourLevels, packed, noLevels, levelsAnswer};
+ghost use Rattle.formulas.specs.Exact.{microDollars, cents as centsOf};
+ghost use Rattle.formulas.specs.Levels.{parametersIn, amountsIn, profile, linesOf, levels};
+ghost use Rattle.reference.specs.Packed.{padded, singleLevels, hourOf, singleSum, amountOf, packed, noLevels, levelsAnswer};
 use arithmetic::Money;
 use records::Answer;
 
@@ -28,139 +31,130 @@ pub struct HourLevels {
     pub reserve: u64,
 }
 
+// What they are beside their laminations. Between layers the laminations are in lent arrays: handed on as values they would be copied at
+// each step.
+pub struct SingleLevels {
+    pub technology: u8,
+    pub profile: usize,
+    pub count: usize,
+    pub start: u64,
+    pub noload: u64,
+    pub reserve: u64,
+}
+
 // The answer to a dossier with its levels at an hour: all zero where it is refused.
 pub struct LevelsAnswer {
     pub answer: Answer,
     pub levels: HourLevels,
 }
 
-// The levels of a technology with one lamination, from 0 to the capacity.
+// The levels of a technology with one lamination, from 0 to the capacity, given the sums of its energy and reserve.
 fn one_lamination(
+    d: &[u8],
+    index: &[u16],
     technology: u8,
-    profile: usize,
-    capacity: u64,
+    p: usize,
     energy: u64,
     reserve: u64,
-) -> HourLevels
-    ensures { λ r. ⌜ r ≡ hourLevels technology profile 1 (padded 20 (0 ∷ [])) (padded 20 (capacity ∷ [])) (padded 20 (energy ∷ [])) 0 0 reserve ⌝ }
+    to: &mut [u64],
+    cents: &mut [u64],
+) -> SingleLevels
+    requires { ⌜ Indexed (now d) (now index) × (now to ≡ replicate 20 0) × (now cents ≡ replicate 20 0) ⌝ }
+    ensures { λ r. ⌜ (r ≡ singleLevels technology p 1 0 0 (centsOf reserve)) × (now (to .exit) ≡ padded 20 (capacity (parametersIn (now (d .entry))) ∷ [])) × (now (cents .exit) ≡ padded 20 (centsOf energy ∷ [])) ⌝ }
 {
-    let from = [0u64; 20];
-    let mut to = [0u64; 20];
-    let mut cents = [0u64; 20];
-    to[0] = capacity;
-    cents[0] = energy;
-    HourLevels {
+    let energy_level = Money::from_sum(energy);
+    let reserve_level = Money::from_sum(reserve);
+    to[0] = parameters::capacity(d, index);
+    cents[0] = energy_level.cents;
+    SingleLevels {
         technology,
-        profile,
+        profile: p,
         count: 1,
-        from,
-        to,
-        cents,
         start: 0,
         noload: 0,
-        reserve,
+        reserve: reserve_level.cents,
     }
 }
 
-// The levels of a profile, by technology.
-fn thermal_levels(d: &[u8], index: &[u16], p: usize) -> HourLevels
-    requires { ⌜ Indexed (now d) (now index) × (1 ≤ p) × (p ≤ 4) × (technology (parametersIn (now d)) ≡ 1) ⌝ }
-    ensures { λ r. ⌜ r ≡ packed (technology (parametersIn (now (d .entry)))) p (linesOf (parametersIn (now (d .entry))) (amountsIn (now (d .entry))) p) ⌝ }
+// The levels of a thermal station in a profile.
+fn thermal_levels(
+    d: &[u8],
+    index: &[u16],
+    p: usize,
+    from: &mut [u64],
+    to: &mut [u64],
+    cents: &mut [u64],
+) -> SingleLevels
+    requires { ⌜ Indexed (now d) (now index) × (1 ≤ p) × (p ≤ 4) × (technology (parametersIn (now d)) ≡ 1) × (now from ≡ replicate 20 0) × (now to ≡ replicate 20 0) × (now cents ≡ replicate 20 0) ⌝ }
+    ensures { λ r. ⌜ hourOf r (now (from .exit)) (now (to .exit)) (now (cents .exit)) ≡ packed (technology (parametersIn (now (d .entry)))) p (linesOf (parametersIn (now (d .entry))) (amountsIn (now (d .entry))) p) ⌝ }
 {
-    let mut from = [0u64; 20];
-    let mut to = [0u64; 20];
-    let mut cents = [0u64; 20];
     let count = costs::thermal::lamination_count(d, index);
-    laminations::laminations(d, index, p, count, &mut from, &mut to, &mut cents);
+    laminations::laminations(d, index, p, count, from, to, cents);
     let start = Money::from_sum(costs::thermal::start_cost(d, index, p));
     let noload = Money::from_sum(costs::thermal::no_load_cost(d, index, p));
     let reserve = Money::from_sum(costs::maintenance::adders(d, index, p, 4));
-    HourLevels {
+    SingleLevels {
         technology: 1,
         profile: p,
         count,
-        from,
-        to,
-        cents,
         start: start.cents,
         noload: noload.cents,
         reserve: reserve.cents,
     }
 }
 
-fn nuclear_levels(d: &[u8], index: &[u16], p: usize) -> HourLevels
-    requires { ⌜ Indexed (now d) (now index) × (1 ≤ p) × (p ≤ 4) × (technology (parametersIn (now d)) ≡ 2) ⌝ }
-    ensures { λ r. ⌜ r ≡ packed (technology (parametersIn (now (d .entry)))) p (linesOf (parametersIn (now (d .entry))) (amountsIn (now (d .entry))) p) ⌝ }
-{
-    let energy = Money::from_sum(costs::nuclear::nuclear_energy(d, index, p));
-    one_lamination(2, p, parameters::capacity(d, index), energy.cents, 0)
-}
-
-fn storage_levels(d: &[u8], index: &[u16], p: usize, sum: u64) -> HourLevels
-    requires { ⌜ Indexed (now d) (now index) × (1 ≤ p) × (p ≤ 4) × (technology (parametersIn (now d)) ≡ 3) × (sum ≡ microDollars (storageEnergy (parametersIn (now d)) (amountsIn (now d)) p)) ⌝ }
-    ensures { λ r. ⌜ r ≡ packed (technology (parametersIn (now (d .entry)))) p (linesOf (parametersIn (now (d .entry))) (amountsIn (now (d .entry))) p) ⌝ }
-{
-    let energy = Money::from_sum(sum);
-    let reserve = Money::from_sum(costs::maintenance::adders(d, index, p, 4));
-    one_lamination(
-        3,
-        p,
-        parameters::capacity(d, index),
-        energy.cents,
-        reserve.cents,
-    )
-}
-
-fn hydro_levels(d: &[u8], index: &[u16], p: usize, sum: u64) -> HourLevels
-    requires { ⌜ Indexed (now d) (now index) × (1 ≤ p) × (p ≤ 4) × (technology (parametersIn (now d)) ≡ 4) × (sum ≡ microDollars (hydroEnergy (parametersIn (now d)) (amountsIn (now d)) p)) ⌝ }
-    ensures { λ r. ⌜ r ≡ packed (technology (parametersIn (now (d .entry)))) p (linesOf (parametersIn (now (d .entry))) (amountsIn (now (d .entry))) p) ⌝ }
-{
-    let energy = Money::from_sum(sum);
-    let reserve = Money::from_sum(costs::maintenance::adders(d, index, p, 4));
-    one_lamination(
-        4,
-        p,
-        parameters::capacity(d, index),
-        energy.cents,
-        reserve.cents,
-    )
-}
-
-// The levels of an accepted dossier at an hour.
-pub fn hour_levels(d: &[u8], index: &[u16], hour: u32) -> HourLevels
-    requires { ⌜ IsAccepted (now d) × Indexed (now d) (now index) ⌝ }
-    ensures { λ r. ⌜ r ≡ packed (technology (parametersIn (now (d .entry)))) (profile (parametersIn (now (d .entry))) hour) (levels (now (d .entry)) hour) ⌝ }
+// The levels of an accepted dossier at an hour, their laminations in empty arrays.
+pub fn hour_levels(
+    d: &[u8],
+    index: &[u16],
+    hour: u32,
+    from: &mut [u64],
+    to: &mut [u64],
+    cents: &mut [u64],
+) -> SingleLevels
+    requires { ⌜ IsAccepted (now d) × Indexed (now d) (now index) × (now from ≡ replicate 20 0) × (now to ≡ replicate 20 0) × (now cents ≡ replicate 20 0) ⌝ }
+    ensures { λ r. ⌜ hourOf r (now (from .exit)) (now (to .exit)) (now (cents .exit)) ≡ packed (technology (parametersIn (now (d .entry)))) (profile (parametersIn (now (d .entry))) hour) (levels (now (d .entry)) hour) ⌝ }
 {
     let p = profile::profile(d, index, hour);
     let technology = parameters::technology(d, index);
     if technology == 1 {
-        return thermal_levels(d, index, p);
+        return thermal_levels(d, index, p, from, to, cents);
     }
     if technology == 2 {
-        return nuclear_levels(d, index, p);
+        let energy = costs::nuclear::nuclear_energy(d, index, p);
+        return one_lamination(d, index, 2, p, energy, 0, to, cents);
     }
+    let reserve = costs::maintenance::adders(d, index, p, 4);
     if technology == 3 {
-        return storage_levels(d, index, p, costs::storage::storage_energy(d, index, p));
+        let energy = costs::storage::storage_energy(d, index, p);
+        return one_lamination(d, index, 3, p, energy, reserve, to, cents);
     }
-    hydro_levels(d, index, p, costs::hydro::hydro_energy(d, index, p))
+    let energy = costs::hydro::hydro_energy(d, index, p);
+    one_lamination(d, index, 4, p, energy, reserve, to, cents)
 }
 
-// The same, for the test of a single price. `storage_energy` and `hydro_energy`, called from two functions, keep frames of their own, and their
-// tables cost nothing where they aren't called; they hand over a number, since levels from another frame would be copied here.
-pub fn tested_levels(d: &[u8], index: &[u16], hour: u32) -> HourLevels
-    requires { ⌜ IsAccepted (now d) × Indexed (now d) (now index) ⌝ }
-    ensures { λ r. ⌜ r ≡ packed (technology (parametersIn (now (d .entry)))) (profile (parametersIn (now (d .entry))) hour) (levels (now (d .entry)) hour) ⌝ }
+// The sum of a level without laminations in a profile.
+fn single_sum(d: &[u8], index: &[u16], p: usize, level: u8) -> u64
+    requires { ⌜ Indexed (now d) (now index) × (1 ≤ p) × (p ≤ 4) ⌝ }
+    ensures { λ r. ⌜ r ≡ microDollars (singleSum (parametersIn (now (d .entry))) (amountsIn (now (d .entry))) p level) ⌝ }
 {
-    let technology = parameters::technology(d, index);
-    if technology == 3 {
-        let p = profile::profile(d, index, hour);
-        return storage_levels(d, index, p, costs::storage::storage_energy(d, index, p));
+    if level == 2 {
+        return costs::thermal::start_cost(d, index, p);
     }
-    if technology == 4 {
-        let p = profile::profile(d, index, hour);
-        return hydro_levels(d, index, p, costs::hydro::hydro_energy(d, index, p));
+    if level == 3 {
+        return costs::thermal::no_load_cost(d, index, p);
     }
-    hour_levels(d, index, hour)
+    costs::maintenance::adders(d, index, p, 4)
+}
+
+// A level without laminations at an hour, worked out by itself: the test of a single price needs no other.
+pub fn single_level(d: &[u8], index: &[u16], hour: u32, level: u8) -> u64
+    requires { ⌜ Indexed (now d) (now index) × (holds (technology (parametersIn (now d))) level ≡ true) × (2 ≤ level) × (level ≤ 4) ⌝ }
+    ensures { λ r. ⌜ r ≡ amountOf level (levels (now (d .entry)) hour) ⌝ }
+{
+    let p = profile::profile(d, index, hour);
+    let money = Money::from_sum(single_sum(d, index, p, level));
+    money.cents
 }
 
 // What a refused call shows.
@@ -183,6 +177,28 @@ fn no_levels() -> HourLevels
     }
 }
 
+// The levels of an accepted dossier at an hour, with their laminations.
+fn whole_levels(d: &[u8], index: &[u16], hour: u32) -> HourLevels
+    requires { ⌜ IsAccepted (now d) × Indexed (now d) (now index) ⌝ }
+    ensures { λ r. ⌜ r ≡ packed (technology (parametersIn (now (d .entry)))) (profile (parametersIn (now (d .entry))) hour) (levels (now (d .entry)) hour) ⌝ }
+{
+    let mut from = [0u64; 20];
+    let mut to = [0u64; 20];
+    let mut cents = [0u64; 20];
+    let lv = hour_levels(d, index, hour, &mut from, &mut to, &mut cents);
+    HourLevels {
+        technology: lv.technology,
+        profile: lv.profile,
+        count: lv.count,
+        from,
+        to,
+        cents,
+        start: lv.start,
+        noload: lv.noload,
+        reserve: lv.reserve,
+    }
+}
+
 // The answer to a dossier, with its levels at an hour where it is accepted; worked out in an empty index.
 fn levels_in(d: &[u8], index: &mut [u16], hour: u32) -> LevelsAnswer
     requires { ⌜ Empty (now index) ⌝ }
@@ -191,7 +207,7 @@ fn levels_in(d: &[u8], index: &mut [u16], hour: u32) -> LevelsAnswer
     match acceptance::judge(d, index) {
         Answer::Accepted => {
             let answer = Answer::Accepted;
-            let levels = hour_levels(d, index, hour);
+            let levels = whole_levels(d, index, hour);
             LevelsAnswer { answer, levels }
         }
         Answer::Refused { number, place } => {

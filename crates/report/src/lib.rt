@@ -15,7 +15,13 @@ fn report_in(d: &[u8], index: &mut [u16], hour: u32, buf: &mut [u8]) -> Written
     ensures buffer { λ r. ⌜ now (buf .exit) ≡ bufferAfter (now (d .entry)) hour (now (buf .entry)) ⌝ }
 {
     match acceptance::judge(d, index) {
-        Answer::Accepted => lines::put_report(buf, reference::hour_levels(d, index, hour)),
+        Answer::Accepted => {
+            let mut from = [0u64; 20];
+            let mut to = [0u64; 20];
+            let mut cents = [0u64; 20];
+            let lv = reference::hour_levels(d, index, hour, &mut from, &mut to, &mut cents);
+            lines::put_report(buf, lv, &from, &to, &cents)
+        }
         Answer::Refused { number, place } => Written::Refused { number, place },
     }
 }

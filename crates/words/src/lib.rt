@@ -5,11 +5,11 @@ ghost use mathlib.Core.List.{_++_};
 ghost use Prim.Native.Nat.{_≤_};
 ghost use lib.ListN.{length, take, drop, replicate};
 ghost use Rattle.lookup.specs.Parts.{Empty};
-ghost use Rattle.reference.specs.Packed.{inArrays};
+ghost use Rattle.reference.specs.Packed.{hourOf, inArrays};
 ghost use Rattle.words.specs.Words.{heldBits, Blank, wordsTo, wordsOf, wordsAnswer, wordsAfter};
 use lists::choose;
 use records::Answer;
-use reference::HourLevels;
+use reference::SingleLevels;
 use technology::level_held;
 
 // The levels that a technology holds, a bit each.
@@ -59,13 +59,19 @@ fn put_laminations<'a>(
     }
 }
 
-// All 66 words. The arrays are lent: levels handed on as a value would be copied once more.
-fn put_words(lv: HourLevels, words: &mut [u64])
-    requires { ⌜ (66 ≤ length (now words)) × Blank lv ⌝ }
-    ensures { λ r. ⌜ now (words .exit) ≡ wordsOf lv ++ drop 66 (now (words .entry)) ⌝ }
+// All 66 words.
+fn put_words<'a>(
+    lv: SingleLevels,
+    from: &'a [u64; 20],
+    to: &'a [u64; 20],
+    cents: &'a [u64; 20],
+    words: &mut [u64],
+)
+    requires { ⌜ (66 ≤ length (now words)) × Blank (hourOf lv (now from) (now to) (now cents)) ⌝ }
+    ensures { λ r. ⌜ now (words .exit) ≡ wordsOf (hourOf lv (now (from .entry)) (now (to .entry)) (now (cents .entry))) ++ drop 66 (now (words .entry)) ⌝ }
 {
     clear_words(words);
-    put_laminations(&lv.from, &lv.to, &lv.cents, lv.profile, lv.count, words);
+    put_laminations(from, to, cents, lv.profile, lv.count, words);
     words[62] = held_bits(lv.technology);
     words[63] = lv.start;
     words[64] = lv.noload;
@@ -85,7 +91,11 @@ fn levels_words_in(d: &[u8], index: &mut [u16], hour: u32, words: &mut [u64]) ->
                     place: 0,
                 };
             }
-            put_words(reference::hour_levels(d, index, hour), words);
+            let mut from = [0u64; 20];
+            let mut to = [0u64; 20];
+            let mut cents = [0u64; 20];
+            let lv = reference::hour_levels(d, index, hour, &mut from, &mut to, &mut cents);
+            put_words(lv, &from, &to, &cents, words);
             Answer::Accepted
         }
         Answer::Refused { number, place } => Answer::Refused { number, place },

@@ -1,14 +1,14 @@
 use borrow.Author.Needs.{needs}
-use mathlib.Core.Path.{_≡_, sym, ap, ap₂, _∙_}
+use mathlib.Core.Path.{_≡_, sym, ap₂, _∙_}
 use mathlib.Core.Bool.{false}
 use Prim.Native.Nat.{ℕ, _-_, _/_}
 use native.Mathlib.Omega.{arith}
 use lib.ListN.{length}
-use Rattle.reference.specs.Packed.{unpacked}
+use Rattle.reference.specs.Packed.{unpacked, inArrays}
 use Rattle.verdicts.specs.Test.{priceAt}
 use Rattle.limits.specs.Shapes.{failsAt, offerShown, leastOf}
 use Rattle.limits.proofs.Turns.{all-left}
-use Rattle.limits.proofs.Laminations.{told-by-arrays, pair-end, all-pass}
+use Rattle.limits.proofs.Laminations.{pair-end, all-pass}
 use Rattle.limits.proofs.rising_offer_test.Statement.{statement}
 use Rattle.limits.proofs.rising_offer_test.Tie as tie
 
@@ -16,7 +16,8 @@ returns : tie.Need-returns
 returns c =
     let a = c .before .before .args in
     let n = length (a .offer .now) / 6 in
-    pair-end (a .t) (unpacked (a .t1)) (a .offer .now) n 0 (omega (arith, c .if1 .taken)) ∙ all-left (offerShown (a .t) (unpacked (a .t1)) (a .offer .now) 0) n
+    let l = unpacked (inArrays (a .from .now) (a .to .now) (a .cents .now) 0 (a .count)) in
+    pair-end (a .t) l (a .offer .now) n 0 (omega (arith, c .if1 .taken)) ∙ all-left (offerShown (a .t) l (a .offer .now) 0) n
 
 least-level-requires : tie.Need-least-level-requires
 least-level-requires c κs = search needs
@@ -34,15 +35,13 @@ offer-test-requires : tie.Need-offer-test-requires
 offer-test-requires c κs = search needs
 
 returns-2 : tie.Need-returns-2
-returns-2 c =
-    let a = c .before .before .before .before .before .before .before .before .before .before .before .before .before .args in
-    c .offer-test .ensures ∙ told-by-arrays (a .t) (a .t1) (a .offer .now) 0 (length (a .offer .now) / 6)
+returns-2 c = search needs
 
 returns-3 : tie.Need-returns-3
 returns-3 c =
-    let b = c .before .before .before .before .before .before .before .before in
+    let b = c .before .before .before .before .before .before in
     let o = b .args .offer .now in
-    let r = b .args .t1 in
+    let r = inArrays (b .args .from .now) (b .args .to .now) (b .args .cents .now) 0 (b .args .count) in
     let e : failsAt (b .args .t) (priceAt o (length o / 6 - 1)) (leastOf (r .cents) (r .count)) ≡ false =
     ap₂ (λ (p x : ℕ). failsAt (b .args .t) p x) (sym (c .before .before .price-at .ensures .0)) (sym (c .before .before .before .least-level .ensures)) ∙ sym (c .before .fails .ensures) ∙ c .if2 .left
     in

@@ -6,7 +6,9 @@ use Prim.Native.Nat.{ℕ, _+_, _≤_}
 use native.Mathlib.Omega.{arith}
 use borrow.Author.Needs.{needs}
 use lib.ListN.{length}
-use Rattle.text.proofs.Over.{Wrote, then}
+use Rattle.text.proofs.Over.{then}
+use Rattle.reference.specs.declared.HourLevels.{HourLevels}
+use Rattle.reference.specs.Packed.{hourOf}
 use Rattle.lines.specs.Parts.{packedReport, otherLines}
 use Rattle.layout.specs.Report.{profileLine}
 use Rattle.lines.proofs.Fits.{put-none, put-whole}
@@ -14,19 +16,22 @@ use Rattle.lines.proofs.Levels.{linesInArrays, report-is, report-length
 use Rattle.lines.proofs.put_report.Statement.{statement}
 use Rattle.lines.proofs.put_report.Tie as tie
 
--- the three parts
+-- the levels, and the three parts of their report
+abbrev lv-of : tie.Start → HourLevels
+lv-of c = hourOf (c .args .lv) (c .args .from .now) (c .args .to .now) (c .args .cents .now)
+
 abbrev first-line : tie.Start → List ℕ
-first-line c = profileLine (c .args .t2 .profile)
+first-line c = profileLine (c .args .lv .profile)
 
 abbrev energy-lines : tie.Start → List ℕ
-energy-lines c = linesInArrays (c .args .t2)
+energy-lines c = linesInArrays (lv-of c)
 
 abbrev other-lines : tie.Start → List ℕ
-other-lines c = otherLines (c .args .t2 .technology) (c .args .t2 .start) (c .args .t2 .noload) (c .args .t2 .reserve)
+other-lines c = otherLines (c .args .lv .technology) (c .args .lv .start) (c .args .lv .noload) (c .args .lv .reserve)
 
 -- how long the parts are, together no longer than any report
-parts : (c : tie.Start) → (length (packedReport (c .args .t2)) ≡ length (first-line c) + length (energy-lines c) + length (other-lines c)) × (length (packedReport (c .args .t2)) ≤ 2283)
-parts c = (report-length (c .args .t2), report-within (c .args .t2) (c .pre))
+parts : (c : tie.Start) → (length (packedReport (lv-of c)) ≡ length (first-line c) + length (energy-lines c) + length (other-lines c)) × (length (packedReport (lv-of c)) ≤ 2283)
+parts c = (report-length (lv-of c), report-within (lv-of c) (c .pre))
 
 profile-line-len-requires : tie.Need-profile-line-len-requires
 profile-line-len-requires c κs = search needs
@@ -35,25 +40,25 @@ laminations-len-requires : tie.Need-laminations-len-requires
 laminations-len-requires c κs = search needs
 
 add-if2 : tie.Need-add-if2
-add-if2 c = omega (arith, parts (c .before .before .before .before .before .before .before .before))
+add-if2 c = omega (arith, parts (c .before .before .before .before))
 
 others-len-requires : tie.Need-others-len-requires
 others-len-requires c κs = search needs
 
 add-if2-2 : tie.Need-add-if2-2
-add-if2-2 c = omega (arith, parts (c .before .before .before .before .before .before .before .before .before))
+add-if2-2 c = omega (arith, parts (c .before .before .before .before .before))
 
 returns : tie.Need-returns
 returns c =
-    let s = c .before .before .before .before .before .before .before .before .before .before in
-    put-none (packedReport (s .args .t2)) (s .args .buf .now) (omega (arith, parts s, c .if2 .taken))
+    let s = c .before .before .before .before .before .before in
+    put-none (packedReport (lv-of s)) (s .args .buf .now) (omega (arith, parts s, c .if2 .taken))
 
 -- past the test there is room: the report was found to fit, or any would
 abbrev entry : tie.Joined1 → tie.Start
 entry c = c .before .before
 
-room : (c : tie.Joined1) → length (packedReport (entry c .args .t2)) ≤ length (entry c .args .buf .now)
-room c = ⊎-elim (λ w. omega (arith, parts (entry c), w .8 .left)) (λ w. omega (arith, parts (entry c), w .left)) (c .if1 .came)
+room : (c : tie.Joined1) → length (packedReport (lv-of (entry c))) ≤ length (entry c .args .buf .now)
+room c = ⊎-elim (λ w. omega (arith, parts (entry c), w .4 .left)) (λ w. omega (arith, parts (entry c), w .left)) (c .if1 .came)
 
 fits : (c : tie.Joined1) → length (first-line (entry c)) + length (energy-lines (entry c)) + length (other-lines (entry c)) ≤ length (entry c .args .buf .now)
 fits c = omega (arith, parts (entry c), room c)
@@ -63,7 +68,7 @@ abbrev first : tie.After-slice-known2 → tie.Joined1
 first c = c .before .before .before .before
 
 abbrev energy : tie.After-slice-known3 → tie.Joined1
-energy c = first (c .before .before .before .before .before .before .before .before)
+energy c = first (c .before .before .before .before)
 
 abbrev others : tie.After-slice-known4 → tie.Joined1
 others c = energy (c .before .before .before .before)
@@ -82,7 +87,7 @@ part-put-laminations-end c = search needs
 
 put-laminations-requires : tie.Need-put-laminations-requires
 put-laminations-requires c κs =
-    let c₁ = c .before .before .before .before .before in (entry (first c₁) .pre, omega (arith, fits (first c₁)))
+    let c₁ = c .before in (entry (first c₁) .pre, omega (arith, fits (first c₁)))
 
 add-b : tie.Need-add-b
 add-b c = omega (arith, fits (energy c))
@@ -99,8 +104,8 @@ part-put-others-end c = search needs
 put-others-requires : tie.Need-put-others-requires
 put-others-requires c κs = omega (arith, fits (energy (c .before)))
 
-add-t26 : tie.Need-add-t26
-add-t26 c = omega (arith, fits (others c))
+add-t28 : tie.Need-add-t28
+add-t28 c = omega (arith, fits (others c))
 
 same-length : tie.Need-same-length
 same-length c = search needs
@@ -108,12 +113,12 @@ same-length c = search needs
 returns-2 : tie.Need-returns-2
 returns-2 c =
     let c₂ = c .before .before .before .before in
-    let c₁ = c₂ .before .before .before .before .before .before .before .before in
+    let c₁ = c₂ .before .before .before .before in
     let s = entry (others c) in
     let e = s .args .buf .now in
     let two = then (first-line s) (energy-lines s) e (c₁ .before .before .put-profile-line .ensures) (c₂ .before .before .put-laminations .ensures) in
     let all = then (first-line s ++ energy-lines s) (other-lines s) e two (c .before .before .put-others .ensures) in
-    put-whole (packedReport (s .args .t2)) e (room (others c)) (rw (report-is (s .args .t2)) all)
+    put-whole (packedReport (lv-of s)) e (room (others c)) (rw (report-is (lv-of s)) all)
 
 pub put-report-spec : {M : Type 1} → statement M
 put-report-spec =
@@ -135,6 +140,6 @@ put-report-spec =
     part-put-others-start
     part-put-others-end
     put-others-requires
-    add-t26
+    add-t28
     same-length
     returns-2)

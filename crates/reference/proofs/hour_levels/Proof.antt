@@ -6,16 +6,16 @@ use Rattle.station.specs.Parameters.{parameters, technology}
 use Rattle.rules.proofs.Sound.{accepted-sound}
 use Rattle.support.proofs.Curve.{storage-window}
 use Rattle.reference.proofs.Accepted.{technology-low, hours-fit, places-fit}
-use Rattle.reference.proofs.Packed.{levels-packed}
+use Rattle.reference.proofs.Packed.{levels-packed, nuclear-packed, storage-packed, hydro-packed, one-handed}
 use Rattle.reference.proofs.hour_levels.Statement.{statement}
 use Rattle.reference.proofs.hour_levels.Tie as tie
 
 -- the station is of no other technology
-is-hydro : (c : tie.Else3) → technology (parameters (records (c .before .before .before .before .before .before .before .args .d .now))) ≡ 4
+is-hydro : (c : tie.Else3) → technology (parameters (records (c .before .before .before .before .before .before .before .before .before .before .before .args .d .now))) ≡ 4
 is-hydro c =
-    let t = c .before .before .before in
-    let a = t .before .before .before .before in
-    omega (arith, technology-low (accepted-sound (a .args .d .now) (a .pre .0) .1), t .technology .ensures .0, t .technology .ensures .1, c .if3 .left, c .before .if2 .left, c .before .before .if1 .left)
+    let t = c .before .before .before .before in
+    let a = t .before .before .before .before .before .before .before in
+    omega (arith, technology-low (accepted-sound (a .args .d .now) (a .pre .0) .1), t .technology .ensures .0, t .technology .ensures .1, c .if3 .left, c .before .before .if2 .left, c .before .before .before .if1 .left)
 
 profile-requires : tie.Need-profile-requires
 profile-requires c κs = search needs
@@ -24,52 +24,95 @@ technology-requires : tie.Need-technology-requires
 technology-requires c κs = search needs
 
 thermal-levels-requires : tie.Need-thermal-levels-requires
-thermal-levels-requires c κs =
-    let t = c .before in
-    let p = t .before in
-    (p .before .before .before .pre .1, p .profile .ensures .1, p .profile .ensures .2, sym (t .technology .ensures .0) ∙ c .if1 .taken)
+thermal-levels-requires c κs = search needs
+
+same-length : tie.Need-same-length
+same-length c = search needs
+
+same-length-2 : tie.Need-same-length-2
+same-length-2 c = search needs
+
+same-length-3 : tie.Need-same-length-3
+same-length-3 c = search needs
 
 returns : tie.Need-returns
-returns c = levels-packed _ _ (c .before .before .before .profile .ensures .0) (c .thermal-levels .ensures)
+returns c = levels-packed _ _ (c .before .before .before .before .before .before .before .before .before .before .before .before .profile .ensures .0) (c .before .before .before .before .before .before .thermal-levels .ensures)
 
-nuclear-levels-requires : tie.Need-nuclear-levels-requires
-nuclear-levels-requires c κs =
-    let t = c .before .before in
-    let p = t .before in
-    (p .before .before .before .pre .1, p .profile .ensures .1, p .profile .ensures .2, sym (t .technology .ensures .0) ∙ c .if2 .taken)
+nuclear-energy-requires : tie.Need-nuclear-energy-requires
+nuclear-energy-requires c κs = search needs
+
+one-lamination-requires : tie.Need-one-lamination-requires
+one-lamination-requires c κs = search needs
+
+same-length-4 : tie.Need-same-length-4
+same-length-4 c = search needs
+
+same-length-5 : tie.Need-same-length-5
+same-length-5 c = search needs
 
 returns-2 : tie.Need-returns-2
-returns-2 c = levels-packed _ _ (c .before .before .before .before .profile .ensures .0) (c .nuclear-levels .ensures)
+returns-2 c =
+    let l = c .before .before .before .before in
+    let n = l .before .before .before in
+    let t = n .before .before .before in
+    let a = t .before .before .before .before .before .before .before .pre in
+    levels-packed _ _ (t .before .profile .ensures .0)
+    (one-handed (l .one-lamination .ensures .0) (a .2) (l .one-lamination .ensures .1) (l .one-lamination .ensures .2)
+    (nuclear-packed _ _ _ (sym (t .technology .ensures .0) ∙ n .before .if2 .taken) (n .nuclear-energy .ensures)))
+
+adders-requires : tie.Need-adders-requires
+adders-requires c κs = search needs
 
 storage-energy-requires : tie.Need-storage-energy-requires
 storage-energy-requires c κs =
-    let t = c .before .before .before in
-    let p = t .before in
-    let a = p .before .before .before in
-    let e : technology (parameters (records (a .args .d .now))) ≡ 3 = sym (t .technology .ensures .0) ∙ c .if3 .taken in
+    let p = c .before .before .before .before .before in
+    let a = p .before .before .before .before .before .before in
+    let e : technology (parameters (records (a .args .d .now))) ≡ 3 = sym (c .before .before .before .before .technology .ensures .0) ∙ c .if3 .taken in
     (a .pre .1, p .profile .ensures .1, p .profile .ensures .2, hours-fit (accepted-sound (a .args .d .now) (a .pre .0) .1) e, storage-window _ _ (a .pre .1) e)
 
-storage-levels-requires : tie.Need-storage-levels-requires
-storage-levels-requires c κs =
-    let t = c .before .before .before .before in
-    let p = t .before in
-    (p .before .before .before .pre .1, p .profile .ensures .1, p .profile .ensures .2, sym (t .technology .ensures .0) ∙ c .before .if3 .taken, c .storage-energy .ensures)
+one-lamination-requires-2 : tie.Need-one-lamination-requires-2
+one-lamination-requires-2 c κs = search needs
+
+same-length-6 : tie.Need-same-length-6
+same-length-6 c = search needs
+
+same-length-7 : tie.Need-same-length-7
+same-length-7 c = search needs
 
 returns-3 : tie.Need-returns-3
-returns-3 c = levels-packed _ _ (c .before .before .before .before .before .before .profile .ensures .0) (c .storage-levels .ensures)
+returns-3 c =
+    let l = c .before .before .before .before in
+    let n = l .before .before .before in
+    let t = n .before .before .before .before .before in
+    let a = t .before .before .before .before .before .before .before .pre in
+    levels-packed _ _ (t .before .profile .ensures .0)
+    (one-handed (l .one-lamination2 .ensures .0) (a .2) (l .one-lamination2 .ensures .1) (l .one-lamination2 .ensures .2)
+    (storage-packed _ _ _ (sym (t .technology .ensures .0) ∙ n .before .if3 .taken) (n .storage-energy .ensures) (n .before .before .adders .ensures .0)))
 
 hydro-energy-requires : tie.Need-hydro-energy-requires
 hydro-energy-requires c κs =
-    let a = c .before .before .before .before .before .before .before in
-    (a .pre .1, c .before .before .before .before .profile .ensures .1, c .before .before .before .before .profile .ensures .2, places-fit (accepted-sound (a .args .d .now) (a .pre .0) .1) (is-hydro c))
-
-hydro-levels-requires : tie.Need-hydro-levels-requires
-hydro-levels-requires c κs =
     let p = c .before .before .before .before .before in
-    (p .before .before .before .pre .1, p .profile .ensures .1, p .profile .ensures .2, is-hydro (c .before), c .hydro-energy .ensures)
+    let a = p .before .before .before .before .before .before in
+    (a .pre .1, p .profile .ensures .1, p .profile .ensures .2, places-fit (accepted-sound (a .args .d .now) (a .pre .0) .1) (is-hydro c))
+
+one-lamination-requires-3 : tie.Need-one-lamination-requires-3
+one-lamination-requires-3 c κs = search needs
+
+same-length-8 : tie.Need-same-length-8
+same-length-8 c = search needs
+
+same-length-9 : tie.Need-same-length-9
+same-length-9 c = search needs
 
 returns-4 : tie.Need-returns-4
-returns-4 c = levels-packed _ _ (c .before .before .before .before .before .before .profile .ensures .0) (c .hydro-levels .ensures)
+returns-4 c =
+    let l = c .before .before .before .before in
+    let n = l .before .before .before in
+    let t = n .before .before .before .before .before in
+    let a = t .before .before .before .before .before .before .before .pre in
+    levels-packed _ _ (t .before .profile .ensures .0)
+    (one-handed (l .one-lamination3 .ensures .0) (a .2) (l .one-lamination3 .ensures .1) (l .one-lamination3 .ensures .2)
+    (hydro-packed _ _ _ (is-hydro (n .before)) (n .hydro-energy .ensures) (n .before .before .adders .ensures .0)))
 
 pub hour-levels-spec : {M : Type 1} → statement M
 hour-levels-spec =
@@ -78,12 +121,23 @@ hour-levels-spec =
     profile-requires
     technology-requires
     thermal-levels-requires
+    same-length
+    same-length-2
+    same-length-3
     returns
-    nuclear-levels-requires
+    nuclear-energy-requires
+    one-lamination-requires
+    same-length-4
+    same-length-5
     returns-2
+    adders-requires
     storage-energy-requires
-    storage-levels-requires
+    one-lamination-requires-2
+    same-length-6
+    same-length-7
     returns-3
     hydro-energy-requires
-    hydro-levels-requires
+    one-lamination-requires-3
+    same-length-8
+    same-length-9
     returns-4)

@@ -10,8 +10,8 @@ judge-requires c κs = search needs
 enum-told : tie.Need-enum-told
 enum-told c = search needs
 
-hour-levels-requires : tie.Need-hour-levels-requires
-hour-levels-requires c κs =
+whole-levels-requires : tie.Need-whole-levels-requires
+whole-levels-requires c κs =
     let told = c .before .enum-told .given .1 in
     let j = c .before .before .before .before .before in
     (record { clean = sym (j .judge .ensures .0) ∙ told }, j .judge .ensures .1 told)
@@ -28,7 +28,7 @@ same-length c = search needs
 returns : tie.Need-returns
 returns c =
     let j = c .before .before .before .before .before .before in
-    levels-accepted _ _ (sym (j .judge .ensures .0) ∙ c .before .before .enum-told .given .1) (c .hour-levels .ensures)
+    levels-accepted _ _ (sym (j .judge .ensures .0) ∙ c .before .before .enum-told .given .1) (c .whole-levels .ensures)
 
 same-length-2 : tie.Need-same-length-2
 same-length-2 c = search needs
@@ -44,7 +44,7 @@ levels-in-spec =
     (tie.spec
     judge-requires
     enum-told
-    hour-levels-requires
+    whole-levels-requires
     enum-known-number
     no-levels-requires
     same-length

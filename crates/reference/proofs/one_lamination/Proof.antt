@@ -1,18 +1,48 @@
 use borrow.Author.Needs.{needs}
-use mathlib.Core.Path.{refl}
-use Rattle.reference.specs.Packed.{padded}
+use mathlib.Core.Path.{ap}
+use Prim.Native.Nat.{ℕ}
+use native.Mathlib.Omega.{arith}
+use Rattle.reference.specs.Packed.{singleLevels}
+use Rattle.reference.proofs.Packed.{twenty, first-set}
 use Rattle.reference.proofs.one_lamination.Statement.{statement}
 use Rattle.reference.proofs.one_lamination.Tie as tie
 
-array-write-to : tie.Need-array-write-to
-array-write-to c = search needs
+from-sum-requires : tie.Need-from-sum-requires
+from-sum-requires c κs = search needs
 
-array-write-cents : tie.Need-array-write-cents
-array-write-cents c = search needs
+from-sum-requires-2 : tie.Need-from-sum-requires-2
+from-sum-requires-2 c κs = search needs
+
+capacity-requires : tie.Need-capacity-requires
+capacity-requires c κs = search needs
+
+slice-write-to : tie.Need-slice-write-to
+slice-write-to c = omega (arith, twenty (c .before .before .before .before .before .before .before .pre .1))
+
+slice-write-cents : tie.Need-slice-write-cents
+slice-write-cents c = omega (arith, twenty (c .before .before .before .before .before .before .before .pre .2))
+
+same-length : tie.Need-same-length
+same-length c = search needs
+
+same-length-2 : tie.Need-same-length-2
+same-length-2 c = search needs
 
 returns : tie.Need-returns
-unfolding padded
-returns c = refl
+returns c =
+    let a = c .before .before .before .before .before .before .before .args in
+    let p = c .before .before .before .before .before .before .before .pre in
+    (ap (λ (x : ℕ). singleLevels (a .technology) (a .p) 1 0 0 x) (c .before .from-sum2 .ensures), first-set (p .1) (c .capacity .ensures .0), first-set (p .2) (c .before .before .from-sum .ensures))
 
 pub one-lamination-spec : {M : Type 1} → statement M
-one-lamination-spec = tie.close (tie.spec array-write-to array-write-cents returns)
+one-lamination-spec =
+    tie.close
+    (tie.spec
+    from-sum-requires
+    from-sum-requires-2
+    capacity-requires
+    slice-write-to
+    slice-write-cents
+    same-length
+    same-length-2
+    returns)

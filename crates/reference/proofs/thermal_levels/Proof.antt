@@ -8,15 +8,6 @@ use Rattle.reference.proofs.thermal_levels.Tie as tie
 lamination-count-requires : tie.Need-lamination-count-requires
 lamination-count-requires c κs = search needs
 
-slice-aggregate-laminations : tie.Need-slice-aggregate-laminations
-slice-aggregate-laminations c = search needs
-
-slice-aggregate-laminations-2 : tie.Need-slice-aggregate-laminations-2
-slice-aggregate-laminations-2 c = search needs
-
-slice-aggregate-laminations-3 : tie.Need-slice-aggregate-laminations-3
-slice-aggregate-laminations-3 c = search needs
-
 laminations-requires : tie.Need-laminations-requires
 laminations-requires c κs = search needs
 
@@ -38,13 +29,22 @@ adders-requires c κs = search needs
 from-sum-requires-3 : tie.Need-from-sum-requires-3
 from-sum-requires-3 c κs = search needs
 
+same-length : tie.Need-same-length
+same-length c = search needs
+
+same-length-2 : tie.Need-same-length-2
+same-length-2 c = search needs
+
+same-length-3 : tie.Need-same-length-3
+same-length-3 c = search needs
+
 returns : tie.Need-returns
 returns c =
     let n = c .before .before .before in
     let s = n .before .before in
-    let l = s .before .before .before .before in
+    let l = s .before .before .before .before .before .before .before in
     let k = l .before .before .before .before in
-    thermal-packed _ _ _ (k .before .before .before .pre .3) refl (k .lamination-count .ensures .0)
+    thermal-packed _ _ _ (k .before .before .before .before .before .before .pre .3) refl (k .lamination-count .ensures .0)
     (l .laminations .ensures .0) (l .laminations .ensures .1) (l .laminations .ensures .2)
     (n .before .from-sum .ensures ∙ ap cents (s .start-cost .ensures))
     (c .before .before .from-sum2 .ensures ∙ ap cents (n .no-load-cost .ensures))
@@ -55,9 +55,6 @@ thermal-levels-spec =
     tie.close
     (tie.spec
     lamination-count-requires
-    slice-aggregate-laminations
-    slice-aggregate-laminations-2
-    slice-aggregate-laminations-3
     laminations-requires
     start-cost-requires
     from-sum-requires
@@ -65,4 +62,7 @@ thermal-levels-spec =
     from-sum-requires-2
     adders-requires
     from-sum-requires-3
+    same-length
+    same-length-2
+    same-length-3
     returns)

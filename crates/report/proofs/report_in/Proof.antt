@@ -1,5 +1,5 @@
 -- `report::report_in` meets its contract.
-use mathlib.Core.Path.{_≡_, sym, _∙_}
+use mathlib.Core.Path.{_≡_, refl, sym, _∙_}
 use borrow.Author.Needs.{needs}
 use Rattle.records.specs.declared.Answer.{Answer}
 use Rattle.rules.specs.Answer.{answer}
@@ -18,15 +18,25 @@ enum-told c = search needs
 answer-is : (c : tie.After-judge) {a : Answer} → c .judge .result ≡ a → answer (c .before .before .before .before .before .args .d .now) ≡ a
 answer-is c e = sym (c .judge .ensures .0) ∙ e
 
+slice-aggregate-hour-levels : tie.Need-slice-aggregate-hour-levels
+slice-aggregate-hour-levels c = search needs
+
+slice-aggregate-hour-levels-2 : tie.Need-slice-aggregate-hour-levels-2
+slice-aggregate-hour-levels-2 c = search needs
+
+slice-aggregate-hour-levels-3 : tie.Need-slice-aggregate-hour-levels-3
+slice-aggregate-hour-levels-3 c = search needs
+
 hour-levels-requires : tie.Need-hour-levels-requires
 hour-levels-requires c κs =
-    let j = c .before .before .before .before .before .before in
-    let e = c .before .before .enum-told .given .1 in (record { clean = answer-is j e }, j .judge .ensures .1 e)
+    let j = c .before .before .before .before .before .before .before .before in
+    let e = c .before .before .before .before .enum-told .given .1 in (record { clean = answer-is j e }, j .judge .ensures .1 e, refl, refl, refl)
 
 put-report-requires : tie.Need-put-report-requires
 put-report-requires c κs =
-    let args = c .before .before .before .before .before .before .before .before .before .before .before .before .args in
-    handed-count (args .d .now) (args .hour) (c .hour-levels .result) (c .hour-levels .ensures)
+    let l = c .before .before .before .before .before .before .before in
+    let args = l .before .before .before .before .before .before .before .before .before .before .before .before .before .before .args in
+    handed-count (args .d .now) (args .hour) _ (l .hour-levels .ensures)
 
 enum-known-number : tie.Need-enum-known-number
 enum-known-number c = search needs
@@ -39,12 +49,12 @@ same-length-2 c = search needs
 
 returns : tie.Need-returns
 returns c =
-    let l = c .before .before .before in
-    let j = l .before .before .before .before .before .before .before in
+    let l = c .before .before .before .before .before .before .before .before .before .before in
+    let j = l .before .before .before .before .before .before .before .before .before in
     let args = j .before .before .before .before .before .args in
-    let r = l .hour-levels .result in
-    told-levels (args .d .now) (args .hour) (args .buf .now) r (answer-is j (l .before .before .before .enum-told .given .1))
-    (packed-is (args .d .now) (args .hour) r (handed-shown (args .d .now) (args .hour) r (l .hour-levels .ensures)) (handed-profile (args .d .now) (args .hour) r (l .hour-levels .ensures))) (c .before .before .put-report .ensures)
+    let e = l .hour-levels .ensures in
+    told-levels (args .d .now) (args .hour) (args .buf .now) _ (answer-is j (l .before .before .before .before .before .enum-told .given .1))
+    (packed-is (args .d .now) (args .hour) _ (handed-shown (args .d .now) (args .hour) _ e) (handed-profile (args .d .now) (args .hour) _ e)) (c .before .before .put-report .ensures)
 
 same-length-3 : tie.Need-same-length-3
 same-length-3 c = search needs
@@ -61,6 +71,9 @@ report-in-spec =
     (tie.spec
     judge-requires
     enum-told
+    slice-aggregate-hour-levels
+    slice-aggregate-hour-levels-2
+    slice-aggregate-hour-levels-3
     hour-levels-requires
     put-report-requires
     enum-known-number

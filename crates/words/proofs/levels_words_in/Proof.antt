@@ -1,5 +1,5 @@
 -- `words::levels_words_in` meets its contract.
-use mathlib.Core.Path.{_≡_, sym, _∙_}
+use mathlib.Core.Path.{_≡_, refl, sym, _∙_}
 use borrow.Author.Needs.{needs}
 use Rattle.records.specs.declared.Answer.{Answer}
 use Rattle.rules.specs.Answer.{answer}
@@ -26,15 +26,25 @@ returns c =
     let args = j .before .before .before .before .before .args in
     told-few (args .d .now) (args .hour) (args .words .now) (answer-is j (c .before .enum-told .given .1)) (c .if1 .taken)
 
+slice-aggregate-hour-levels : tie.Need-slice-aggregate-hour-levels
+slice-aggregate-hour-levels c = search needs
+
+slice-aggregate-hour-levels-2 : tie.Need-slice-aggregate-hour-levels-2
+slice-aggregate-hour-levels-2 c = search needs
+
+slice-aggregate-hour-levels-3 : tie.Need-slice-aggregate-hour-levels-3
+slice-aggregate-hour-levels-3 c = search needs
+
 hour-levels-requires : tie.Need-hour-levels-requires
 hour-levels-requires c κs =
-    let j = c .before .before .before .before .before .before in
-    let e = c .before .before .enum-told .given .1 in (record { clean = answer-is j e }, j .judge .ensures .1 e)
+    let j = c .before .before .before .before .before .before .before .before .before in
+    let e = c .before .before .before .before .before .enum-told .given .1 in (record { clean = answer-is j e }, j .judge .ensures .1 e, refl, refl, refl)
 
 put-words-requires : tie.Need-put-words-requires
 put-words-requires c κs =
-    let a = c .before .before .before .before .before .before .before .before .before .before .before .before .before .args in
-    (search needs, handed-blank (a .d .now) (a .hour) (c .before .hour-levels .ensures))
+    let l = c .before .before .before .before .before .before .before in
+    let a = l .before .before .before .before .before .before .before .before .before .before .before .before .before .before .before .args in
+    (search needs, handed-blank (a .d .now) (a .hour) (l .hour-levels .ensures))
 
 enum-known-number : tie.Need-enum-known-number
 enum-known-number c = search needs
@@ -47,10 +57,10 @@ same-length-3 c = search needs
 
 returns-2 : tie.Need-returns-2
 returns-2 c =
-    let l = c .before .before .before .before in
-    let j = l .before .before .before .before .before .before .before in
+    let l = c .before .before .before .before .before .before .before .before .before .before in
+    let j = l .before .before .before .before .before .before .before .before .before .before in
     let args = j .before .before .before .before .before .args in
-    told-words (args .d .now) (args .hour) (args .words .now) (l .hour-levels .result) (answer-is j (l .before .before .before .enum-told .given .1)) (l .before .before .if1 .left)
+    told-words (args .d .now) (args .hour) (args .words .now) _ (answer-is j (l .before .before .before .before .before .before .enum-told .given .1)) (l .before .before .before .before .before .if1 .left)
     (l .hour-levels .ensures) (c .before .before .put-words .ensures)
 
 same-length-4 : tie.Need-same-length-4
@@ -70,6 +80,9 @@ levels-words-in-spec =
     enum-told
     same-length
     returns
+    slice-aggregate-hour-levels
+    slice-aggregate-hour-levels-2
+    slice-aggregate-hour-levels-3
     hour-levels-requires
     put-words-requires
     enum-known-number

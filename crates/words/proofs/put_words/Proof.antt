@@ -6,6 +6,7 @@ use native.Mathlib.Omega.{arith}
 use borrow.Author.Needs.{needs}
 use lib.ListN.{length, take, drop, set, length-set}
 use Rattle.reference.specs.declared.HourLevels.{HourLevels}
+use Rattle.reference.specs.Packed.{hourOf}
 use Rattle.words.specs.Words.{wordsTo}
 use Rattle.words.proofs.Stores.{within, placed, placed-length, last-words}
 use Rattle.words.proofs.put_words.Statement.{statement}
@@ -15,8 +16,8 @@ clear-words-requires : tie.Need-clear-words-requires
 clear-words-requires c κs = omega (arith, c .before .before .pre .0)
 
 -- back to the function's entry from before the laminations are put, and from behind them
-abbrev entry : tie.After-put-laminations-arg4 → tie.Start
-entry c = c .before .before .before .before .before .before .before .before .before .before
+abbrev entry : tie.After-put-laminations-arg → tie.Start
+entry c = c .before .before .before .before .before .before
 
 abbrev start : tie.After-held-bits → tie.Start
 start c = entry (c .before .before .before .before)
@@ -24,14 +25,14 @@ start c = entry (c .before .before .before .before)
 put-laminations-requires : tie.Need-put-laminations-requires
 put-laminations-requires c κs =
     let h = entry c .pre .1 in
-    (omega (arith, entry c .pre .0), ap (take 62) (c .before .before .before .before .before .before .before .clear-words .ensures), record { few = h .few; none = h .none })
+    (omega (arith, entry c .pre .0), ap (take 62) (c .before .before .before .clear-words .ensures), record { few = h .few; none = h .none })
 
 held-bits-requires : tie.Need-held-bits-requires
 held-bits-requires c κs = search needs
 
 -- what the function was given
 abbrev lv-of : tie.After-held-bits → HourLevels
-lv-of c = start c .args .t1
+lv-of c = hourOf (start c .args .lv) (start c .args .from .now) (start c .args .to .now) (start c .args .cents .now)
 
 abbrev given : tie.After-held-bits → List ℕ
 given c = start c .args .words .now
@@ -62,7 +63,7 @@ slice-write-words-4 c = within (words-2 c) 64 _ (within (words-1 c) 63 _ (within
 stands : (c : tie.After-held-bits) → words-0 c ≡ wordsTo (lv-of c) 20 ++ drop 62 (given c)
 stands c =
     let p = c .before .before .before in
-    placed (lv-of c) (given c) (p .before .before .before .before .before .before .before .before .clear-words .ensures) (p .put-laminations .ensures)
+    placed (lv-of c) (given c) (p .before .before .before .before .clear-words .ensures) (p .put-laminations .ensures)
 
 same-length : tie.Need-same-length
 same-length c =
