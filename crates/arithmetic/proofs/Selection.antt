@@ -103,6 +103,12 @@ unfolding inTurn
 topmost-in a done p = p
 topmost-in a (also {a = x} h e) p = topmost-in (max a x) e (record { low = omega (arith, p .low); high = omega (arith, h .high, p .high) })
 
+-- where all may be above, the lowest is a threshold
+pub threshold-lowest : (n most v a : ℕ) (l : List ℕ) → n ≤ length l → length l ≤ most → v ≤ inTurn min a l → Threshold n most v l
+threshold-lowest n most v a l p q h =
+    let e = all-least v a l h in
+    record { few = omega (arith, above-least v l); enough = omega arith }
+
 -- ---- the sum of the n highest
 
 no-excess : (v : ℕ) (l : List ℕ) → above v l ≤ 0 → excess v l ≡ 0

@@ -1,7 +1,7 @@
 // The highest of some prices, by a price that parts them from the others: it is found by halving the range that they lie in.
 ghost use mathlib.Core.Path.{_≡_};
-ghost use Prim.Native.Nat.{_+_, _*_, _-_, _≤_, _<_, max, min};
-ghost use lib.ListN.{length, drop};
+ghost use Prim.Native.Nat.{_+_, _*_, _≤_, max, min};
+ghost use lib.ListN.{length};
 ghost use Rattle.lists.specs.Lists.{Each};
 ghost use Rattle.formulas.specs.Sums.{sumHighest, fromTop, above, atLeast};
 ghost use Rattle.arithmetic.specs.Highest.{excess, inTurn, Threshold, PriceIn};
@@ -50,42 +50,16 @@ fn topmost(s: &[u32], price: u32) -> u32
     top
 }
 
-// How many from place `from` up to place `to` are above v: at most 65,536, which 32 bits count, so that the compiler takes four at a time.
-fn above_part(s: &[u32], v: u32, from: usize, to: usize) -> u32
-    requires { ⌜ (from ≤ to) × (to ≤ length (now s)) × (to ≤ from + 65536) ⌝ }
-    ensures { λ r. ⌜ (r + above v (drop to (now (s .entry))) ≡ above v (drop from (now (s .entry)))) × (r ≤ to - from) ⌝ }
-{
-    let mut n = 0u32;
-    let mut k = from;
-    while k < to {
-        n += (v < s[k]) as u32;
-        k += 1;
-    }
-    n
-}
-
-// Where such a part ends.
-fn part_end(from: usize, len: usize) -> usize
-    requires { ⌜ from < len ⌝ }
-    ensures { λ r. ⌜ (from < r) × (r ≤ len) × (r ≤ from + 65536) ⌝ }
-{
-    if len - from < 65536 {
-        len
-    } else {
-        from + 65536
-    }
-}
-
-// How many are above v.
-fn above(s: &[u32], v: u32) -> usize
+// How many are above v: at most 65,536, which 32 bits count, so that the compiler takes four at a time.
+fn above(s: &[u32], v: u32) -> u32
+    requires { ⌜ length (now s) ≤ 65536 ⌝ }
     ensures { λ r. ⌜ r ≡ above v (now (s .entry)) ⌝ }
 {
-    let mut n = 0;
+    let mut n = 0u32;
     let mut k = 0;
     while k < s.len() {
-        let end = part_end(k, s.len());
-        n += above_part(s, v, k, end) as usize;
-        k = end;
+        n += (v < s[k]) as u32;
+        k += 1;
     }
     n
 }
@@ -106,14 +80,14 @@ fn excess(s: &[u32], v: u32) -> u64
 
 // A threshold of the n highest with no more than `most` above it, between two that lie on either side of it. Any is as good as another, so that the halving stops at the first middle that is one.
 fn threshold(s: &[u32], n: usize, most: usize, low: u32, high: u32) -> u32
-    requires { ⌜ (n ≤ most + 1) × (low ≤ high) × (n ≤ atLeast low (now s)) × (above high (now s) ≤ most) ⌝ }
+    requires { ⌜ (length (now s) ≤ 65536) × (n ≤ most + 1) × (low ≤ high) × (n ≤ atLeast low (now s)) × (above high (now s) ≤ most) ⌝ }
     ensures { λ r. ⌜ Threshold n most r (now (s .entry)) × (low ≤ r) × (r ≤ high) ⌝ }
 {
     let mut lo = low;
     let mut hi = high;
     while lo < hi {
         let mid = lo + (hi - lo) / 2;
-        let count = above(s, mid);
+        let count = above(s, mid) as usize;
         if most < count {
             lo = mid + 1;
         } else if count < n {
@@ -127,10 +101,14 @@ fn threshold(s: &[u32], n: usize, most: usize, low: u32, high: u32) -> u32
 
 // Such a threshold of prices that may lie anywhere in their range.
 fn price_threshold(s: &[u32], n: usize, most: usize) -> u32
-    requires { ⌜ (n ≤ most + 1) × (n ≤ length (now s)) × Each PriceIn (now s) ⌝ }
+    requires { ⌜ (n ≤ most + 1) × (n ≤ length (now s)) × (length (now s) ≤ 65536) × Each PriceIn (now s) ⌝ }
     ensures { λ r. ⌜ Threshold n most r (now (s .entry)) × (2147283648 ≤ r) × (r ≤ 2147683648) ⌝ }
 {
     let low = lowest(s, HIGHEST);
+    // where all are among the highest, the lowest parts them
+    if s.len() <= most {
+        return low;
+    }
     let high = topmost(s, low);
     threshold(s, n, most, low, high)
 }
@@ -146,7 +124,7 @@ pub fn highest(s: &[u32], n: usize) -> u64
 
 // The n-th from the top, repeated prices counted each: it is the only threshold with fewer than n above it.
 pub fn from_top(s: &[u32], n: usize) -> u32
-    requires { ⌜ (1 ≤ n) × (n ≤ length (now s)) × Each PriceIn (now s) ⌝ }
+    requires { ⌜ (1 ≤ n) × (n ≤ length (now s)) × (length (now s) ≤ 65536) × Each PriceIn (now s) ⌝ }
     ensures { λ r. ⌜ (r ≡ fromTop n (now (s .entry))) × (2147283648 ≤ r) × (r ≤ 2147683648) ⌝ }
 {
     price_threshold(s, n, n - 1)

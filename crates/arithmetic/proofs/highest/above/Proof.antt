@@ -1,10 +1,13 @@
 use borrow.Author.Needs.{needs}
 use mathlib.Core.Path.{_≡_}
+use mathlib.Core.Bool.{Bool}
 use Prim.Native.Nat.{_+_, _≤_, _-_}
 use native.Mathlib.Omega.{arith}
-use lib.ListN.{length, drop}
+use lib.Dec.{ltb}
+use lib.ListN.{length, getD, drop}
 use Rattle.formulas.specs.Sums.{above}
-use Rattle.arithmetic.proofs.Selection.{sum-end}
+use Rattle.formulas.proofs.Sums.{one-if, one-high}
+use Rattle.arithmetic.proofs.Selection.{sum-turn, sum-end}
 use Rattle.arithmetic.proofs.highest.above.Statement.{statement}
 use Rattle.arithmetic.proofs.highest.above.Tie as tie
 
@@ -17,26 +20,36 @@ abbrev μ-loop : tie.MeasureT-loop
 loop-holds : tie.Need-loop-holds Inv-loop μ-loop
 loop-holds c = (search needs, search needs, omega arith)
 
-part-end-requires : tie.Need-part-end-requires Inv-loop μ-loop
-part-end-requires c κs = search needs
+mul-n : tie.Need-mul-n Inv-loop μ-loop
+mul-n c = search needs
 
-above-part-requires : tie.Need-above-part-requires Inv-loop μ-loop
-above-part-requires c κs = (omega arith, omega arith, omega arith)
+shared-slice-read-n : tie.Need-shared-slice-read-n Inv-loop μ-loop
+shared-slice-read-n c = search needs
+
+test : tie.After-shared-slice-known Inv-loop μ-loop → Bool
+test c = ltb (c .before .before .before .args .v) (getD (c .before .before .before .args .s .now) (c .before .before .loop .k) 0)
 
 cast-n : tie.Need-cast-n Inv-loop μ-loop
-cast-n c = search needs
+cast-n c = tt
 
 add-n : tie.Need-add-n Inv-loop μ-loop
-add-n c = omega arith
+unfolding test
+add-n c = omega (arith, one-high (test c))
+
+add-k : tie.Need-add-k Inv-loop μ-loop
+add-k c = omega arith
 
 loop-less : tie.Need-loop-less Inv-loop μ-loop
 loop-less c = omega arith
 
 loop-again : tie.Need-loop-again Inv-loop μ-loop
-loop-again c = (omega arith, omega arith, omega (arith, c .above-part .ensures .0))
+unfolding test
+loop-again c =
+    let i = c .before .before in
+    (omega arith, omega (arith, one-high (test c)), sum-turn _ (i .before .args .s .now) (i .loop .k) _ _ _ (c .before .loop-test .taken) (i .loop .inv .2) (one-if (test c)))
 
 returns : tie.Need-returns Inv-loop μ-loop
-returns c = sum-end _ (c .before .before .before .args .s .now) _ _ _ (c .loop-test .left) (c .before .loop .inv .2)
+returns c = sum-end _ (c .before .before .args .s .now) _ _ _ (c .loop-test .left) (c .before .loop .inv .2)
 
 pub above-spec : {M : Type 1} → statement M
 above-spec =
@@ -45,10 +58,11 @@ above-spec =
     Inv-loop
     μ-loop
     loop-holds
-    part-end-requires
-    above-part-requires
+    mul-n
+    shared-slice-read-n
     cast-n
     add-n
+    add-k
     loop-less
     loop-again
     returns)

@@ -24,6 +24,9 @@ add-mid c = search needs
 above-requires : tie.Need-above-requires Inv-loop μ-loop
 above-requires c κs = search needs
 
+cast-count : tie.Need-cast-count Inv-loop μ-loop
+cast-count c = search needs
+
 add-lo : tie.Need-add-lo Inv-loop μ-loop
 add-lo c = omega arith
 
@@ -64,6 +67,7 @@ threshold-spec =
     sub-mid
     add-mid
     above-requires
+    cast-count
     add-lo
     loop-less
     loop-again

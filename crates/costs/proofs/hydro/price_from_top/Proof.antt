@@ -42,7 +42,7 @@ from-top-requires c κs =
     let p = c .before .before .before in
     let a = p .before .before .before .before in
     let r = prices-ready 4000 (placePrice (amounts (records (a .args .d .now)))) (prices-of p) (a .args .places) (a .pre .2) (p .prices .ensures) (place-in (clean (a .pre .0))) in
-    (a .pre .3, omega (arith, r .0, a .pre .4), r .1)
+    (a .pre .3, omega (arith, r .0, a .pre .4), omega (arith, r .0, a .pre .2), r .1)
 
 returns : tie.Need-returns
 unfolding prices-of
