@@ -6,9 +6,9 @@ use Prim.Native.Nat.{ℕ, suc, _+_, _-_, _*_, _≤_, _<_}
 use native.Mathlib.Omega.{arith}
 use lib.Dec.{ltb, eqb}
 use lib.ListN.{length, getD, take, drop}
-use borrow.Author.Tests.{eqb-true, eq-eqb, ne-eqb, ltb-false}
+use borrow.Author.Tests.{eq-eqb, ne-eqb, ltb-false}
 use Rattle.lists.specs.Tests.{allBelow}
-use Rattle.lists.proofs.Tests.{below-at, or-false-right}
+use Rattle.lists.proofs.Tests.{or-false-right}
 use Rattle.fields.specs.Numbers.{number}
 use Rattle.fields.proofs.Numbers.{number-nil}
 use Rattle.records.specs.Table.{table, rowOf, CH, LC}
@@ -20,7 +20,7 @@ use Rattle.station.proofs.Fields.{chargeEnergy-at, lastCost-at}
 use Rattle.index.specs.Slots.{slot, narrow, slotsEmpty}
 use Rattle.index.proofs.Slots.{slot-narrow}
 use Rattle.lookup.specs.Parts.{part, bytesOf, placeAt, partAt, plain, Indexed}
-use Rattle.lookup.proofs.Parts.{current-none, slot-tells, part-current, interval-key}
+use Rattle.lookup.proofs.Parts.{current-in-empty, slot-tells, part-current, interval-key}
 use Rattle.lookup.proofs.Guess.{plain-none}
 use Rattle.formulas.specs.Sums.{sumTo}
 use Rattle.formulas.specs.Exact.{microDollars}
@@ -59,11 +59,11 @@ one-empty ix j e =
     rw (w, e) refl
 
 module _ {d ix : List ℕ} (h : Indexed d ix) (roomy : narrow ≤ length ix) where
-  -- an interval whose slot is empty has no record, so no energy
-  uncharged : (n : ℕ) → 1 ≤ n → n ≤ 2016 → getD ix (slot CH n) 0 ≡ 0 → chargeEnergy (parametersIn d) n ≡ 0
-  uncharged n a b e =
+  -- an interval whose slot lies in an empty range has no record, so no energy
+  uncharged : (n j m : ℕ) → 1 ≤ n → n ≤ 2016 → slotsEmpty ix j m ≡ true → j ≤ slot CH n → slot CH n < j + m → chargeEnergy (parametersIn d) n ≡ 0
+  uncharged n j m a b e p q =
       chargeEnergy-at (records d) n
-      ∙ ap (number 12 4) (current-none d ix h CH n (interval-key n a b) (omega (arith, roomy, slot-narrow CH n (interval-key n a b) refl)) e)
+      ∙ ap (number 12 4) (current-in-empty d ix h CH n (interval-key n a b) (omega (arith, roomy, slot-narrow CH n (interval-key n a b) refl)) j m e p q)
       ∙ number-nil 12 4
 
   -- one whose slot is not has its record where the slot says
@@ -76,11 +76,8 @@ module _ {d ix : List ℕ} (h : Indexed d ix) (roomy : narrow ≤ length ix) whe
 
   module _ (n m : ℕ) {j : ℕ} (first : j ≡ slot CH (n + 1)) (last : n + m ≤ 2016) (empty : slotsEmpty ix j m ≡ true) where
     block-uncharged : (i : ℕ) → i < m → chargeEnergy (parametersIn d) (suc (n + i)) ≡ 0
-    unfolding slotsEmpty slot
-    block-uncharged i p =
-        let w : j + i ≡ slot CH (suc (n + i)) = omega (arith, first) in
-        uncharged (suc (n + i)) (omega arith) (omega arith)
-        (ap (λ (k : ℕ). getD ix k 0) (sym w) ∙ eqb-true (getD ix (j + i) 0) 0 (below-at m (λ k. eqb (getD ix (j + k) 0) 0) empty i p))
+    unfolding slot
+    block-uncharged i p = uncharged (suc (n + i)) j m (omega arith) (omega arith) empty (omega (arith, first)) (omega (arith, first))
 
     -- a block of intervals without records adds nothing
     pub summed-past : {c e : ℕ} → Summed d n c e → Summed d (n + m) c e

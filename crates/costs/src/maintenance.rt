@@ -6,11 +6,14 @@ ghost use Rattle.lookup.specs.Parts.{Indexed};
 ghost use Rattle.formulas.specs.Exact.{quotient, microDollars};
 ghost use Rattle.formulas.specs.Levels.{parametersIn, amountsIn, adders, maintenance, startMaintenance};
 
-// The adders of a level.
+// The adders of a level. A profile without any is told by its slots at once, as one without items is below.
 pub fn adders(d: &[u8], index: &[u16], p: usize, v: usize) -> u64
     requires { ⌜ Indexed (now d) (now index) × (1 ≤ p) × (p ≤ 4) × (1 ≤ v) × (v ≤ 4) ⌝ }
     ensures { λ r. ⌜ (r ≡ microDollars (adders (amountsIn (now (d .entry))) p v)) × (r ≤ 5000000000000) ⌝ }
 {
+    if index::slots_empty(index, index::keys::slot_ad(p, 1, 1), 20) {
+        return 0;
+    }
     let mut sum = 0;
     let mut c = 0;
     while c < 5 {
@@ -49,6 +52,9 @@ pub fn maintenance(d: &[u8], index: &[u16], p: usize) -> u64
     requires { ⌜ Indexed (now d) (now index) × (1 ≤ p) × (p ≤ 4) ⌝ }
     ensures { λ r. ⌜ (r ≡ microDollars (maintenance (parametersIn (now (d .entry))) (amountsIn (now (d .entry))) p)) × (r ≤ 80000000000000000) ⌝ }
 {
+    if index::slots_empty(index, index::keys::slot_mm(p, 1), 8) {
+        return 0;
+    }
     let mut sum = 0;
     let mut j = 0;
     while j < 8 {
@@ -63,6 +69,9 @@ pub fn start_maintenance(d: &[u8], index: &[u16], p: usize) -> u64
     requires { ⌜ Indexed (now d) (now index) × (1 ≤ p) × (p ≤ 4) ⌝ }
     ensures { λ r. ⌜ (r ≡ microDollars (startMaintenance (parametersIn (now (d .entry))) (amountsIn (now (d .entry))) p)) × (r ≤ 8000000000000000000) ⌝ }
 {
+    if index::slots_empty(index, index::keys::slot_mm(p, 1), 8) {
+        return 0;
+    }
     let mut sum = 0;
     let mut j = 0;
     while j < 8 {

@@ -2,7 +2,7 @@
 use mathlib.Core.Path.{_≡_, refl, ap, sym, subst, _∙_}
 use mathlib.Core.Bool.{Bool, true, false, cond, _&&_, _||_, not, false≢true}
 use mathlib.Core.List.{List, [], _∷_}
-use Prim.Native.Nat.{ℕ, _+_, _*_, _/_, _%_, _≤_, _<_}
+use Prim.Native.Nat.{ℕ, _+_, _*_, _-_, _/_, _%_, _≤_, _<_}
 use native.Mathlib.Omega.{arith}
 use lib.Dec.{leb, ltb, eqb, lit<}
 use lib.ListN.{getD}
@@ -16,7 +16,7 @@ use Rattle.records.specs.Record.{mark, offsetIn, offset, read, value, keyIn, ke
 use Rattle.records.specs.Shapes.{shape, shapeOf, keyField, keyFits, keyTest}
 use Rattle.records.proofs.Record.{faultless, field-in}
 use Rattle.records.proofs.Marks.{mark-lt, by-mark}
-use Rattle.index.specs.Slots.{slot, short, narrow, wide}
+use Rattle.index.specs.Slots.{slot, short, narrow, wide, slotsEmpty}
 
 -- ---- keys: the numbers within the bounds of the code's table
 
@@ -238,3 +238,20 @@ slot-apart k n j m p q e = go (eqb k j) refl
         let w : k ≡ j = eqb-true k j x in
         (w, same-key k n m p (subst (λ (i : ℕ). InKey i m) (sym w) q) (e ∙ ap (λ (i : ℕ). slot i m) (sym w)))
     go false x = absurd (sides _ _ refl refl (apart k j (p .known) (q .known) (p .low) (q .low) x))
+
+-- the slot of an adder, by the fields of its key
+pub adder-slot : (p c v : ℕ) → c < 256 → v < 256 → 1 + p * 20 + c * 4 + v ≡ slot 4 (p * 65536 + c * 256 + v)
+unfolding slot
+adder-slot p c v a b =
+    let n : ℕ = p * 65536 + c * 256 + v in
+    let x : n / 65536 ≡ p = omega arith in
+    let y : n / 256 % 256 ≡ c = omega arith in
+    let z : n % 256 ≡ v = omega arith in
+    rw (x, y, z) refl
+
+-- a slot of an empty range is empty
+pub in-empty : (ix : List ℕ) (a n j : ℕ) → slotsEmpty ix a n ≡ true → a ≤ j → j < a + n → eqb (getD ix j 0) 0 ≡ true
+unfolding slotsEmpty
+in-empty ix a n j e p q =
+    let k : a + (j - a) ≡ j = omega arith in
+    rw k at (below-at n (λ i. eqb (getD ix (a + i) 0) 0) e (j - a) (omega arith))

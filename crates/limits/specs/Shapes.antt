@@ -1,6 +1,6 @@
 -- The test in the shapes that code takes: over levels without their formulas, which it never looks at, and by the places of arrays. The
 -- laws of proofs/Laminations.antt tie each shape to its definition.
-use mathlib.Core.Bool.{Bool, true, cond, _&&_}
+use mathlib.Core.Bool.{Bool, cond, _&&_}
 use mathlib.Core.List.{List, [], _∷_}
 use Prim.Native.Nat.{ℕ, zero, suc, _+_, _-_, _≤_, _<_, min}
 use lib.Dec.{eqb}

@@ -14,7 +14,7 @@ use Rattle.lists.proofs.Lists.{each-map}
 use Rattle.lists.proofs.Tests.{split, and-left, and-right}
 use Rattle.records.specs.Table.{CH, FP, LC, kinds}
 use Rattle.records.specs.Record.{mark, size}
-use Rattle.records.specs.Dossier.{firstOf, restOf, recordsIn, records}
+use Rattle.records.specs.Dossier.{restOf, recordsIn, records}
 use Rattle.records.proofs.Record.{no-size}
 use Rattle.records.proofs.Marks.{size-most}
 use Rattle.records.proofs.Dossier.{first-mark, records-step}

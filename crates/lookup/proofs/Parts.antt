@@ -18,10 +18,10 @@ use Rattle.records.specs.declared.Answer.the-variants.{Accepted}
 use Rattle.records.specs.Dossier.{records, scan}
 use Rattle.station.specs.Current.{matches, better, currentFrom, current, startFrom, startOf}
 use Rattle.station.proofs.Current.{matches-mark, matches-key}
-use Rattle.index.specs.Slots.{slot, narrow, wide}
+use Rattle.index.specs.Slots.{slot, narrow, wide, slotsEmpty}
 use Rattle.records.proofs.Record.{size-ge}
 use Rattle.records.proofs.Marks.{by-mark}
-use Rattle.index.proofs.Slots.{Spans, InKey, at-mark, in-key, key-test, test-key, slot-lt, early, slot-short, slot-narrow}
+use Rattle.index.proofs.Slots.{Spans, InKey, at-mark, in-key, key-test, test-key, slot-lt, early, slot-short, slot-narrow, in-empty}
 use Rattle.index.proofs.Holds.{Holds, absent, there, Good, good-records, index-holds}
 use Rattle.lookup.specs.declared.Part.{Part}
 use Rattle.lookup.specs.Parts.{part, bytesOf, currentPart, indexOf, placeAt, partAt, Indexed, Complete, UpTo, Covers}
@@ -85,6 +85,10 @@ module _ (d ix : List ℕ) (h : Indexed d ix) where
 
     pub current-none : getD ix (slot k n) 0 ≡ 0 → current k n (records d) ≡ []
     current-none e = sym (part-current refl refl) ∙ part-none d ix (slot k n) (size k) e
+
+    -- nor is there one where its slot lies in an empty range
+    pub current-in-empty : (j m : ℕ) → slotsEmpty ix j m ≡ true → j ≤ slot k n → slot k n < j + m → current k n (records d) ≡ []
+    current-in-empty j m e a b = current-none (eqb-true (getD ix (slot k n) 0) 0 (in-empty ix j m (slot k n) e a b))
 
     -- a slot that is not empty tells that there is one
     pub slot-tells : ltb 0 (length (current k n (records d))) ≡ not (eqb (getD ix (slot k n) 0) 0)

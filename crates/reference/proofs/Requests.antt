@@ -1,15 +1,14 @@
 -- The profile at an hour, as the loop over the requests finds it.
-use mathlib.Core.Path.{_≡_, refl, ap, sym, _∙_}
+use mathlib.Core.Path.{_≡_, refl}
 use mathlib.Core.Bool.{Bool, true, false, cond, _&&_, not, false≢true}
 use mathlib.Core.List.{List, []}
-use Prim.Native.Nat.{ℕ, zero, suc, _+_, _-_, _≤_, _<_}
+use Prim.Native.Nat.{ℕ, zero, suc, _-_, _≤_, _<_}
 use native.Mathlib.Nat.{pos-of-ne-zero, le-refl}
 use native.Mathlib.Omega.{arith}
 use lib.Dec.{leb, ltb, eqb}
-use lib.ListN.{length, getD}
-use borrow.Author.Tests.{eqb-true, eqb-false}
+use lib.ListN.{length}
+use borrow.Author.Tests.{eqb-false}
 use Rattle.lists.specs.Lists.{Each}
-use Rattle.lists.proofs.Tests.{below-at}
 use Rattle.fields.specs.Numbers.{number}
 use Rattle.records.specs.Table.{table, rowOf, fieldOf, RQ}
 use Rattle.records.specs.Record.{offsetIn, offset, read, value, fault}
@@ -19,7 +18,7 @@ use Rattle.station.specs.Parameters.{parameters, requested, firstHour, lastHour
 use Rattle.station.proofs.Parameters.{says-high}
 use Rattle.index.specs.Slots.{slot, slotsEmpty}
 use Rattle.lookup.specs.Parts.{Indexed}
-use Rattle.lookup.proofs.Parts.{request-key, current-none}
+use Rattle.lookup.proofs.Parts.{request-key, current-in-empty}
 use Rattle.formulas.specs.Levels.{covers, profileOf, profile}
 
 -- what one request asks for at an hour, read of its record
@@ -78,12 +77,10 @@ module _ (l : List (List ℕ)) (h : ℕ) where
 -- where the slots of all requests are empty, there is none, and no hour has another profile than 1
 module _ (d ix : List ℕ) (h : Indexed d ix) {j : ℕ} (first : j ≡ slot RQ 1) (empty : slotsEmpty ix j 16 ≡ true) (hour : ℕ) where
   unrequested : (n : ℕ) → n < 16 → current RQ (suc n) (records d) ≡ []
-  unfolding slotsEmpty slot
+  unfolding slot
   unrequested n p =
-      let w : j + n ≡ slot RQ (suc n) = omega (arith, first) in
       let i = request-key (suc n) (omega arith) (omega arith) in
-      current-none d ix h RQ (suc n) i (omega (arith, h .roomy))
-      (ap (λ (k : ℕ). getD ix k 0) (sym w) ∙ eqb-true (getD ix (j + n) 0) 0 (below-at 16 (λ k. eqb (getD ix (j + k) 0) 0) empty n p))
+      current-in-empty d ix h RQ (suc n) i (omega (arith, h .roomy)) j 16 empty (omega (arith, first)) (omega (arith, first))
 
   uncovered : (n : ℕ) → n < 16 → covers (parameters (records d)) hour (suc n) ≡ false
   unfolding covers parameters present

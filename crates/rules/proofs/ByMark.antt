@@ -2,12 +2,12 @@
 use mathlib.Core.Path.{_≡_, refl, sym, subst, _∙_}
 use mathlib.Core.Bool.{Bool, true, false, cond, _&&_, _||_, not}
 use mathlib.Core.List.{List, [], _∷_}
-use Prim.Native.Nat.{ℕ, zero, suc, _/_, _%_, _≤_, _<_}
+use Prim.Native.Nat.{ℕ, zero, suc, _/_, _%_, _<_}
 use native.Mathlib.Omega.{arith}
 use lib.Dec.{ltb, eqb, lit<}
-use borrow.Author.Tests.{ne-eqb, eqb-true}
+use borrow.Author.Tests.{eqb-true}
 use Rattle.lists.specs.Tests.{allBelow, among, between}
-use Rattle.lists.proofs.Tests.{and-true, split, between-low, between-high}
+use Rattle.lists.proofs.Tests.{and-true, split, between-high}
 use Rattle.fields.specs.Numbers.{number}
 use Rattle.records.specs.Table.{table, rowOf, fieldOf}
 use Rattle.records.specs.Record.{offsetIn, offset, read, value, inRange, rangesHold}

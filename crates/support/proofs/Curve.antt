@@ -10,9 +10,9 @@ use native.Mathlib.Omega.{arith}
 use lib.Arith.{lt-of-le-ne}
 use lib.Dec.{leb, ltb, eqb, lit≤, lit<}
 use lib.ListN.{length, getD}
-use borrow.Author.Tests.{lt-ltb, le-ltb, le-leb, lt-leb, leb-true, eqb-true, eq-eqb, ne-eqb}
+use borrow.Author.Tests.{lt-ltb, le-ltb, le-leb, lt-leb, leb-true, eq-eqb, ne-eqb}
 use Rattle.lists.specs.Tests.{allTo, countTo}
-use Rattle.lists.proofs.Tests.{and-true, below-at, and-left, and-right, and-both, to-next, to-at, at-to, between-low, between-high}
+use Rattle.lists.proofs.Tests.{and-true, and-left, and-right, and-both, to-next, to-at, at-to, between-low, between-high}
 use Rattle.fields.specs.Numbers.{number}
 use Rattle.fields.proofs.Numbers.{number-nil}
 use Rattle.records.specs.Table.{table, rowOf, fieldOf, RS, HP, FU, RQ, HR, FP}
@@ -27,7 +27,7 @@ use Rattle.station.proofs.Fields.{technology-at, capacity-at, charge-at, output
 use Rattle.index.specs.Slots.{slot, slotsEmpty}
 use Rattle.index.proofs.Slots.{InKey}
 use Rattle.lookup.specs.Parts.{Indexed, Complete}
-use Rattle.lookup.proofs.Parts.{one-field, point-key, request-key, current-none, slot-tells, fits, beyond-index}
+use Rattle.lookup.proofs.Parts.{one-field, point-key, request-key, current-in-empty, slot-tells, fits, beyond-index}
 use Rattle.rules.specs.Fit.{Known}
 use Rattle.rules.specs.Curve.{points, rise, curveHolds, curveFits, fuelHolds, fullHours, hoursHold, windowFits, placesHold, forecastFits}
 use Rattle.support.specs.Legs.{lastRise, legHolds, fuelled}
@@ -299,12 +299,10 @@ module _ (d ix : List ℕ) (h : Indexed d ix) (n : ℕ) {j : ℕ} (ej : j ≡ sl
 -- where the slots of all requests are empty, there is none
 module _ (d ix : List ℕ) (h : Indexed d ix) {j : ℕ} (first : j ≡ slot RQ 1) (empty : slotsEmpty ix j 16 ≡ true) where
   unrequested : (n : ℕ) → n < 16 → current RQ (n + 1) (records d) ≡ []
-  unfolding slotsEmpty slot
+  unfolding slot
   unrequested n p =
-      let w : j + n ≡ slot RQ (n + 1) = omega (arith, first) in
       let i = request-key (n + 1) (omega arith) (omega arith) in
-      current-none d ix h RQ (n + 1) i (fits d ix h RQ (n + 1) i refl)
-      (ap (λ (k : ℕ). getD ix k 0) (sym w) ∙ eqb-true (getD ix (j + n) 0) 0 (below-at 16 (λ k. eqb (getD ix (j + k) 0) 0) empty n p))
+      current-in-empty d ix h RQ (n + 1) i (fits d ix h RQ (n + 1) i refl) j 16 empty (omega (arith, first)) (omega (arith, first))
 
   fuelled-to : (n : ℕ) → n ≤ 16 → true ≡ allTo n (fuelled (parameters (records d)))
   unfolding allTo

@@ -2,15 +2,14 @@
 use mathlib.Core.Path.{_≡_, refl, ap, sym, subst, _∙_}
 use mathlib.Core.Bool.{Bool, true, false, cond, _&&_, _||_, not, false≢true}
 use mathlib.Core.List.{List, [], _∷_}
-use mathlib.Core.Logic.{_⊎_, inl, inr}
-use Prim.Native.Nat.{ℕ, zero, suc, _+_, _-_, _*_, _/_, _%_, _≤_, _<_}
+use Prim.Native.Nat.{ℕ, _+_, _-_, _*_, _/_, _%_, _≤_, _<_}
 use native.Mathlib.Numerals.{add-one}
 use native.Mathlib.Omega.{arith}
 use lib.Bits.{bitOr}
 use lib.Dec.{ltb, eqb}
 use lib.ListN.{length, getD, take, drop, length-take, length-drop, drop-of-length-le, List·getD-eq-default}
 use lib.Seq.{drop-drop}
-use borrow.Author.Tests.{ltb-true, ltb-false, eqb-true, eqb-false, eq-eqb, ne-eqb}
+use borrow.Author.Tests.{ltb-true, ltb-false, eqb-true, eq-eqb}
 use Rattle.lists.specs.Lists.{Each, done, also, Member, here, there}
 use Rattle.lists.specs.Tests.{allBelow, allTo}
 use Rattle.lists.proofs.Lists.{member-each}
@@ -26,7 +25,7 @@ use Rattle.records.specs.Answers.{orElse, refuseIf}
 use Rattle.records.specs.declared.Found.the-variants.{Record}
 use Rattle.records.specs.Walk.{found}
 use Rattle.records.specs.Dossier.{firstOf, restOf, recordsIn, records, firstDrawn, scan}
-use Rattle.records.proofs.Record.{mark-take, mark-nil, size-ge, faultless}
+use Rattle.records.proofs.Record.{mark-nil, size-ge, faultless}
 use Rattle.records.proofs.Shapes.{shape-width}
 use Rattle.records.proofs.Answers.{orElse-parts}
 use Rattle.records.proofs.Dossier.{first-mark, first-length, records-step, scan-each}
@@ -37,10 +36,10 @@ use Rattle.station.specs.Declared.{CurrentOf, absent, standing, Distinct}
 use Rattle.station.proofs.Current.{current-found, matches-self}
 use Rattle.station.proofs.Twins.{twins-distinct}
 use Rattle.index.specs.Slots.{narrow, slotAt, slot, slotsEmpty}
-use Rattle.index.proofs.Slots.{Spans, InKey, in-key, at-mark, low, high, limits}
+use Rattle.index.proofs.Slots.{Spans, InKey, in-key, at-mark, low, high, limits, in-empty}
 use Rattle.index.proofs.Turn.{tail, its-slot as found-slot}
-use Rattle.lookup.specs.Parts.{part, bytesOf, placeAt, partAt, Indexed, Complete, UpTo}
-use Rattle.lookup.proofs.Parts.{part-current, current-none, slot-fits, item-key}
+use Rattle.lookup.specs.Parts.{part, partAt, Indexed, Complete, UpTo}
+use Rattle.lookup.proofs.Parts.{part-current, current-none, current-in-empty, slot-fits, item-key}
 use Rattle.rules.specs.Fit.{Known, holds, fieldFits, ruleFits, fits, isCurrent, unfit}
 use Rattle.technology.specs.Looked.{fourthsEmpty, pointsFit, itemsFit, profilesFit, levelFits, proratedFit, pricedFit, allFit, notFit}
 use Rattle.rules.proofs.ByMark.{fits-rs, fits-hp, fits-fu, fits-mm, fits-rq, fits-hr, fits-ch, fits-fp, fits-lc, held-ad, held-th}
@@ -112,13 +111,6 @@ or-right : (a b : Bool) → a ≡ false → a || b ≡ true → b ≡ true
 or-right a b z e = rw z at e
 
 module _ (ix : List ℕ) where
-  -- a slot of an empty range is empty
-  in-empty : (a n j : ℕ) → slotsEmpty ix a n ≡ true → a ≤ j → j < a + n → eqb (getD ix j 0) 0 ≡ true
-  unfolding slotsEmpty
-  in-empty a n j e p q =
-      let k : a + (j - a) ≡ j = omega arith in
-      rw k at (below-at n (λ i. eqb (getD ix (a + i) 0) 0) e (j - a) (omega arith))
-
   in-fourths : (a n i j : ℕ) → fourthsEmpty ix a n ≡ true → i < n → a + 4 * i ≡ j → eqb (getD ix j 0) 0 ≡ true
   unfolding fourthsEmpty
   in-fourths a n i j e p q = rw q at (below-at n (λ i. eqb (getD ix (a + 4 * i) 0) 0) e i p)
@@ -317,8 +309,7 @@ no-items t d ix p known h a b {j} q e = sym (at-to 8 (λ i. fits t 5 (current 5 
     one : (i : ℕ) → 1 ≤ i → i ≤ 8 → fits t 5 (current 5 (p * 256 + i) (records d)) ≡ true
     one i c z =
         let k = item-key p i a b c z in
-        let w : getD ix (slot 5 (p * 256 + i)) 0 ≡ 0 = eqb-true _ 0 (in-empty ix j 8 (slot 5 (p * 256 + i)) e (omega (arith, q)) (omega (arith, q))) in
-        rw (current-none d ix h 5 (p * 256 + i) k (slot-fits d ix h 5 (p * 256 + i) refl k refl) w) (item-none t known)
+        rw (current-in-empty d ix h 5 (p * 256 + i) k (slot-fits d ix h 5 (p * 256 + i) refl k refl) j 8 e (omega (arith, q)) (omega (arith, q))) (item-none t known)
 
 -- ---- the loop over the records
 

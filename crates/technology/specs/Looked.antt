@@ -1,6 +1,6 @@
 -- How code looks for 6: at the slots of the index first, and through the records only where these tell of one that does not fit. No
 -- paper speaks of this; the law `slots-accepted` ties it to `unfit`.
-use mathlib.Core.Bool.{Bool, cond, _&&_, _||_, not}
+use mathlib.Core.Bool.{Bool, _&&_, _||_, not}
 use mathlib.Core.List.{List}
 use Prim.Native.Nat.{ℕ, _+_, _*_}
 use lib.Dec.{ltb, eqb}

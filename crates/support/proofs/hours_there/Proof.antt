@@ -3,7 +3,7 @@ use Rattle.records.specs.Table.{HR}
 use Rattle.lists.specs.Tests.{allTo}
 use Rattle.station.specs.Parameters.{parameters}
 use Rattle.records.specs.Dossier.{records}
-use Prim.Native.Nat.{ℕ, _≤_, _-_, _+_}
+use Prim.Native.Nat.{ℕ, _≤_, _-_}
 use native.Mathlib.Omega.{arith}
 use mathlib.Core.Path.{_≡_, refl, ap, _∙_}
 use Rattle.support.proofs.hours_there.Statement.{statement}

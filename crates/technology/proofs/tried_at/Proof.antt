@@ -1,6 +1,4 @@
-use mathlib.Core.Bool.{_||_}
 use Prim.Native.Nat.{ℕ, _<_}
-use lib.Dec.{eqb}
 use Rattle.records.proofs.Marks.{mark-lt, no-key}
 use Rattle.records.specs.Table.{kinds}
 use Rattle.records.proofs.Record.{hp-size, fu-size, ad-size, mm-size, rq-size, hr-size, ch-size, th-size, fp-size}

@@ -1,9 +1,9 @@
 -- `words::clear_words` meets its contract. The loop's invariant: the words passed are 0. The measure is how many are left.
 use Prim.Native.Nat.{_-_, _≤_}
-use mathlib.Core.Path.{_≡_, refl}
+use mathlib.Core.Path.{refl}
 use native.Mathlib.Omega.{arith}
 use borrow.Author.Needs.{needs}
-use lib.ListN.{length, replicate}
+use lib.ListN.{replicate}
 use Rattle.text.proofs.Over.{Wrote}
 use Rattle.words.proofs.Stores.{clear-next, cleared-length, all-cleared}
 use Rattle.words.proofs.clear_words.Statement.{statement}

@@ -1,13 +1,15 @@
 use borrow.Author.Needs.{needs}
-use mathlib.Core.Path.{_≡_}
+use mathlib.Core.Path.{_≡_, sym, _∙_}
 use Prim.Native.Nat.{_≤_, _*_, _-_}
 use native.Mathlib.Omega.{arith}
 use Rattle.records.specs.Dossier.{records}
 use Rattle.station.specs.Parameters.{parameters, amounts, costC, intervalT, hoursPerStartS}
+use Rattle.index.specs.Slots.{slot}
 use Rattle.formulas.specs.Sums.{sumTo}
 use Rattle.formulas.specs.Exact.{quotient, microDollars}
 use Rattle.formulas.specs.Levels.{startMaintenance}
 use Rattle.formulas.proofs.Sums.{sum-more, sum-ends}
+use Rattle.costs.proofs.Absent.{no-start-maintenance}
 use Rattle.costs.proofs.maintenance.start_maintenance.Statement.{statement}
 use Rattle.costs.proofs.maintenance.start_maintenance.Tie as tie
 
@@ -17,6 +19,19 @@ Inv-loop d index p sum₀ j₀ sum j =
 
 abbrev μ-loop : tie.MeasureT-loop
 μ-loop d index p sum₀ j₀ sum j = 8 - j
+
+slot-mm-requires : tie.Need-slot-mm-requires Inv-loop μ-loop
+slot-mm-requires c κs = search needs
+
+slots-empty-requires : tie.Need-slots-empty-requires Inv-loop μ-loop
+unfolding slot
+slots-empty-requires c κs = let q = c .before .before .before .pre in omega (arith, c .slot-mm .ensures, q .0 .roomy, q .1, q .2)
+
+returns : tie.Need-returns Inv-loop μ-loop
+returns c =
+    let a = c .before .before .before .before .before .args in
+    let q = c .before .before .before .before .before .pre in
+    (no-start-maintenance (q .0) (a .p) (q .1) (q .2) (c .before .before .slot-mm .ensures) (sym (c .before .slots-empty .ensures) ∙ c .if1 .taken), omega arith)
 
 loop-holds : tie.Need-loop-holds Inv-loop μ-loop
 unfolding sumTo
@@ -40,9 +55,9 @@ loop-less c = omega arith
 loop-again : tie.Need-loop-again Inv-loop μ-loop
 loop-again c = (omega arith, omega arith, sum-more _ _ _ _ (c .before .before .loop .inv .2) (c .start-item .ensures .0))
 
-returns : tie.Need-returns Inv-loop μ-loop
+returns-2 : tie.Need-returns-2 Inv-loop μ-loop
 unfolding microDollars startMaintenance
-returns c =
+returns-2 c =
     let l = c .before .loop in
     (sum-ends _ (l .j) 8 _ (c .loop-test .left) (l .inv .0) (l .inv .2), omega arith)
 
@@ -52,6 +67,9 @@ start-maintenance-spec =
     (tie.spec
     Inv-loop
     μ-loop
+    slot-mm-requires
+    slots-empty-requires
+    returns
     loop-holds
     add-start-item
     start-item-requires
@@ -59,4 +77,4 @@ start-maintenance-spec =
     add-j
     loop-less
     loop-again
-    returns)
+    returns-2)

@@ -1,7 +1,4 @@
-use mathlib.Core.Path.{_≡_, refl}
-use Prim.Native.Nat.{ℕ, _+_, _*_, _/_, _%_}
-use native.Mathlib.Omega.{arith}
-use Rattle.index.specs.Slots.{slot}
+use Rattle.index.proofs.Slots.{adder-slot}
 use borrow.Author.Needs.{needs}
 use Rattle.index.proofs.keys.slot_ad.Statement.{statement}
 use Rattle.index.proofs.keys.slot_ad.Tie as tie
@@ -22,14 +19,7 @@ add-result-3 : tie.Need-add-result-3
 add-result-3 c = search needs
 
 returns : tie.Need-returns
-unfolding slot
-returns c =
-    let a = c .args in
-    let n : ℕ = a .p * 65536 + a .c * 256 + a .v in
-    let x : n / 65536 ≡ a .p = omega (arith, c .pre) in
-    let y : n / 256 % 256 ≡ a .c = omega (arith, c .pre) in
-    let z : n % 256 ≡ a .v = omega (arith, c .pre) in
-    rw (x, y, z) refl
+returns c = adder-slot (c .args .p) (c .args .c) (c .args .v) (c .pre .1) (c .pre .2)
 
 pub slot-ad-spec : {M : Type 1} → statement M
 slot-ad-spec =
