@@ -32,12 +32,12 @@ pub summed-none : (d : List ℕ) → Summed d 0 0 0
 unfolding sumTo
 summed-none d = record { cost-sum = refl; energy-sum = refl; cost-high = omega arith; energy-high = omega arith }
 
-pub summed-more : {d : List ℕ} {n c e x y : ℕ} → Summed d n c e → x ≡ chargePrice (amountsIn d) (n + 1) * chargeEnergy (parametersIn d) (n + 1) → y ≡ chargeEnergy (parametersIn d) (n + 1) → x ≤ 2147683648 * y → y ≤ 1000000 → Summed d (n + 1) (c + x) (e + y)
+pub summed-more : {d : List ℕ} {n c e x y : ℕ} → Summed d n c e → x ≡ c + chargePrice (amountsIn d) (n + 1) * chargeEnergy (parametersIn d) (n + 1) → y ≡ e + chargeEnergy (parametersIn d) (n + 1) → x ≤ 2147683648 * y → chargeEnergy (parametersIn d) (n + 1) ≤ 1000000 → Summed d (n + 1) x y
 summed-more h p q a b =
     record {
-      cost-sum = sum-more _ _ _ _ (h .cost-sum) p;
-      energy-sum = sum-more _ _ _ _ (h .energy-sum) q;
-      cost-high = omega (arith, h .cost-high);
+      cost-sum = p ∙ sum-more _ _ _ _ (h .cost-sum) refl;
+      energy-sum = q ∙ sum-more _ _ _ _ (h .energy-sum) refl;
+      cost-high = a;
       energy-high = omega (arith, h .energy-high);
     }
 
@@ -65,6 +65,9 @@ module _ {d ix : List ℕ} (h : Indexed d ix) (roomy : narrow ≤ length ix) whe
       chargeEnergy-at (records d) n
       ∙ ap (number 12 4) (current-in-empty d ix h CH n (interval-key n a b) (omega (arith, roomy, slot-narrow CH n (interval-key n a b) refl)) j m e p q)
       ∙ number-nil 12 4
+
+  pub uncharged-slot : (n : ℕ) → 1 ≤ n → n ≤ 2016 → {j : ℕ} → j ≡ slot CH n → getD ix j 0 ≡ 0 → chargeEnergy (parametersIn d) n ≡ 0
+  uncharged-slot n a b {j} q e = uncharged n j 1 a b (one-empty ix j e) (omega arith) (omega arith)
 
   -- one whose slot is not has its record where the slot says
   pub charged : (n : ℕ) → 1 ≤ n → n ≤ 2016 → {j : ℕ} → j ≡ slot CH n → (getD ix j 0 ≡ 0 → ⊥) → (getD ix j 0 - 1 + 16 ≤ length d) × (take 16 (drop (getD ix j 0 - 1) d) ≡ current CH n (records d))

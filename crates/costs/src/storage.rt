@@ -1,7 +1,8 @@
 // The storage level: the greater of the short-run cost and the opportunity cost.
 ghost use mathlib.Core.Path.{_≡_};
-ghost use Prim.Native.Nat.{_+_, _*_, _-_, _≤_};
+ghost use Prim.Native.Nat.{_+_, _*_, _-_, _≤_, _<_};
 ghost use lib.ListN.{length, drop};
+ghost use Rattle.records.specs.Record.{mark, size};
 ghost use Rattle.station.specs.Parameters.{window, hourPrice, chargePrice, chargeEnergy};
 ghost use Rattle.index.specs.Slots.{narrow};
 ghost use Rattle.lookup.specs.Parts.{Indexed};
@@ -9,7 +10,7 @@ ghost use Rattle.rules.specs.Curve.{fullHours};
 ghost use Rattle.formulas.specs.Sums.{sumTo, listTo, sumHighest};
 ghost use Rattle.formulas.specs.Exact.{microDollars};
 ghost use Rattle.formulas.specs.Levels.{parametersIn, amountsIn, totalEnergy, chargingCost, shortRunCost, opportunityCost, storageEnergy};
-ghost use Rattle.costs.specs.Intervals.{Summed};
+ghost use Rattle.costs.specs.Intervals.{Summed, Walked};
 use crate::maintenance::adders;
 use crate::maintenance::maintenance;
 
@@ -19,12 +20,12 @@ pub struct Charging {
     pub energy: u64,
 }
 
-// The sums over intervals 1 to n, with the next: an empty slot adds nothing, any other tells where the record stands, whole.
-fn with_next(d: &[u8], index: &[u16], n: usize, before: Charging) -> Charging
-    requires { ⌜ Indexed (now d) (now index) × (narrow ≤ length (now index)) × (n + 1 ≤ 2016) × Summed (now d) n (before .cost) (before .energy) ⌝ }
-    ensures { λ r. ⌜ Summed (now (d .entry)) (n + 1) (r .cost) (r .energy) ⌝ }
+// Some sums, with interval n: an empty slot adds nothing, any other tells where the record stands, whole.
+fn with_interval(d: &[u8], index: &[u16], n: usize, before: Charging) -> Charging
+    requires { ⌜ Indexed (now d) (now index) × (narrow ≤ length (now index)) × (1 ≤ n) × (n ≤ 2016) × (before .cost ≤ 2147683648 * before .energy) × (before .energy ≤ 2016000000) ⌝ }
+    ensures { λ r. ⌜ (r .cost ≡ before .cost + chargePrice (amountsIn (now (d .entry))) n * chargeEnergy (parametersIn (now (d .entry))) n) × (r .energy ≡ before .energy + chargeEnergy (parametersIn (now (d .entry))) n) × (r .cost ≤ 2147683648 * r .energy) ⌝ }
 {
-    let v = index[index::keys::slot_ch(n + 1)] as usize;
+    let v = index[index::keys::slot_ch(n)] as usize;
     if v == 0 {
         return before;
     }
@@ -35,6 +36,14 @@ fn with_next(d: &[u8], index: &[u16], n: usize, before: Charging) -> Charging
         cost: before.cost + price * energy,
         energy: before.energy + energy,
     }
+}
+
+// The sums over intervals 1 to n, with the next.
+fn with_next(d: &[u8], index: &[u16], n: usize, before: Charging) -> Charging
+    requires { ⌜ Indexed (now d) (now index) × (narrow ≤ length (now index)) × (n + 1 ≤ 2016) × Summed (now d) n (before .cost) (before .energy) ⌝ }
+    ensures { λ r. ⌜ Summed (now (d .entry)) (n + 1) (r .cost) (r .energy) ⌝ }
+{
+    with_interval(d, index, n + 1, before)
 }
 
 // With the eight after them, so few that the compiler writes their turns out one by one.
@@ -115,12 +124,56 @@ fn intervals(d: &[u8], index: &[u16]) -> Charging
     sums
 }
 
+// The sums over the records before a place, with the one there, of kind k: a CH counts if its slot names its place.
+fn with_record(d: &[u8], index: &[u16], at: usize, k: usize, before: Charging) -> Charging
+    requires { ⌜ Indexed (now d) (now index) × (narrow ≤ length (now index)) × (at < length (now d)) × (k ≡ mark (drop at (now d))) × Walked (now d) (now index) at (before .cost) (before .energy) ⌝ }
+    ensures { λ r. ⌜ Walked (now (d .entry)) (now (index .entry)) (at + size k) (r .cost) (r .energy) ⌝ }
+{
+    if k != 8 {
+        return before;
+    }
+    let n = fields::u16_at(&d[at..], 6) as usize;
+    if (n == 0) | (2016 < n) {
+        return before;
+    }
+    if index[index::keys::slot_ch(n)] as usize == at + 1 {
+        return with_interval(d, index, n, before);
+    }
+    before
+}
+
+// All intervals, record by record.
+fn by_records(d: &[u8], index: &[u16]) -> Charging
+    requires { ⌜ Indexed (now d) (now index) × (narrow ≤ length (now index)) ⌝ }
+    ensures { λ r. ⌜ (r .cost ≡ sumTo 2016 (λ n. chargePrice (amountsIn (now (d .entry))) n * chargeEnergy (parametersIn (now (d .entry))) n)) × (r .energy ≡ totalEnergy (parametersIn (now (d .entry)))) × (r .cost ≤ 2147683648 * r .energy) × (r .energy ≤ 2016000000) ⌝ }
+{
+    let mut sums = Charging { cost: 0, energy: 0 };
+    let mut at = 0;
+    while at < d.len() {
+        let k = records::kind_at(&d[at..]);
+        sums = with_record(d, index, at, k, sums);
+        at += records::length_of(k);
+    }
+    sums
+}
+
+// The sums over all intervals. Of a few records most are soon passed, of many the slots are.
+fn sums(d: &[u8], index: &[u16]) -> Charging
+    requires { ⌜ Indexed (now d) (now index) × (narrow ≤ length (now index)) ⌝ }
+    ensures { λ r. ⌜ (r .cost ≡ sumTo 2016 (λ n. chargePrice (amountsIn (now (d .entry))) n * chargeEnergy (parametersIn (now (d .entry))) n)) × (r .energy ≡ totalEnergy (parametersIn (now (d .entry)))) × (r .cost ≤ 2147683648 * r .energy) × (r .energy ≤ 2016000000) ⌝ }
+{
+    if d.len() <= 600 {
+        return by_records(d, index);
+    }
+    intervals(d, index)
+}
+
 // The charging cost, through an index with the slots of CH and LC; where no energy was charged, the last one.
 fn charging_through(d: &[u8], index: &[u16]) -> u64
     requires { ⌜ Indexed (now d) (now index) × (narrow ≤ length (now index)) ⌝ }
     ensures { λ r. ⌜ (r ≡ microDollars (chargingCost (parametersIn (now (d .entry))) (amountsIn (now (d .entry))))) × (r ≤ 2000000000) ⌝ }
 {
-    let c = intervals(d, index);
+    let c = sums(d, index);
     if c.energy == 0 {
         return parameters::last_cost(d, index);
     }

@@ -2,11 +2,12 @@
 use mathlib.Core.Path.{_≡_, refl, ap, sym, subst, _∙_}
 use mathlib.Core.Bool.{Bool, true, false, cond}
 use mathlib.Core.List.{List, [], _∷_}
-use Prim.Native.Nat.{ℕ, zero, suc, _+_, _-_, _≤_, _<_, max, min}
+use Prim.Native.Nat.{ℕ, zero, suc, _+_, _*_, _-_, _≤_, _<_, max, min}
 use native.Mathlib.Nat.{le-refl, le-trans, add-le-add, add-comm, max-eq-left, max-eq-right, min-eq-left, min-eq-right}
-use native.Mathlib.Decide.{decLe}
+use native.Mathlib.Decide.{decLe, ℕ-discrete}
 use native.Mathlib.Numerals.{add-one}
 use native.Mathlib.Omega.{arith}
+use lib.Arith.{lt-of-le-ne}
 use lib.Dec.{eqb, leb, ltb}
 use lib.ListN.{length, getD}
 use borrow.Author.Tests.{eqb-true, lt-ltb, le-ltb, le-leb, lt-leb, eq-eqb, ne-eqb}
@@ -48,6 +49,27 @@ sumTo-zeros f n zero h =
 sumTo-zeros f n (suc m) h =
     let e : n + suc m ≡ suc (n + m) = omega arith in
     rw (e, h m (omega arith), sumTo-zeros f n m (λ i q. h i (omega arith))) (omega arith)
+
+-- parts that are the same, and parts of which one is x higher
+pub sumTo-same : (n : ℕ) (f g : ℕ → ℕ) → ((k : ℕ) → 1 ≤ k → k ≤ n → f k ≡ g k) → sumTo n f ≡ sumTo n g
+unfolding sumTo
+sumTo-same zero f g h = refl
+sumTo-same (suc n) f g h = rw (sumTo-same n f g (λ k a b. h k a (omega arith)), h (suc n) (omega arith) (omega arith)) refl
+
+pub sumTo-moved : (n m x : ℕ) (f g : ℕ → ℕ) → 1 ≤ m → m ≤ n → ((k : ℕ) → 1 ≤ k → k ≤ n → (k ≡ m → ⊥) → f k ≡ g k) → f m ≡ g m + x → sumTo n f ≡ sumTo n g + x
+unfolding sumTo
+sumTo-moved zero m x f g a b h e = absurd (omega arith)
+sumTo-moved (suc n) m x f g a b h e = go (ℕ-discrete m (suc n)) (λ c. sumTo-moved n m x f g a c (λ k u v w. h k u (omega arith) w) e)
+  where
+    go : Dec (m ≡ suc n) → (m ≤ n → sumTo n f ≡ sumTo n g + x) → sumTo n f + f (suc n) ≡ sumTo n g + g (suc n) + x
+    go (yes z) i = rw (sumTo-same n f g (λ k c d. h k c (omega arith) (λ w. omega arith)), ← z, e) (omega arith)
+    go (no z) i = rw (i (omega (arith, lt-of-le-ne b z)), h (suc n) (omega arith) (omega arith) (λ w. z (sym w))) (omega arith)
+
+-- parts of b at most
+pub sumTo-within : (n b : ℕ) (f : ℕ → ℕ) → ((k : ℕ) → f k ≤ b) → sumTo n f ≤ n * b
+unfolding sumTo
+sumTo-within zero b f h = omega arith
+sumTo-within (suc n) b f h = omega (arith, sumTo-within n b f h, h (suc n))
 
 -- one more turn of a loop that sums, and its end
 pub sum-more : (f : ℕ → ℕ) (n s x : ℕ) → s ≡ sumTo n f → x ≡ f (n + 1) → s + x ≡ sumTo (n + 1) f

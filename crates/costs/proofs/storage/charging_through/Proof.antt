@@ -9,8 +9,8 @@ use Rattle.formulas.proofs.Rounding.{quotient-le}
 use Rattle.costs.proofs.storage.charging_through.Statement.{statement}
 use Rattle.costs.proofs.storage.charging_through.Tie as tie
 
-intervals-requires : tie.Need-intervals-requires
-intervals-requires c κs = search needs
+sums-requires : tie.Need-sums-requires
+sums-requires c κs = search needs
 
 last-cost-requires : tie.Need-last-cost-requires
 last-cost-requires c κs = search needs
@@ -18,7 +18,7 @@ last-cost-requires c κs = search needs
 returns : tie.Need-returns
 unfolding microDollars chargingCost
 returns c =
-    let e = c .before .before .before .intervals .ensures in
+    let e = c .before .before .before .sums .ensures in
     (rw (eq-eqb (totalEnergy _) 0 (sym (e .1) ∙ c .before .if1 .taken)) (c .last-cost .ensures .0), c .last-cost .ensures .1)
 
 mul-less : tie.Need-mul-less
@@ -37,9 +37,9 @@ returns-2 : tie.Need-returns-2
 unfolding microDollars chargingCost chargingSum
 returns-2 c =
     let c1 = c .before .before .before in
-    let e = c1 .before .before .intervals .ensures in
+    let e = c1 .before .before .sums .ensures in
     let x = c .before .less .result in
-    let y = c1 .before .before .intervals .result .energy in (
+    let y = c1 .before .before .sums .result .energy in (
       rw (ne-eqb (totalEnergy _) 0 (λ z. c1 .if1 .left (e .1 ∙ z)))
           (c .share .ensures .0 ∙ ap₂ quotient (ap (λ (z : ℕ). z * 10000) (c .before .less .ensures ∙ ap₂ (λ (a b : ℕ). a - 2147483648 * b) (e .0) (e .1))) (e .1)),
       omega (arith, c .share .ensures .0, quotient-le (x * 10000) y 2000000000 (omega (arith, c .before .less .ensures))),
@@ -49,7 +49,7 @@ pub charging-through-spec : {M : Type 1} → statement M
 charging-through-spec =
     tie.close
     (tie.spec
-    intervals-requires
+    sums-requires
     last-cost-requires
     returns
     mul-less
