@@ -6,24 +6,24 @@ use mathlib.Core.Logic.{_⊎_, inl, inr, ⊎-elim}
 use Prim.Native.Nat.{ℕ, zero, suc, _+_, _-_, _*_, _≤_, _<_}
 use native.Mathlib.Omega.{arith}
 use lib.Dec.{ltb, leb}
-use lib.ListN.{length, getD, take, drop, length-drop, drop-of-length-le}
+use lib.ListN.{length, getD, take, drop, length-take, length-drop, drop-of-length-le}
 use lib.Seq.{drop-drop}
 use borrow.Author.Tests.{ltb-true, ltb-false, lt-ltb, le-ltb, ne-eqb}
 use Rattle.lists.specs.Lists.{Each, done, also}
 use Rattle.fields.specs.Numbers.{number}
 use Rattle.records.specs.Table.{table, rowOf, fieldOf, CH}
-use Rattle.records.specs.Record.{mark, size, widths, issue, keyIn, keyWidth, keyOf}
-use Rattle.records.specs.Dossier.{restOf, recordsIn, records}
+use Rattle.records.specs.Record.{mark, size, widths, fault, issue, keyIn, keyWidth, keyOf}
+use Rattle.records.specs.Dossier.{firstOf, restOf, recordsIn, records}
 use Rattle.records.proofs.Record.{mark-take, size-ge}
 use Rattle.records.proofs.Read.{number-take}
-use Rattle.records.proofs.Dossier.{Whole, first-mark, records-step, records-whole}
+use Rattle.records.proofs.Dossier.{Whole, first-mark, first-length, records-step, records-whole}
 use Rattle.station.specs.Current.{matches, better, current, startFrom, startOf}
 use Rattle.station.specs.Declared.{CurrentOf, absent, standing}
 use Rattle.station.specs.Parameters.{chargePrice, chargeEnergy}
 use Rattle.station.proofs.Current.{current-found}
 use Rattle.station.proofs.Parameters.{says-high}
 use Rattle.index.specs.Slots.{slot, narrow}
-use Rattle.index.proofs.Slots.{slot-narrow}
+use Rattle.index.proofs.Slots.{slot-narrow, in-key, low, high, limits}
 use Rattle.lookup.specs.declared.Part.{Part}
 use Rattle.lookup.specs.Parts.{part, placeAt, currentPart, Indexed}
 use Rattle.lookup.proofs.Parts.{place-current, slot-tells, interval-key}
@@ -56,6 +56,10 @@ at-ahead x p (r ∷ l) (inl e) = omega arith
 at-ahead x p (r ∷ l) (inr h) = omega (arith, at-ahead x (p + size (mark r)) l h)
 
 -- ---- what a slot tells
+
+ch-size : size CH ≡ 16
+unfolding size widths rowOf table
+ch-size = refl
 
 ch-key : (r : List ℕ) → mark r ≡ CH → keyOf r ≡ number 6 2 r
 unfolding keyOf keyWidth keyIn rowOf table
@@ -130,6 +134,7 @@ module _ {d ix : List ℕ} (h : Indexed d ix) (roomy : narrow ≤ length ix) whe
         cost-left = omega (arith, sumTo-same 2016 (left cost 0) cost (all-ahead cost (λ n e. rw e (omega arith))));
         energy-left = omega (arith, sumTo-same 2016 (left energy 0) energy (all-ahead energy (λ n e. e)));
         cost-most = omega arith;
+        rest = clean h;
         ahead = λ n a b z. starts n a b z;
       }
 
@@ -181,6 +186,28 @@ module _ {d ix : List ℕ} (h : Indexed d ix) (roomy : narrow ≤ length ix) whe
     onward : (n : ℕ) → 1 ≤ n → n ≤ 2016 → next < v n → At (v n - 1) next (records (drop next d))
     onward n a b z = ⊎-elim (λ q. absurd (omega (arith, size-ge (mark (drop p d))))) (λ q. q) (parts n a b (omega arith))
 
+    -- what is left is a record without fault, and the rest
+    split-rest : (fault (firstOf (drop p d)) ≡ 0) × Each (λ r. fault r ≡ 0) (records (drop next d))
+    unfolding restOf
+    split-rest = go (subst (Each (λ r. fault r ≡ 0)) (records-step (drop p d) (omega (arith, length-drop p d))) (w .rest))
+      where
+        go : Each (λ r. fault r ≡ 0) (firstOf (drop p d) ∷ records (drop (size (mark (drop p d))) (drop p d))) → (fault (firstOf (drop p d)) ≡ 0) × Each (λ r. fault r ≡ 0) (records (drop next d))
+        go (also f l) = (f, rw (drop-drop (size (mark (drop p d))) p d) at l)
+
+    -- a CH is there whole, of an interval that there is
+    module _ (charging : mark (drop p d) ≡ CH) where
+      pub whole : p + 16 ≤ length d
+      unfolding firstOf size widths rowOf table
+      whole = omega (arith, first-length (drop p d) (split-rest .0), length-take (size (mark (drop p d))) (drop p d), length-drop p d, ap size charging)
+
+      pub interval-in : (1 ≤ number 6 2 (drop p d)) × (number 6 2 (drop p d) ≤ 2016)
+      unfolding firstOf slot low high
+      interval-in =
+          let m : mark (firstOf (drop p d)) ≡ CH = first-mark (drop p d) ∙ charging in
+          let n : keyOf (firstOf (drop p d)) ≡ number 6 2 (drop p d) = ch-key _ m ∙ number-take (size (mark (drop p d))) 6 2 (drop p d) (omega (arith, ap size charging, ch-size)) in
+          let z = limits CH (number 6 2 (drop p d)) (rw (m, n) at (in-key (firstOf (drop p d)) (split-rest .0))) in
+          (omega (arith, z), omega (arith, z))
+
     -- that no slot names
     pub walk-passes : ((n : ℕ) → 1 ≤ n → n ≤ 2016 → v n ≡ p + 1 → ⊥) → Walked d ix next c e
     walk-passes none =
@@ -188,18 +215,15 @@ module _ {d ix : List ℕ} (h : Indexed d ix) (roomy : narrow ≤ length ix) whe
           cost-left = ap (λ (x : ℕ). c + x) (sym (sumTo-same 2016 (left cost p) (left cost next) (λ n a b. still cost n a b (none n a b)))) ∙ w .cost-left;
           energy-left = ap (λ (x : ℕ). e + x) (sym (sumTo-same 2016 (left energy p) (left energy next) (λ n a b. still energy n a b (none n a b)))) ∙ w .energy-left;
           cost-most = w .cost-most;
+          rest = split-rest .1;
           ahead = onward;
         }
 
     pub walk-other : (mark (drop p d) ≡ CH → ⊥) → Walked d ix next c e
     walk-other other = walk-passes (λ n a b q. other (tells n a b p q .0))
 
-    pub walk-elsewhere : (1 ≤ number 6 2 (drop p d) → number 6 2 (drop p d) ≤ 2016 → v (number 6 2 (drop p d)) ≡ p + 1 → ⊥) → Walked d ix next c e
-    walk-elsewhere other =
-        walk-passes
-        (λ n a b q.
-        let z = tells n a b p q .1 in
-        other (omega (arith, z)) (omega (arith, z)) (ap (λ (x : ℕ). v x) z ∙ q))
+    pub walk-elsewhere : (v (number 6 2 (drop p d)) ≡ p + 1 → ⊥) → Walked d ix next c e
+    walk-elsewhere other = walk-passes (λ n a b q. other (ap (λ (x : ℕ). v x) (tells n a b p q .1) ∙ q))
 
     -- that the slot of interval m names
     module _ (m : ℕ) (a : 1 ≤ m) (b : m ≤ 2016) (q : v m ≡ p + 1) where
@@ -217,5 +241,6 @@ module _ {d ix : List ℕ} (h : Indexed d ix) (roomy : narrow ≤ length ix) whe
             cost-left = rw i (omega (arith, w .cost-left, moved cost));
             energy-left = rw j (omega (arith, w .energy-left, moved energy));
             cost-most = k;
+            rest = split-rest .1;
             ahead = onward;
           }

@@ -6,8 +6,9 @@ use mathlib.Core.Logic.{_⊎_}
 use Prim.Native.Nat.{ℕ, _+_, _-_, _*_, _≤_, _<_}
 use lib.Dec.{ltb}
 use lib.ListN.{getD, drop}
+use Rattle.lists.specs.Lists.{Each}
 use Rattle.records.specs.Table.{CH}
-use Rattle.records.specs.Record.{mark, size}
+use Rattle.records.specs.Record.{mark, size, fault}
 use Rattle.records.specs.Dossier.{records}
 use Rattle.index.specs.Slots.{slot}
 use Rattle.station.specs.Parameters.{chargePrice, chargeEnergy}
@@ -33,4 +34,5 @@ pub record Walked (d ix : List ℕ) (p cost energy : ℕ) : Type 0 where
       ≡ sumTo 2016 (λ n. chargePrice (amountsIn d) n * chargeEnergy (parametersIn d) n)
   pub energy-left : energy + sumTo 2016 (λ n. cond (ltb p (getD ix (slot CH n) 0)) (chargeEnergy (parametersIn d) n) 0) ≡ sumTo 2016 (λ n. chargeEnergy (parametersIn d) n)
   pub cost-most : cost ≤ 2147683648 * energy
+  pub rest : Each (λ r. fault r ≡ 0) (records (drop p d))
   pub ahead : (n : ℕ) → 1 ≤ n → n ≤ 2016 → p < getD ix (slot CH n) 0 → At (getD ix (slot CH n) 0 - 1) p (records (drop p d))

@@ -132,10 +132,7 @@ fn with_record(d: &[u8], index: &[u16], at: usize, k: usize, before: Charging) -
     if k != 8 {
         return before;
     }
-    let n = fields::u16_at(&d[at..], 6) as usize;
-    if (n == 0) | (2016 < n) {
-        return before;
-    }
+    let n = fields::u16_at(&d[at..at + records::CH.length], 6) as usize;
     if index[index::keys::slot_ch(n)] as usize == at + 1 {
         return with_interval(d, index, n, before);
     }
@@ -157,12 +154,12 @@ fn by_records(d: &[u8], index: &[u16]) -> Charging
     sums
 }
 
-// The sums over all intervals. Of a few records most are soon passed, of many the slots are.
+// The sums over all intervals: of some records they are the sooner done as these lie, of many as their slots do.
 fn sums(d: &[u8], index: &[u16]) -> Charging
     requires { ⌜ Indexed (now d) (now index) × (narrow ≤ length (now index)) ⌝ }
     ensures { λ r. ⌜ (r .cost ≡ sumTo 2016 (λ n. chargePrice (amountsIn (now (d .entry))) n * chargeEnergy (parametersIn (now (d .entry))) n)) × (r .energy ≡ totalEnergy (parametersIn (now (d .entry)))) × (r .cost ≤ 2147683648 * r .energy) × (r .energy ≤ 2016000000) ⌝ }
 {
-    if d.len() <= 600 {
+    if d.len() <= 6000 {
         return by_records(d, index);
     }
     intervals(d, index)

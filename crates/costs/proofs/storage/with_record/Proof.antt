@@ -1,20 +1,15 @@
 use borrow.Author.Needs.{needs}
-use borrow.Author.Tests.{ne-eqb, le-ltb, eqb-false, ltb-false}
 use mathlib.Core.Path.{_≡_, ap, sym, subst, _∙_}
-use mathlib.Core.Bool.{true, _||_, false≢true}
-use Prim.Native.Nat.{ℕ, _+_, _≤_}
+use Prim.Native.Nat.{ℕ, _+_, _-_, _≤_}
 use native.Mathlib.Omega.{arith}
-use lib.Arith.{lt-of-le-ne}
-use lib.Dec.{eqb, ltb}
 use lib.ListN.{getD, drop}
-use Rattle.lists.proofs.Tests.{or-false-left, or-false-right}
 use Rattle.fields.specs.Numbers.{number}
 use Rattle.records.specs.Table.{CH}
 use Rattle.records.specs.Record.{mark, size}
+use Rattle.records.proofs.Read.{number-take}
 use Rattle.index.specs.Slots.{slot}
-use Rattle.index.proofs.Turn.{tail}
 use Rattle.costs.specs.Intervals.{Walked}
-use Rattle.costs.proofs.ByRecords.{walk-other, walk-elsewhere, walk-counts, walk-within}
+use Rattle.costs.proofs.ByRecords.{whole, interval-in, walk-other, walk-elsewhere, walk-counts, walk-within}
 use Rattle.costs.proofs.storage.with_record.Statement.{statement}
 use Rattle.costs.proofs.storage.with_record.Tie as tie
 
@@ -22,23 +17,29 @@ use Rattle.costs.proofs.storage.with_record.Tie as tie
 past : (a : tie.Start) {x y : ℕ} → Walked (a .args .d .now) (a .args .index .now) (a .args .at + size (mark (drop (a .args .at) (a .args .d .now)))) x y → Walked (a .args .d .now) (a .args .index .now) (a .args .at + size (a .args .k)) x y
 past a {x} {y} w = subst (λ (k : ℕ). Walked (a .args .d .now) (a .args .index .now) (a .args .at + size k) x y) (sym (a .pre .3)) w
 
+-- it is a CH
+charging : (c : tie.Else1) → mark (drop (c .before .before .before .args .at) (c .before .before .before .args .d .now)) ≡ CH
+charging c = sym (c .before .before .before .pre .3) ∙ c .if1 .left
+
 -- the interval that it names
-says : (c : tie.After-u16-at) → c .u16-at .result ≡ number 6 2 (drop (c .before .before .before .before .before .args .at) (c .before .before .before .before .before .args .d .now))
-says c = c .u16-at .ensures ∙ ap (number 6 2) (tail (c .before .before .before .before .before .args .d .now) (c .before .before .before .before .before .args .at))
+says : (c : tie.After-u16-at) → c .u16-at .result ≡ number 6 2 (drop (c .before .before .before .before .before .before .args .at) (c .before .before .before .before .before .before .args .d .now))
+says c =
+    let a = c .before .before .before .before .before .before .args in
+    c .u16-at .ensures ∙ number-take (a .at + 16 - a .at) 6 2 (drop (a .at) (a .d .now)) (omega arith)
 
-out-of-range : (n : ℕ) → eqb n 0 || ltb 2016 n ≡ true → 1 ≤ n → n ≤ 2016 → ⊥
-out-of-range n e a b = false≢true (rw (ne-eqb n 0 (λ z. omega arith), le-ltb 2016 n b) at e)
-
-in-range : (c : tie.Else2) → (1 ≤ c .before .u16-at .result) × (c .before .u16-at .result ≤ 2016)
+in-range : (c : tie.After-u16-at) → (1 ≤ c .u16-at .result) × (c .u16-at .result ≤ 2016)
 in-range c =
-    let n = c .before .u16-at .result in
-    let e = eqb-false n 0 (or-false-left (eqb n 0) (ltb 2016 n) (c .if2 .left)) in
-    (lt-of-le-ne (omega arith) (λ z. e (sym z)), ltb-false 2016 n (or-false-right (eqb n 0) (ltb 2016 n) (c .if2 .left)))
+    let a = c .before .before .before .before .before .before in
+    let i = interval-in (a .pre .0) (a .pre .1) (a .pre .4) (a .pre .2) (charging (c .before .before .before)) in
+    (omega (arith, says c, i .0), omega (arith, says c, i .1))
 
 returns : tie.Need-returns
 returns c =
     let a = c .before .before .before in
     past a (walk-other (a .pre .0) (a .pre .1) (a .pre .4) (a .pre .2) (λ e. c .if1 .taken (a .pre .3 ∙ e)))
+
+add-u16-at : tie.Need-add-u16-at
+add-u16-at c = search needs
 
 sub-u16-at : tie.Need-sub-u16-at
 sub-u16-at c = search needs
@@ -47,7 +48,7 @@ part-u16-at-start : tie.Need-part-u16-at-start
 part-u16-at-start c = search needs
 
 part-u16-at-end : tie.Need-part-u16-at-end
-part-u16-at-end c = search needs
+part-u16-at-end c = let a = c .before .before .before .before in omega (arith, whole (a .pre .0) (a .pre .1) (a .pre .4) (a .pre .2) (charging (c .before)))
 
 u16-at-requires : tie.Need-u16-at-requires
 u16-at-requires c κs = search needs
@@ -55,27 +56,22 @@ u16-at-requires c κs = search needs
 cast-n : tie.Need-cast-n
 cast-n c = search needs
 
-returns-2 : tie.Need-returns-2
-returns-2 c =
-    let a = c .before .before .before .before .before .before in
-    past a (walk-elsewhere (a .pre .0) (a .pre .1) (a .pre .4) (a .pre .2) (λ x y z. out-of-range (c .before .u16-at .result) (c .if2 .taken) (omega (arith, says (c .before))) (omega (arith, says (c .before)))))
-
 slot-ch-requires : tie.Need-slot-ch-requires
 slot-ch-requires c κs = search needs
 
-mul-if3 : tie.Need-mul-if3
+mul-if2 : tie.Need-mul-if2
 unfolding slot
-mul-if3 c = omega (arith, c .slot-ch .ensures, in-range (c .before))
+mul-if2 c = omega (arith, c .slot-ch .ensures, in-range (c .before))
 
-shared-slice-read-if3 : tie.Need-shared-slice-read-if3
+shared-slice-read-if2 : tie.Need-shared-slice-read-if2
 unfolding slot
-shared-slice-read-if3 c = omega (arith, c .before .slot-ch .ensures, in-range (c .before .before), c .before .before .before .before .before .before .before .before .pre .1)
+shared-slice-read-if2 c = omega (arith, c .before .slot-ch .ensures, in-range (c .before .before), c .before .before .before .before .before .before .before .before .pre .1)
 
-cast-if3 : tie.Need-cast-if3
-cast-if3 c = omega (arith, c .shared-slice-known3 .given (c .before .slot-ch .result))
+cast-if2 : tie.Need-cast-if2
+cast-if2 c = omega (arith, c .shared-slice-known3 .given (c .before .slot-ch .result))
 
-add-if3 : tie.Need-add-if3
-add-if3 c = search needs
+add-if2 : tie.Need-add-if2
+add-if2 c = search needs
 
 with-interval-requires : tie.Need-with-interval-requires
 with-interval-requires c κs =
@@ -83,39 +79,39 @@ with-interval-requires c κs =
     let r = in-range (c .before .before .before) in
     (a .pre .0, a .pre .1, r .0, r .1, a .pre .4 .cost-most, walk-within (a .pre .0) (a .pre .1) (a .pre .4))
 
-returns-3 : tie.Need-returns-3
-returns-3 c =
+returns-2 : tie.Need-returns-2
+returns-2 c =
     let t = c .before in
     let a = t .before .before .before .before .before .before .before .before .before in
     let r = in-range (t .before .before .before) in
     let e = c .with-interval .ensures in
     past a
-    (walk-counts (a .pre .0) (a .pre .1) (a .pre .4) (a .pre .2) (t .before .before .before .before .u16-at .result) (r .0) (r .1)
-    (ap (λ (j : ℕ). getD (a .args .index .now) j 0) (sym (t .before .before .slot-ch .ensures)) ∙ t .if3 .taken) (e .0) (e .1) (e .2))
+    (walk-counts (a .pre .0) (a .pre .1) (a .pre .4) (a .pre .2) (t .before .before .before .u16-at .result) (r .0) (r .1)
+    (ap (λ (j : ℕ). getD (a .args .index .now) j 0) (sym (t .before .before .slot-ch .ensures)) ∙ t .if2 .taken) (e .0) (e .1) (e .2))
 
-returns-4 : tie.Need-returns-4
-returns-4 c =
+returns-3 : tie.Need-returns-3
+returns-3 c =
     let a = c .before .before .before .before .before .before .before .before .before in
     past a
     (walk-elsewhere (a .pre .0) (a .pre .1) (a .pre .4) (a .pre .2)
-    (λ x y z. c .if3 .left (ap (λ (j : ℕ). getD (a .args .index .now) j 0) (c .before .before .slot-ch .ensures ∙ ap (slot CH) (says (c .before .before .before .before))) ∙ z)))
+    (λ z. c .if2 .left (ap (λ (j : ℕ). getD (a .args .index .now) j 0) (c .before .before .slot-ch .ensures ∙ ap (slot CH) (says (c .before .before .before))) ∙ z)))
 
 pub with-record-spec : {M : Type 1} → statement M
 with-record-spec =
     tie.close
     (tie.spec
     returns
+    add-u16-at
     sub-u16-at
     part-u16-at-start
     part-u16-at-end
     u16-at-requires
     cast-n
-    returns-2
     slot-ch-requires
-    mul-if3
-    shared-slice-read-if3
-    cast-if3
-    add-if3
+    mul-if2
+    shared-slice-read-if2
+    cast-if2
+    add-if2
     with-interval-requires
-    returns-3
-    returns-4)
+    returns-2
+    returns-3)
