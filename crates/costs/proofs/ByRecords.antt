@@ -31,7 +31,7 @@ use Rattle.parameters.proofs.Bounds.{clean}
 use Rattle.formulas.specs.Sums.{sumTo}
 use Rattle.formulas.specs.Levels.{parametersIn, amountsIn, totalEnergy}
 use Rattle.formulas.proofs.Sums.{sumTo-zeros, sumTo-same, sumTo-moved, sumTo-within}
-use Rattle.costs.specs.Intervals.{At, Walked}
+use Rattle.costs.specs.Intervals.{At, Walked, Week}
 use Rattle.costs.proofs.Intervals.{charged, uncharged-slot}
 
 -- ---- where a record starts
@@ -152,7 +152,7 @@ module _ {d ix : List ℕ} (h : Indexed d ix) (roomy : narrow ≤ length ix) whe
     unfolding sumTo
     nothing-left f = sumTo-zeros (left f p) 0 2016 (λ i z. none-ahead f (suc (0 + i)) (omega arith) (omega arith))
 
-    pub walk-ends : (c ≡ sumTo 2016 cost) × (e ≡ totalEnergy (parametersIn d)) × (c ≤ 2147683648 * e) × (e ≤ 2016000000)
+    pub walk-ends : Week d c e
     unfolding totalEnergy fieldOf rowOf table
     walk-ends =
         let x = w .energy-left in

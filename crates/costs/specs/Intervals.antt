@@ -13,7 +13,7 @@ use Rattle.records.specs.Dossier.{records}
 use Rattle.index.specs.Slots.{slot}
 use Rattle.station.specs.Parameters.{chargePrice, chargeEnergy}
 use Rattle.formulas.specs.Sums.{sumTo}
-use Rattle.formulas.specs.Levels.{parametersIn, amountsIn}
+use Rattle.formulas.specs.Levels.{parametersIn, amountsIn, totalEnergy}
 
 -- price × energy and energy of intervals 1 to n, no price above 200,000 cents plus 2^31 and no energy above 1,000,000 kWh
 pub record Summed (d : List ℕ) (n cost energy : ℕ) : Type 0 where
@@ -36,3 +36,11 @@ pub record Walked (d ix : List ℕ) (p cost energy : ℕ) : Type 0 where
   pub cost-most : cost ≤ 2147683648 * energy
   pub rest : Each (λ r. fault r ≡ 0) (records (drop p d))
   pub ahead : (n : ℕ) → 1 ≤ n → n ≤ 2016 → p < getD ix (slot CH n) 0 → At (getD ix (slot CH n) 0 - 1) p (records (drop p d))
+
+-- both over the whole week, as far as they reach
+abbrev pub Week : List ℕ → ℕ → ℕ → Type 0
+Week d cost energy =
+    (cost ≡ sumTo 2016 (λ n. chargePrice (amountsIn d) n * chargeEnergy (parametersIn d) n))
+    × (energy ≡ totalEnergy (parametersIn d))
+    × (cost ≤ 2147683648 * energy)
+    × (energy ≤ 2016000000)

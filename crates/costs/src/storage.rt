@@ -7,10 +7,10 @@ ghost use Rattle.station.specs.Parameters.{window, hourPrice, chargePrice, char
 ghost use Rattle.index.specs.Slots.{narrow};
 ghost use Rattle.lookup.specs.Parts.{Indexed};
 ghost use Rattle.rules.specs.Curve.{fullHours};
-ghost use Rattle.formulas.specs.Sums.{sumTo, listTo, sumHighest};
+ghost use Rattle.formulas.specs.Sums.{listTo, sumHighest};
 ghost use Rattle.formulas.specs.Exact.{microDollars};
-ghost use Rattle.formulas.specs.Levels.{parametersIn, amountsIn, totalEnergy, chargingCost, shortRunCost, opportunityCost, storageEnergy};
-ghost use Rattle.costs.specs.Intervals.{Summed, Walked};
+ghost use Rattle.formulas.specs.Levels.{parametersIn, amountsIn, chargingCost, shortRunCost, opportunityCost, storageEnergy};
+ghost use Rattle.costs.specs.Intervals.{Summed, Walked, Week};
 use crate::maintenance::adders;
 use crate::maintenance::maintenance;
 
@@ -113,7 +113,7 @@ fn with_day(d: &[u8], index: &[u16], n: usize, before: Charging) -> Charging
 // All intervals, day by day.
 fn intervals(d: &[u8], index: &[u16]) -> Charging
     requires { ⌜ Indexed (now d) (now index) × (narrow ≤ length (now index)) ⌝ }
-    ensures { λ r. ⌜ (r .cost ≡ sumTo 2016 (λ n. chargePrice (amountsIn (now (d .entry))) n * chargeEnergy (parametersIn (now (d .entry))) n)) × (r .energy ≡ totalEnergy (parametersIn (now (d .entry)))) × (r .cost ≤ 2147683648 * r .energy) × (r .energy ≤ 2016000000) ⌝ }
+    ensures { λ r. ⌜ Week (now (d .entry)) (r .cost) (r .energy) ⌝ }
 {
     let mut sums = Charging { cost: 0, energy: 0 };
     let mut n = 0;
@@ -142,7 +142,7 @@ fn with_record(d: &[u8], index: &[u16], at: usize, k: usize, before: Charging) -
 // All intervals, record by record.
 fn by_records(d: &[u8], index: &[u16]) -> Charging
     requires { ⌜ Indexed (now d) (now index) × (narrow ≤ length (now index)) ⌝ }
-    ensures { λ r. ⌜ (r .cost ≡ sumTo 2016 (λ n. chargePrice (amountsIn (now (d .entry))) n * chargeEnergy (parametersIn (now (d .entry))) n)) × (r .energy ≡ totalEnergy (parametersIn (now (d .entry)))) × (r .cost ≤ 2147683648 * r .energy) × (r .energy ≤ 2016000000) ⌝ }
+    ensures { λ r. ⌜ Week (now (d .entry)) (r .cost) (r .energy) ⌝ }
 {
     let mut sums = Charging { cost: 0, energy: 0 };
     let mut at = 0;
@@ -157,7 +157,7 @@ fn by_records(d: &[u8], index: &[u16]) -> Charging
 // The sums over all intervals: of some records they are the sooner done as these lie, of many as their slots do.
 fn sums(d: &[u8], index: &[u16]) -> Charging
     requires { ⌜ Indexed (now d) (now index) × (narrow ≤ length (now index)) ⌝ }
-    ensures { λ r. ⌜ (r .cost ≡ sumTo 2016 (λ n. chargePrice (amountsIn (now (d .entry))) n * chargeEnergy (parametersIn (now (d .entry))) n)) × (r .energy ≡ totalEnergy (parametersIn (now (d .entry)))) × (r .cost ≤ 2147683648 * r .energy) × (r .energy ≤ 2016000000) ⌝ }
+    ensures { λ r. ⌜ Week (now (d .entry)) (r .cost) (r .energy) ⌝ }
 {
     if d.len() <= 6000 {
         return by_records(d, index);

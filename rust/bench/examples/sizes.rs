@@ -9,8 +9,8 @@
 //! station has no single price to test. The status is 1 if an answer differs, and 2 if an argument
 //! is wrong.
 //!
-//! --write leaves each dossier in the folder, and with them the smallest of each technology and some
-//! that are refused, behind hour, condition and offer, as anchor/ratio reads them, which is kept
+//! --write leaves each dossier in the folder, and with them the smallest of each technology, some
+//! batteries that charged now and then and some dossiers that are refused, behind hour, condition and offer, as anchor/ratio reads them, which is kept
 //! beside this repository and takes the inputs that lie beside it. From the root of the repository,
 //! this times them beside the fastest unproved C, but for those that the C doesn't know:
 //!
@@ -26,7 +26,7 @@ mod times;
 
 use calls::{status, Input, CONDITION, HOUR, NAMES};
 use model::make::sized::sized;
-use model::make::small::{least, refused, small};
+use model::make::small::{charged, least, refused, small};
 use model::table::{Technology, TECHNOLOGIES};
 use std::fs;
 use std::process::ExitCode;
@@ -63,6 +63,9 @@ fn write_small(folder: &str) -> Result<(), String> {
             let name = format!("{technology:?}-{name}").to_lowercase();
             write(folder, &name, &Input::of(dossier))?;
         }
+    }
+    for (name, dossier) in charged() {
+        write(folder, &format!("storage-{name}"), &Input::of(dossier))?;
     }
     let mut input = Input::of(least(Technology::Thermal));
     for (name, dossier) in refused() {

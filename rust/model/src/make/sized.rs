@@ -144,13 +144,16 @@ fn addition(profile: i128, cost: i128, level: u8) -> Vec<u8> {
     record(b"AD", 1, &[profile, cost, level.into(), 1_500_000])
 }
 
+pub(super) fn interval(n: i128) -> Vec<u8> {
+    record(b"CH", 1, &[n, price(n), 1_000])
+}
+
 /// What a station may have beside, mark by mark.
 fn others(technology: Technology) -> Vec<Vec<Vec<u8>>> {
     let intervals = match technology {
         Technology::Storage => 2_016,
         _ => 0,
     };
-    let interval = |n| record(b"CH", 1, &[n, price(n), 1_000]);
     // a day each, the first of them profile 1
     let request = |n| record(b"RQ", 1, &[n, 24 * (n - 1), 24 * n - 1, (n - 1) % 4 + 1]);
     vec![

@@ -1,7 +1,7 @@
 //! The smallest dossiers, to be timed: what a station is accepted with and no more, each key once,
-//! and dossiers that are refused.
+//! batteries that charged now and then, and dossiers that are refused.
 
-use super::sized::{fuel, keys, station, thresholds, CAPACITY};
+use super::sized::{fuel, interval, keys, station, thresholds, CAPACITY};
 use super::written::record;
 use crate::random::Random;
 use crate::table::Technology;
@@ -35,6 +35,25 @@ pub fn small(technology: Technology) -> [(&'static str, Vec<u8>); 3] {
         ("tested", tested),
         ("once", once.concat()),
     ]
+}
+
+/// The least battery with some charging intervals: the first ones of the week, and as many over
+/// all of it.
+pub fn charged() -> Vec<(String, Vec<u8>)> {
+    let least = least(Technology::Storage);
+    let with = |apart: i128, count: i128| {
+        let intervals = (0..count).map(|n| interval(apart * n + 1));
+        [&least[..], &intervals.collect::<Vec<_>>().concat()].concat()
+    };
+    let counts = [4, 30, 150, 300].into_iter();
+    counts
+        .flat_map(|count| {
+            [
+                (format!("first-{count:03}"), with(1, count)),
+                (format!("apart-{count:03}"), with(2_016 / count, count)),
+            ]
+        })
+        .collect()
 }
 
 /// Dossiers that are refused: most of them the least of a thermal station, spoilt.
