@@ -10,9 +10,10 @@
 //! is wrong.
 //!
 //! --write leaves each dossier in the folder, and with them the smallest of each technology, some
-//! batteries that charged now and then and some dossiers that are refused, behind hour, condition and offer, as anchor/ratio reads them, which is kept
-//! beside this repository and takes the inputs that lie beside it. From the root of the repository,
-//! this times them beside the fastest unproved C, but for those that the C doesn't know:
+//! batteries that charged now and then and some dossiers that are refused, behind hour, condition
+//! and offer, as anchor/ratio reads them, which is kept beside this repository and takes the inputs
+//! that lie beside it. From the root of the repository, this times them beside the fastest unproved
+//! C, but for those that the C doesn't know:
 //!
 //!     mkdir -p target/anchor
 //!     cp ../shared/anchor/ratio ../shared/anchor/*.c target/anchor
