@@ -67,9 +67,9 @@ fn price_verdict(
     match price_refusal(d, index, level, c) {
         Answer::Refused { number, place } => Verdict::Refused { number, place },
         Answer::Accepted => {
-            let x = reference::single_level(d, index, hour, level);
+            let amount = reference::single_level(d, index, hour, level);
             let t = threshold_of(d, index, c, level as usize);
-            limits::single_test(x, t, price)
+            limits::single_test(amount, t, price)
         }
     }
 }

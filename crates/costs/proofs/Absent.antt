@@ -18,11 +18,7 @@ use Rattle.formulas.specs.Sums.{sumTo}
 use Rattle.formulas.specs.Exact.{quotient, microDollars}
 use Rattle.formulas.specs.Levels.{parametersIn, amountsIn, adders, maintenance, startMaintenance}
 use Rattle.formulas.proofs.Sums.{sumTo-zeros}
-use Rattle.formulas.proofs.Rounding.{quotient-self}
-
--- nothing is left of nothing
-quotient-of-none : (n d : ℕ) → n ≡ 0 → quotient n d ≡ 0
-quotient-of-none n d e = omega (arith, quotient-self n d)
+use Rattle.formulas.proofs.Rounding.{quotient-of-none}
 
 module _ {d ix : List ℕ} (h : Indexed d ix) (p : ℕ) (a : 1 ≤ p) (b : p ≤ 4) {j : ℕ} where
   module _ (first : j ≡ slot AD (adderKey p 1 1)) (empty : slotsEmpty ix j 20 ≡ true) (v : ℕ) (x : 1 ≤ v) (y : v ≤ 4) where

@@ -19,7 +19,6 @@ use Rattle.records.proofs.Read.{number-take}
 use Rattle.records.proofs.Dossier.{Whole, first-mark, first-length, records-step, records-whole}
 use Rattle.station.specs.Current.{matches, better, current, startFrom, startOf}
 use Rattle.station.specs.Declared.{CurrentOf, absent, standing}
-use Rattle.station.specs.Parameters.{chargePrice, chargeEnergy}
 use Rattle.station.proofs.Current.{current-found}
 use Rattle.station.proofs.Parameters.{says-high}
 use Rattle.index.specs.Slots.{slot, narrow}
@@ -29,9 +28,9 @@ use Rattle.lookup.specs.Parts.{part, placeAt, currentPart, Indexed}
 use Rattle.lookup.proofs.Parts.{place-current, slot-tells, interval-key}
 use Rattle.parameters.proofs.Bounds.{clean}
 use Rattle.formulas.specs.Sums.{sumTo}
-use Rattle.formulas.specs.Levels.{parametersIn, amountsIn, totalEnergy}
+use Rattle.formulas.specs.Levels.{totalEnergy}
 use Rattle.formulas.proofs.Sums.{sumTo-zeros, sumTo-same, sumTo-moved, sumTo-within}
-use Rattle.costs.specs.Intervals.{At, Walked, Week}
+use Rattle.costs.specs.Intervals.{costOf, energyOf, At, leftOf, Walked, Week}
 use Rattle.costs.proofs.Intervals.{charged, uncharged-slot}
 
 -- ---- where a record starts
@@ -109,15 +108,14 @@ module _ {d ix : List ℕ} (h : Indexed d ix) (roomy : narrow ≤ length ix) whe
 
   -- ---- from place to place
 
-  -- what an interval adds while its record is ahead of place p
   abbrev left : (ℕ → ℕ) → ℕ → ℕ → ℕ
-  left f p n = cond (ltb p (v n)) (f n) 0
+  left = leftOf ix
 
   abbrev cost : ℕ → ℕ
-  cost n = chargePrice (amountsIn d) n * chargeEnergy (parametersIn d) n
+  cost = costOf d
 
   abbrev energy : ℕ → ℕ
-  energy n = chargeEnergy (parametersIn d) n
+  energy = energyOf d
 
   -- at the start all are ahead that add anything
   module _ (f : ℕ → ℕ) (none : (n : ℕ) → energy n ≡ 0 → f n ≡ 0) where
@@ -138,6 +136,11 @@ module _ {d ix : List ℕ} (h : Indexed d ix) (roomy : narrow ≤ length ix) whe
         ahead = λ n a b z. starts n a b z;
       }
 
+  -- the energy so far is some of the whole
+  pub walk-within : {p c e : ℕ} → Walked d ix p c e → e ≤ 2016000000
+  unfolding fieldOf rowOf table
+  walk-within w = omega (arith, w .energy-left, sumTo-within 2016 1000000 energy (λ n. says-high (clean h) CH n 2))
+
   -- at the end none
   module _ {p c e : ℕ} (w : Walked d ix p c e) (past : length d ≤ p) where
     none-ahead : (f : ℕ → ℕ) (n : ℕ) → 1 ≤ n → n ≤ 2016 → left f p n ≡ 0
@@ -153,16 +156,8 @@ module _ {d ix : List ℕ} (h : Indexed d ix) (roomy : narrow ≤ length ix) whe
     nothing-left f = sumTo-zeros (left f p) 0 2016 (λ i z. none-ahead f (suc (0 + i)) (omega arith) (omega arith))
 
     pub walk-ends : Week d c e
-    unfolding totalEnergy fieldOf rowOf table
-    walk-ends =
-        let x = w .energy-left in
-        let y = nothing-left energy in
-        (omega (arith, w .cost-left, nothing-left cost), omega (arith, x, y), w .cost-most, omega (arith, x, sumTo-within 2016 1000000 energy (λ n. says-high (clean h) CH n 2)))
-
-  -- the energy so far is some of the whole
-  pub walk-within : {p c e : ℕ} → Walked d ix p c e → e ≤ 2016000000
-  unfolding fieldOf rowOf table
-  walk-within w = omega (arith, w .energy-left, sumTo-within 2016 1000000 energy (λ n. says-high (clean h) CH n 2))
+    unfolding totalEnergy
+    walk-ends = (omega (arith, w .cost-left, nothing-left cost), omega (arith, w .energy-left, nothing-left energy), w .cost-most, walk-within w)
 
   -- past one record
   module _ {p c e : ℕ} (w : Walked d ix p c e) (within : p < length d) where
@@ -219,9 +214,11 @@ module _ {d ix : List ℕ} (h : Indexed d ix) (roomy : narrow ≤ length ix) whe
           ahead = onward;
         }
 
+    -- which is no CH
     pub walk-other : (mark (drop p d) ≡ CH → ⊥) → Walked d ix next c e
     walk-other other = walk-passes (λ n a b q. other (tells n a b p q .0))
 
+    -- or a CH whose slot names another place
     pub walk-elsewhere : (v (number 6 2 (drop p d)) ≡ p + 1 → ⊥) → Walked d ix next c e
     walk-elsewhere other = walk-passes (λ n a b q. other (ap (λ (x : ℕ). v x) (tells n a b p q .1) ∙ q))
 

@@ -15,10 +15,17 @@ use Rattle.station.specs.Parameters.{chargePrice, chargeEnergy}
 use Rattle.formulas.specs.Sums.{sumTo}
 use Rattle.formulas.specs.Levels.{parametersIn, amountsIn, totalEnergy}
 
--- price × energy and energy of intervals 1 to n, no price above 200,000 cents plus 2^31 and no energy above 1,000,000 kWh
+-- what interval n adds: its price, held plus 2^31, × its energy, and its energy
+abbrev pub costOf : List ℕ → ℕ → ℕ
+costOf d n = chargePrice (amountsIn d) n * chargeEnergy (parametersIn d) n
+
+abbrev pub energyOf : List ℕ → ℕ → ℕ
+energyOf d n = chargeEnergy (parametersIn d) n
+
+-- both over intervals 1 to n, no price above 200,000 cents plus 2^31 and no energy above 1,000,000 kWh
 pub record Summed (d : List ℕ) (n cost energy : ℕ) : Type 0 where
-  pub cost-sum : cost ≡ sumTo n (λ k. chargePrice (amountsIn d) k * chargeEnergy (parametersIn d) k)
-  pub energy-sum : energy ≡ sumTo n (λ k. chargeEnergy (parametersIn d) k)
+  pub cost-sum : cost ≡ sumTo n (costOf d)
+  pub energy-sum : energy ≡ sumTo n (energyOf d)
   pub cost-high : cost ≤ 2147683648 * energy
   pub energy-high : energy ≤ 1000000 * n
 
@@ -27,12 +34,14 @@ unfoldable pub At : ℕ → ℕ → List (List ℕ) → Type 0
 At x p [] = ⊥
 At x p (r ∷ l) = (x ≡ p) ⊎ At x (p + size (mark r)) l
 
--- the sums over the intervals whose records, by the index, lie before place p, which is the place of a record or the end: what is left is yet to come
+-- what interval n adds of f while the record that its slot names is ahead of place p
+abbrev pub leftOf : List ℕ → (ℕ → ℕ) → ℕ → ℕ → ℕ
+leftOf ix f p n = cond (ltb p (getD ix (slot CH n) 0)) (f n) 0
+
+-- the sums over the intervals whose records lie before place p, where a record lies or the dossier ends: what is left is yet to come
 pub record Walked (d ix : List ℕ) (p cost energy : ℕ) : Type 0 where
-  pub cost-left :
-      cost + sumTo 2016 (λ n. cond (ltb p (getD ix (slot CH n) 0)) (chargePrice (amountsIn d) n * chargeEnergy (parametersIn d) n) 0)
-      ≡ sumTo 2016 (λ n. chargePrice (amountsIn d) n * chargeEnergy (parametersIn d) n)
-  pub energy-left : energy + sumTo 2016 (λ n. cond (ltb p (getD ix (slot CH n) 0)) (chargeEnergy (parametersIn d) n) 0) ≡ sumTo 2016 (λ n. chargeEnergy (parametersIn d) n)
+  pub cost-left : cost + sumTo 2016 (leftOf ix (costOf d) p) ≡ sumTo 2016 (costOf d)
+  pub energy-left : energy + sumTo 2016 (leftOf ix (energyOf d) p) ≡ sumTo 2016 (energyOf d)
   pub cost-most : cost ≤ 2147683648 * energy
   pub rest : Each (λ r. fault r ≡ 0) (records (drop p d))
   pub ahead : (n : ℕ) → 1 ≤ n → n ≤ 2016 → p < getD ix (slot CH n) 0 → At (getD ix (slot CH n) 0 - 1) p (records (drop p d))
@@ -40,7 +49,4 @@ pub record Walked (d ix : List ℕ) (p cost energy : ℕ) : Type 0 where
 -- both over the whole week, as far as they reach
 abbrev pub Week : List ℕ → ℕ → ℕ → Type 0
 Week d cost energy =
-    (cost ≡ sumTo 2016 (λ n. chargePrice (amountsIn d) n * chargeEnergy (parametersIn d) n))
-    × (energy ≡ totalEnergy (parametersIn d))
-    × (cost ≤ 2147683648 * energy)
-    × (energy ≤ 2016000000)
+    (cost ≡ sumTo 2016 (costOf d)) × (energy ≡ totalEnergy (parametersIn d)) × (cost ≤ 2147683648 * energy) × (energy ≤ 2016000000)

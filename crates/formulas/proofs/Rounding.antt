@@ -36,6 +36,10 @@ pub quotient-self : (n d : ℕ) → quotient n d ≤ n
 quotient-self n zero = rw (quotient-none n) (omega arith)
 quotient-self n (suc d) = quotient-le n (suc d) n (omega arith)
 
+-- nothing is left of nothing
+pub quotient-of-none : (n d : ℕ) → n ≡ 0 → quotient n d ≡ 0
+quotient-of-none n d e = omega (arith, quotient-self n d)
+
 -- ---- by quotient and remainder, as code divides
 
 -- a remainder of half the divisor or more goes up
