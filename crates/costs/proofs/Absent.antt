@@ -7,53 +7,53 @@ use native.Mathlib.Omega.{arith}
 use Rattle.fields.specs.Numbers.{number}
 use Rattle.fields.proofs.Numbers.{number-nil}
 use Rattle.records.specs.Table.{AD, MM}
-use Rattle.records.specs.Dossier.{records}
 use Rattle.station.specs.Parameters.{adderKey, adder, itemKey, costC, outputW, intervalT, hoursPerStartS}
 use Rattle.station.proofs.Fields.{adder-at, costC-at}
 use Rattle.index.specs.Slots.{slot, slotsEmpty}
 use Rattle.index.proofs.Slots.{adder-slot}
-use Rattle.lookup.specs.Parts.{Indexed}
-use Rattle.lookup.proofs.Parts.{current-in-empty, slot-fits, three-field, item-key}
+use Rattle.lookup.specs.Parts.{Indexed, held, parametersHeld, amountsHeld}
+use Rattle.lookup.proofs.Parts.{three-field, item-key}
+use Rattle.lookup.proofs.Held.{held-in-empty}
 use Rattle.formulas.specs.Sums.{sumTo}
 use Rattle.formulas.specs.Exact.{quotient, microDollars}
-use Rattle.formulas.specs.Levels.{parametersIn, amountsIn, adders, maintenance, startMaintenance}
+use Rattle.formulas.specs.Levels.{adders, maintenance, startMaintenance}
 use Rattle.formulas.proofs.Sums.{sumTo-zeros}
 use Rattle.formulas.proofs.Rounding.{quotient-of-none}
 
 module _ {d ix : List ℕ} (h : Indexed d ix) (p : ℕ) (a : 1 ≤ p) (b : p ≤ 4) {j : ℕ} where
   module _ (first : j ≡ slot AD (adderKey p 1 1)) (empty : slotsEmpty ix j 20 ≡ true) (v : ℕ) (x : 1 ≤ v) (y : v ≤ 4) where
-    no-adder : (c : ℕ) → 1 ≤ c → c ≤ 5 → adder (amountsIn d) p c v ≡ 0
+    no-adder : (c : ℕ) → 1 ≤ c → c ≤ 5 → adder (amountsHeld d ix) p c v ≡ 0
     no-adder c u w =
         let n : ℕ = adderKey p c v in
         let k = three-field p c v a b u w x y in
         let low = adder-slot p 1 1 (omega arith) (omega arith) in
         let own = adder-slot p c v (omega arith) (omega arith) in
-        adder-at (records d) p c v
-        ∙ ap (number 9 8) (current-in-empty d ix h AD n k (slot-fits d ix h AD n refl k refl) j 20 empty (omega (arith, first, low, own)) (omega (arith, first, low, own)))
+        adder-at (held d ix) p c v
+        ∙ ap (number 9 8) (held-in-empty h AD n refl k j 20 empty (omega (arith, first, low, own)) (omega (arith, first, low, own)))
         ∙ number-nil 9 8
 
-    pub no-adders : 0 ≡ microDollars (adders (amountsIn d) p v)
+    pub no-adders : 0 ≡ microDollars (adders (amountsHeld d ix) p v)
     unfolding microDollars adders sumTo
-    no-adders = sym (sumTo-zeros (λ c. adder (amountsIn d) p c v) 0 5 (λ i z. no-adder (suc (0 + i)) (omega arith) (omega arith)))
+    no-adders = sym (sumTo-zeros (λ c. adder (amountsHeld d ix) p c v) 0 5 (λ i z. no-adder (suc (0 + i)) (omega arith) (omega arith)))
 
   module _ (first : j ≡ slot MM (itemKey p 1)) (empty : slotsEmpty ix j 8 ≡ true) where
-    no-item : (i : ℕ) → 1 ≤ i → i ≤ 8 → costC (amountsIn d) p i ≡ 0
+    no-item : (i : ℕ) → 1 ≤ i → i ≤ 8 → costC (amountsHeld d ix) p i ≡ 0
     unfolding slot
     no-item i u w =
         let n : ℕ = itemKey p i in
         let k = item-key p i a b u w in
-        costC-at (records d) p i
-        ∙ ap (number 8 8) (current-in-empty d ix h MM n k (slot-fits d ix h MM n refl k refl) j 8 empty (omega (arith, first)) (omega (arith, first)))
+        costC-at (held d ix) p i
+        ∙ ap (number 8 8) (held-in-empty h MM n refl k j 8 empty (omega (arith, first)) (omega (arith, first)))
         ∙ number-nil 8 8
 
-    pub no-maintenance : 0 ≡ microDollars (maintenance (parametersIn d) (amountsIn d) p)
+    pub no-maintenance : 0 ≡ microDollars (maintenance (parametersHeld d ix) (amountsHeld d ix) p)
     unfolding microDollars maintenance sumTo
     no-maintenance =
-        sym (sumTo-zeros (λ k. quotient (costC (amountsIn d) p k * 100000) (outputW (parametersIn d) p k * intervalT (parametersIn d) p k)) 0 8
+        sym (sumTo-zeros (λ k. quotient (costC (amountsHeld d ix) p k * 100000) (outputW (parametersHeld d ix) p k * intervalT (parametersHeld d ix) p k)) 0 8
         (λ i z. quotient-of-none _ _ (rw (no-item (suc (0 + i)) (omega arith) (omega arith)) (omega arith))))
 
-    pub no-start-maintenance : 0 ≡ microDollars (startMaintenance (parametersIn d) (amountsIn d) p)
+    pub no-start-maintenance : 0 ≡ microDollars (startMaintenance (parametersHeld d ix) (amountsHeld d ix) p)
     unfolding microDollars startMaintenance sumTo
     no-start-maintenance =
-        sym (sumTo-zeros (λ k. quotient (costC (amountsIn d) p k * hoursPerStartS (parametersIn d) p k * 1000) (intervalT (parametersIn d) p k)) 0 8
+        sym (sumTo-zeros (λ k. quotient (costC (amountsHeld d ix) p k * hoursPerStartS (parametersHeld d ix) p k * 1000) (intervalT (parametersHeld d ix) p k)) 0 8
         (λ i z. quotient-of-none _ _ (rw (no-item (suc (0 + i)) (omega arith) (omega arith)) (omega arith))))

@@ -3,3 +3,4 @@ pub mod Costs
 pub mod Intervals
 pub mod Absent
 pub mod ByRecords
+pub mod Always

@@ -5,7 +5,7 @@ ghost use lib.ListN.{length, drop};
 ghost use Rattle.records.specs.declared.Answer.the-variants.{Accepted};
 ghost use Rattle.records.specs.Dossier.{records, scan};
 ghost use Rattle.station.specs.Parameters.{window, placePrice};
-ghost use Rattle.lookup.specs.Parts.{Indexed, Complete};
+ghost use Rattle.lookup.specs.Parts.{Indexed, Complete, parametersHeld, amountsHeld};
 ghost use Rattle.formulas.specs.Sums.{listTo, fromTop};
 ghost use Rattle.formulas.specs.Exact.{microDollars};
 ghost use Rattle.formulas.specs.Levels.{parametersIn, amountsIn, forecastPrice, hydroEnergy};
@@ -48,8 +48,8 @@ fn forecast_price(d: &[u8], places: usize) -> u64
 
 // The sum of its one lamination.
 pub fn hydro_energy(d: &[u8], index: &[u16], p: usize) -> u64
-    requires { ⌜ Indexed (now d) (now index) × (1 ≤ p) × (p ≤ 4) × (50 ≤ window (parametersIn (now d))) ⌝ }
-    ensures { λ r. ⌜ r ≡ microDollars (hydroEnergy (parametersIn (now (d .entry))) (amountsIn (now (d .entry))) p) ⌝ }
+    requires { ⌜ Indexed (now d) (now index) × (1 ≤ p) × (p ≤ 4) × (50 ≤ window (parametersHeld (now d) (now index))) ⌝ }
+    ensures { λ r. ⌜ r ≡ microDollars (hydroEnergy (parametersHeld (now (d .entry)) (now (index .entry))) (amountsHeld (now (d .entry)) (now (index .entry))) p) ⌝ }
 {
     let price = forecast_price(d, parameters::window(d, index));
     price * 10000 + adders(d, index, p, 1) + maintenance(d, index, p)

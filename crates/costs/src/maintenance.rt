@@ -2,14 +2,14 @@
 ghost use mathlib.Core.Path.{_≡_};
 ghost use Prim.Native.Nat.{_*_, _≤_};
 ghost use Rattle.station.specs.Parameters.{costC, outputW, intervalT, hoursPerStartS};
-ghost use Rattle.lookup.specs.Parts.{Indexed};
+ghost use Rattle.lookup.specs.Parts.{Indexed, parametersHeld, amountsHeld};
 ghost use Rattle.formulas.specs.Exact.{quotient, microDollars};
-ghost use Rattle.formulas.specs.Levels.{parametersIn, amountsIn, adders, maintenance, startMaintenance};
+ghost use Rattle.formulas.specs.Levels.{adders, maintenance, startMaintenance};
 
 // The adders of a level. A profile without any is told by its slots at once, as one without items is below.
 pub fn adders(d: &[u8], index: &[u16], p: usize, v: usize) -> u64
     requires { ⌜ Indexed (now d) (now index) × (1 ≤ p) × (p ≤ 4) × (1 ≤ v) × (v ≤ 4) ⌝ }
-    ensures { λ r. ⌜ (r ≡ microDollars (adders (amountsIn (now (d .entry))) p v)) × (r ≤ 5000000000000) ⌝ }
+    ensures { λ r. ⌜ (r ≡ microDollars (adders (amountsHeld (now (d .entry)) (now (index .entry))) p v)) × (r ≤ 5000000000000) ⌝ }
 {
     if index::slots_empty(index, index::keys::slot_ad(p, 1, 1), 20) {
         return 0;
@@ -26,7 +26,7 @@ pub fn adders(d: &[u8], index: &[u16], p: usize, v: usize) -> u64
 // What item j adds to energy.
 fn item(d: &[u8], index: &[u16], p: usize, j: usize) -> u64
     requires { ⌜ Indexed (now d) (now index) × (1 ≤ p) × (p ≤ 4) × (1 ≤ j) × (j ≤ 8) ⌝ }
-    ensures { λ r. ⌜ (r ≡ quotient (costC (amountsIn (now (d .entry))) p j * 100000) (outputW (parametersIn (now (d .entry))) p j * intervalT (parametersIn (now (d .entry))) p j)) × (r ≤ 10000000000000000) ⌝ }
+    ensures { λ r. ⌜ (r ≡ quotient (costC (amountsHeld (now (d .entry)) (now (index .entry))) p j * 100000) (outputW (parametersHeld (now (d .entry)) (now (index .entry))) p j * intervalT (parametersHeld (now (d .entry)) (now (index .entry))) p j)) × (r ≤ 10000000000000000) ⌝ }
 {
     let r = lookup::mm(d, index, p, j);
     let cost = fields::u64_at(r, 8);
@@ -38,7 +38,7 @@ fn item(d: &[u8], index: &[u16], p: usize, j: usize) -> u64
 // What it adds to a start.
 fn start_item(d: &[u8], index: &[u16], p: usize, j: usize) -> u64
     requires { ⌜ Indexed (now d) (now index) × (1 ≤ p) × (p ≤ 4) × (1 ≤ j) × (j ≤ 8) ⌝ }
-    ensures { λ r. ⌜ (r ≡ quotient (costC (amountsIn (now (d .entry))) p j * hoursPerStartS (parametersIn (now (d .entry))) p j * 1000) (intervalT (parametersIn (now (d .entry))) p j)) × (r ≤ 1000000000000000000) ⌝ }
+    ensures { λ r. ⌜ (r ≡ quotient (costC (amountsHeld (now (d .entry)) (now (index .entry))) p j * hoursPerStartS (parametersHeld (now (d .entry)) (now (index .entry))) p j * 1000) (intervalT (parametersHeld (now (d .entry)) (now (index .entry))) p j)) × (r ≤ 1000000000000000000) ⌝ }
 {
     let r = lookup::mm(d, index, p, j);
     let cost = fields::u64_at(r, 8);
@@ -50,7 +50,7 @@ fn start_item(d: &[u8], index: &[u16], p: usize, j: usize) -> u64
 // Maintenance in an energy level.
 pub fn maintenance(d: &[u8], index: &[u16], p: usize) -> u64
     requires { ⌜ Indexed (now d) (now index) × (1 ≤ p) × (p ≤ 4) ⌝ }
-    ensures { λ r. ⌜ (r ≡ microDollars (maintenance (parametersIn (now (d .entry))) (amountsIn (now (d .entry))) p)) × (r ≤ 80000000000000000) ⌝ }
+    ensures { λ r. ⌜ (r ≡ microDollars (maintenance (parametersHeld (now (d .entry)) (now (index .entry))) (amountsHeld (now (d .entry)) (now (index .entry))) p)) × (r ≤ 80000000000000000) ⌝ }
 {
     if index::slots_empty(index, index::keys::slot_mm(p, 1), 8) {
         return 0;
@@ -67,7 +67,7 @@ pub fn maintenance(d: &[u8], index: &[u16], p: usize) -> u64
 // Maintenance in a start level.
 pub fn start_maintenance(d: &[u8], index: &[u16], p: usize) -> u64
     requires { ⌜ Indexed (now d) (now index) × (1 ≤ p) × (p ≤ 4) ⌝ }
-    ensures { λ r. ⌜ (r ≡ microDollars (startMaintenance (parametersIn (now (d .entry))) (amountsIn (now (d .entry))) p)) × (r ≤ 8000000000000000000) ⌝ }
+    ensures { λ r. ⌜ (r ≡ microDollars (startMaintenance (parametersHeld (now (d .entry)) (now (index .entry))) (amountsHeld (now (d .entry)) (now (index .entry))) p)) × (r ≤ 8000000000000000000) ⌝ }
 {
     if index::slots_empty(index, index::keys::slot_mm(p, 1), 8) {
         return 0;

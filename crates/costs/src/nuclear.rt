@@ -1,16 +1,16 @@
 // The nuclear level.
 ghost use mathlib.Core.Path.{_≡_};
 ghost use Prim.Native.Nat.{_≤_};
-ghost use Rattle.lookup.specs.Parts.{Indexed};
+ghost use Rattle.lookup.specs.Parts.{Indexed, parametersHeld, amountsHeld};
 ghost use Rattle.formulas.specs.Exact.{microDollars};
-ghost use Rattle.formulas.specs.Levels.{parametersIn, amountsIn, nuclearEnergy};
+ghost use Rattle.formulas.specs.Levels.{nuclearEnergy};
 use crate::maintenance::adders;
 use crate::maintenance::maintenance;
 
 // The sum of its one lamination.
 pub fn nuclear_energy(d: &[u8], index: &[u16], p: usize) -> u64
     requires { ⌜ Indexed (now d) (now index) × (1 ≤ p) × (p ≤ 4) ⌝ }
-    ensures { λ r. ⌜ r ≡ microDollars (nuclearEnergy (parametersIn (now (d .entry))) (amountsIn (now (d .entry))) p) ⌝ }
+    ensures { λ r. ⌜ r ≡ microDollars (nuclearEnergy (parametersHeld (now (d .entry)) (now (index .entry))) (amountsHeld (now (d .entry)) (now (index .entry))) p) ⌝ }
 {
     let uranium = parameters::incremental_fuel(d, index);
     let fuel = parameters::fuel(d, index, p);

@@ -5,7 +5,7 @@ ghost use lib.ListN.{length, drop};
 ghost use Rattle.records.specs.Record.{mark, size};
 ghost use Rattle.station.specs.Parameters.{window, hourPrice, chargePrice, chargeEnergy};
 ghost use Rattle.index.specs.Slots.{narrow};
-ghost use Rattle.lookup.specs.Parts.{Indexed};
+ghost use Rattle.lookup.specs.Parts.{Indexed, parametersHeld, amountsHeld};
 ghost use Rattle.rules.specs.Curve.{fullHours};
 ghost use Rattle.formulas.specs.Sums.{listTo, sumHighest};
 ghost use Rattle.formulas.specs.Exact.{microDollars};
@@ -198,7 +198,7 @@ fn charging_cost(d: &[u8], index: &[u16]) -> u64
 // The short-run cost.
 fn short_run_cost(d: &[u8], index: &[u16], p: usize) -> u64
     requires { ⌜ Indexed (now d) (now index) × (1 ≤ p) × (p ≤ 4) ⌝ }
-    ensures { λ r. ⌜ r ≡ microDollars (shortRunCost (parametersIn (now (d .entry))) (amountsIn (now (d .entry))) p) ⌝ }
+    ensures { λ r. ⌜ r ≡ microDollars (shortRunCost (parametersHeld (now (d .entry)) (now (index .entry))) (amountsHeld (now (d .entry)) (now (index .entry))) p) ⌝ }
 {
     let charge = charging_cost(d, index) + parameters::fuel(d, index, p);
     let efficiency = parameters::efficiency(d, index);
@@ -208,7 +208,7 @@ fn short_run_cost(d: &[u8], index: &[u16], p: usize) -> u64
 // The prices of hours 1 to the window, into the last places of an array, hour 1 the very last.
 fn prices(d: &[u8], index: &[u16], window: usize, prices: &mut [u32])
     requires { ⌜ Indexed (now d) (now index) × (window ≤ 168) × (length (now prices) ≡ 168) ⌝ }
-    ensures { λ r. ⌜ drop (168 - window) (now (prices .exit)) ≡ listTo window (hourPrice (amountsIn (now (d .entry)))) ⌝ }
+    ensures { λ r. ⌜ drop (168 - window) (now (prices .exit)) ≡ listTo window (hourPrice (amountsHeld (now (d .entry)) (now (index .entry)))) ⌝ }
 {
     let mut n = 0;
     while n < window {
@@ -220,7 +220,7 @@ fn prices(d: &[u8], index: &[u16], window: usize, prices: &mut [u32])
 // The sum of the highest prices of the window.
 fn highest_sum(d: &[u8], index: &[u16], hours: usize, window: usize) -> u64
     requires { ⌜ Indexed (now d) (now index) × (window ≤ 168) × (hours ≤ window) ⌝ }
-    ensures { λ r. ⌜ (r ≡ sumHighest hours (listTo window (hourPrice (amountsIn (now (d .entry)))))) × (r ≤ 336 * 4294967295) ⌝ }
+    ensures { λ r. ⌜ (r ≡ sumHighest hours (listTo window (hourPrice (amountsHeld (now (d .entry)) (now (index .entry)))))) × (r ≤ 336 * 4294967295) ⌝ }
 {
     let mut table = [0u32; 168];
     prices(d, index, window, &mut table);
@@ -230,8 +230,8 @@ fn highest_sum(d: &[u8], index: &[u16], hours: usize, window: usize) -> u64
 
 // The opportunity cost.
 fn opportunity_cost(d: &[u8], index: &[u16]) -> u64
-    requires { ⌜ Indexed (now d) (now index) × (fullHours (parametersIn (now d)) ≤ window (parametersIn (now d))) × (window (parametersIn (now d)) ≤ 168) ⌝ }
-    ensures { λ r. ⌜ r ≡ microDollars (opportunityCost (parametersIn (now (d .entry))) (amountsIn (now (d .entry)))) ⌝ }
+    requires { ⌜ Indexed (now d) (now index) × (fullHours (parametersHeld (now d) (now index)) ≤ window (parametersHeld (now d) (now index))) × (window (parametersHeld (now d) (now index)) ≤ 168) ⌝ }
+    ensures { λ r. ⌜ r ≡ microDollars (opportunityCost (parametersHeld (now (d .entry)) (now (index .entry))) (amountsHeld (now (d .entry)) (now (index .entry)))) ⌝ }
 {
     let hours = support::full_hours(d, index) as u64;
     let window = parameters::window(d, index);
@@ -244,8 +244,8 @@ fn opportunity_cost(d: &[u8], index: &[u16]) -> u64
 
 // The greater is taken.
 pub fn storage_energy(d: &[u8], index: &[u16], p: usize) -> u64
-    requires { ⌜ Indexed (now d) (now index) × (1 ≤ p) × (p ≤ 4) × (fullHours (parametersIn (now d)) ≤ window (parametersIn (now d))) × (window (parametersIn (now d)) ≤ 168) ⌝ }
-    ensures { λ r. ⌜ r ≡ microDollars (storageEnergy (parametersIn (now (d .entry))) (amountsIn (now (d .entry))) p) ⌝ }
+    requires { ⌜ Indexed (now d) (now index) × (1 ≤ p) × (p ≤ 4) × (fullHours (parametersHeld (now d) (now index)) ≤ window (parametersHeld (now d) (now index))) × (window (parametersHeld (now d) (now index)) ≤ 168) ⌝ }
+    ensures { λ r. ⌜ r ≡ microDollars (storageEnergy (parametersHeld (now (d .entry)) (now (index .entry))) (amountsHeld (now (d .entry)) (now (index .entry))) p) ⌝ }
 {
     arithmetic::greater(short_run_cost(d, index, p), opportunity_cost(d, index))
 }

@@ -4,10 +4,10 @@ ghost use mathlib.Core.Bool.{cond};
 ghost use Prim.Native.Nat.{_+_, _-_, _≤_};
 ghost use lib.Dec.{eqb};
 ghost use Rattle.station.specs.Parameters.{output, heat};
-ghost use Rattle.lookup.specs.Parts.{Indexed};
+ghost use Rattle.lookup.specs.Parts.{Indexed, parametersHeld, amountsHeld};
 ghost use Rattle.rules.specs.Curve.{points, rise};
 ghost use Rattle.formulas.specs.Exact.{microDollars, cents};
-ghost use Rattle.formulas.specs.Levels.{parametersIn, amountsIn, adders, maintenance, thermalEnergy, heatCost, startCost, noLoadCost};
+ghost use Rattle.formulas.specs.Levels.{parametersIn, adders, maintenance, thermalEnergy, heatCost, startCost, noLoadCost};
 use crate::maintenance::adders;
 use crate::maintenance::maintenance;
 use crate::maintenance::start_maintenance;
@@ -25,7 +25,7 @@ pub fn lamination_count(d: &[u8], index: &[u16]) -> usize
 // Where lamination i begins: the first at 0.
 pub fn bottom(d: &[u8], index: &[u16], i: usize) -> u64
     requires { ⌜ Indexed (now d) (now index) × (1 ≤ i) × (i ≤ 21) ⌝ }
-    ensures { λ r. ⌜ r ≡ cond (eqb i 1) 0 (output (parametersIn (now (d .entry))) i) ⌝ }
+    ensures { λ r. ⌜ r ≡ cond (eqb i 1) 0 (output (parametersHeld (now (d .entry)) (now (index .entry))) i) ⌝ }
 {
     if i == 1 {
         0
@@ -37,7 +37,7 @@ pub fn bottom(d: &[u8], index: &[u16], i: usize) -> u64
 // The rise of heat in lamination i.
 fn heat_rise(d: &[u8], index: &[u16], i: usize) -> u64
     requires { ⌜ Indexed (now d) (now index) × (1 ≤ i) × (i ≤ 20) ⌝ }
-    ensures { λ r. ⌜ (r ≡ rise (heat (parametersIn (now (d .entry)))) i) × (r ≤ 20000000) ⌝ }
+    ensures { λ r. ⌜ (r ≡ rise (heat (parametersHeld (now (d .entry)) (now (index .entry)))) i) × (r ≤ 20000000) ⌝ }
 {
     arithmetic::less(
         parameters::heat(d, index, i + 1),
@@ -48,7 +48,7 @@ fn heat_rise(d: &[u8], index: &[u16], i: usize) -> u64
 // The rise of output in lamination i.
 fn output_rise(d: &[u8], index: &[u16], i: usize) -> u64
     requires { ⌜ Indexed (now d) (now index) × (1 ≤ i) × (i ≤ 20) ⌝ }
-    ensures { λ r. ⌜ (r ≡ rise (output (parametersIn (now (d .entry)))) i) × (r ≤ 20000) ⌝ }
+    ensures { λ r. ⌜ (r ≡ rise (output (parametersHeld (now (d .entry)) (now (index .entry)))) i) × (r ≤ 20000) ⌝ }
 {
     arithmetic::less(
         parameters::output(d, index, i + 1),
@@ -58,8 +58,8 @@ fn output_rise(d: &[u8], index: &[u16], i: usize) -> u64
 
 // The level of lamination i in cents, given its adders and maintenance together.
 pub fn lamination(d: &[u8], index: &[u16], p: usize, i: usize, more: u64) -> u64
-    requires { ⌜ Indexed (now d) (now index) × (1 ≤ p) × (p ≤ 4) × (1 ≤ i) × (i ≤ 20) × (more ≡ microDollars (adders (amountsIn (now d)) p 1) + microDollars (maintenance (parametersIn (now d)) (amountsIn (now d)) p)) × (more ≤ 80005000000000000) ⌝ }
-    ensures { λ r. ⌜ r ≡ cents (microDollars (thermalEnergy (parametersIn (now (d .entry))) (amountsIn (now (d .entry))) p i)) ⌝ }
+    requires { ⌜ Indexed (now d) (now index) × (1 ≤ p) × (p ≤ 4) × (1 ≤ i) × (i ≤ 20) × (more ≡ microDollars (adders (amountsHeld (now d) (now index)) p 1) + microDollars (maintenance (parametersHeld (now d) (now index)) (amountsHeld (now d) (now index)) p)) × (more ≤ 80005000000000000) ⌝ }
+    ensures { λ r. ⌜ r ≡ cents (microDollars (thermalEnergy (parametersHeld (now (d .entry)) (now (index .entry))) (amountsHeld (now (d .entry)) (now (index .entry))) p i)) ⌝ }
 {
     let heat = heat_rise(d, index, i);
     let output = output_rise(d, index, i);
@@ -73,7 +73,7 @@ pub fn lamination(d: &[u8], index: &[u16], p: usize, i: usize, more: u64) -> u64
 // What a heat costs.
 fn heat_sum(d: &[u8], index: &[u16], p: usize, heat: u64) -> u64
     requires { ⌜ Indexed (now d) (now index) × (1 ≤ p) × (p ≤ 4) × (heat ≤ 20000000) ⌝ }
-    ensures { λ r. ⌜ (r ≡ microDollars (heatCost (parametersIn (now (d .entry))) (amountsIn (now (d .entry))) p heat)) × (r ≤ 24000000000000) ⌝ }
+    ensures { λ r. ⌜ (r ≡ microDollars (heatCost (parametersHeld (now (d .entry)) (now (index .entry))) (amountsHeld (now (d .entry)) (now (index .entry))) p heat)) × (r ≤ 24000000000000) ⌝ }
 {
     let fuel = parameters::fuel(d, index, p);
     let emission = parameters::emission(d, index, p);
@@ -83,7 +83,7 @@ fn heat_sum(d: &[u8], index: &[u16], p: usize, heat: u64) -> u64
 // A start.
 pub fn start_cost(d: &[u8], index: &[u16], p: usize) -> u64
     requires { ⌜ Indexed (now d) (now index) × (1 ≤ p) × (p ≤ 4) ⌝ }
-    ensures { λ r. ⌜ r ≡ microDollars (startCost (parametersIn (now (d .entry))) (amountsIn (now (d .entry))) p) ⌝ }
+    ensures { λ r. ⌜ r ≡ microDollars (startCost (parametersHeld (now (d .entry)) (now (index .entry))) (amountsHeld (now (d .entry)) (now (index .entry))) p) ⌝ }
 {
     heat_sum(d, index, p, parameters::start_heat(d, index))
         + adders(d, index, p, 2)
@@ -93,7 +93,7 @@ pub fn start_cost(d: &[u8], index: &[u16], p: usize) -> u64
 // An hour without load.
 pub fn no_load_cost(d: &[u8], index: &[u16], p: usize) -> u64
     requires { ⌜ Indexed (now d) (now index) × (1 ≤ p) × (p ≤ 4) ⌝ }
-    ensures { λ r. ⌜ r ≡ microDollars (noLoadCost (parametersIn (now (d .entry))) (amountsIn (now (d .entry))) p) ⌝ }
+    ensures { λ r. ⌜ r ≡ microDollars (noLoadCost (parametersHeld (now (d .entry)) (now (index .entry))) (amountsHeld (now (d .entry)) (now (index .entry))) p) ⌝ }
 {
     heat_sum(d, index, p, parameters::no_load_heat(d, index)) + adders(d, index, p, 3)
 }

@@ -2,3 +2,4 @@ pub mod Parts
 pub mod Opening
 pub mod Lookup
 pub mod Guess
+pub mod Held

@@ -9,13 +9,14 @@ use Rattle.lists.specs.Lists.{Each}
 use Rattle.lists.specs.Tests.{everyOf}
 use Rattle.fields.specs.Numbers.{number}
 use Rattle.records.specs.declared.Answer.the-variants.{Accepted}
-use Rattle.records.specs.Table.{CH, FP, LC, thermal, nuclear}
+use Rattle.records.specs.Table.{FU, AD, MM, CH, FP, LC, thermal, nuclear}
 use Rattle.records.specs.Record.{mark, keyOf}
 use Rattle.records.specs.Shapes.{begins}
 use Rattle.records.specs.Answers.{isAccepted}
 use Rattle.records.specs.Dossier.{records, scan}
 use Rattle.records.specs.Walk.{folded, walk}
 use Rattle.station.specs.Current.{current, startOf, longest, readable}
+use Rattle.station.specs.Parameters.{Parameters, Amounts, parameters, amounts}
 use Rattle.index.specs.declared.Passed.{Passed}
 use Rattle.index.specs.declared.Passed.the-variants.{Stopped}
 use Rattle.index.specs.Slots.{slot, short, narrow, wide, fresh, keepStep, passOf}
@@ -77,6 +78,22 @@ pub record Indexed (d ix : List ℕ) : Type 0 where
   pub short : length d ≤ 60000
   pub clean : scan 0 (records d) ≡ Accepted
   pub here : ix ≡ indexOf (length ix) d
+
+-- the records of which the index at hand holds the current ones
+unfoldable pub held : List ℕ → List ℕ → List (List ℕ)
+held d ix = records d
+
+-- what they say, without money
+abbrev pub parametersHeld : List ℕ → List ℕ → Parameters
+parametersHeld d ix = parameters (held d ix)
+
+-- the money
+abbrev pub amountsHeld : List ℕ → List ℕ → Amounts
+amountsHeld d ix = amounts (held d ix)
+
+-- a mark whose current record may differ from hour to hour
+abbrev pub dated : ℕ → Bool
+dated k = eqb k FU || eqb k AD || eqb k MM
 
 -- every record of the dossier has a slot in the index
 abbrev pub Complete : List ℕ → List ℕ → Type 0

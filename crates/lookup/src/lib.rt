@@ -12,7 +12,7 @@ ghost use Rattle.records.specs.Dossier.{records, scan};
 ghost use Rattle.station.specs.Current.{current, readable, lookupBytes};
 ghost use Rattle.index.specs.declared.Passed.the-variants.{Ended};
 ghost use Rattle.index.specs.Slots.{slot, narrow};
-ghost use Rattle.lookup.specs.Parts.{scanned, plain, lean, placeOf, placeAt, bytesOf, partAt, currentPart, lookupPart, Empty, Indexed, Complete, UpTo, Covers};
+ghost use Rattle.lookup.specs.Parts.{held, scanned, plain, lean, placeOf, placeAt, bytesOf, partAt, currentPart, lookupPart, Empty, Indexed, Complete, UpTo, Covers};
 use index::Passed;
 use records::Answer;
 
@@ -160,7 +160,7 @@ pub fn hp<'a>(d: &'a [u8], index: &[u16], n: usize) -> &'a [u8]
 // The current FU of a profile.
 pub fn fu<'a>(d: &'a [u8], index: &[u16], p: usize) -> &'a [u8]
     requires { ⌜ Indexed (now d) (now index) × (1 ≤ p) × (p ≤ 4) ⌝ }
-    ensures { λ r. ⌜ now r ≡ current 3 p (records (now (d .entry))) ⌝ }
+    ensures { λ r. ⌜ now r ≡ current 3 p (held (now (d .entry)) (now (index .entry))) ⌝ }
 {
     part_at(d, index, index::keys::slot_fu(p), records::FU.length)
 }
@@ -168,7 +168,7 @@ pub fn fu<'a>(d: &'a [u8], index: &[u16], p: usize) -> &'a [u8]
 // The current AD of a profile, cost and level.
 pub fn ad<'a>(d: &'a [u8], index: &[u16], p: usize, c: usize, v: usize) -> &'a [u8]
     requires { ⌜ Indexed (now d) (now index) × (1 ≤ p) × (p ≤ 4) × (1 ≤ c) × (c ≤ 5) × (1 ≤ v) × (v ≤ 4) ⌝ }
-    ensures { λ r. ⌜ now r ≡ current 4 (p * 65536 + c * 256 + v) (records (now (d .entry))) ⌝ }
+    ensures { λ r. ⌜ now r ≡ current 4 (p * 65536 + c * 256 + v) (held (now (d .entry)) (now (index .entry))) ⌝ }
 {
     part_at(d, index, index::keys::slot_ad(p, c, v), records::AD.length)
 }
@@ -176,7 +176,7 @@ pub fn ad<'a>(d: &'a [u8], index: &[u16], p: usize, c: usize, v: usize) -> &'a [
 // The current MM of a profile and item.
 pub fn mm<'a>(d: &'a [u8], index: &[u16], p: usize, j: usize) -> &'a [u8]
     requires { ⌜ Indexed (now d) (now index) × (1 ≤ p) × (p ≤ 4) × (1 ≤ j) × (j ≤ 8) ⌝ }
-    ensures { λ r. ⌜ now r ≡ current 5 (p * 256 + j) (records (now (d .entry))) ⌝ }
+    ensures { λ r. ⌜ now r ≡ current 5 (p * 256 + j) (held (now (d .entry)) (now (index .entry))) ⌝ }
 {
     part_at(d, index, index::keys::slot_mm(p, j), records::MM.length)
 }

@@ -13,22 +13,24 @@ use Rattle.station.specs.Parameters.{parameters, amounts}
 use Rattle.station.proofs.Parameters.{says-high, amount-high}
 use Rattle.lookup.specs.Parts.{Indexed}
 
-module _ {d ix : List ℕ} (h : Indexed d ix) where
-  pub clean : Each (λ r. fault r ≡ 0) (records d)
-  clean = scan-each 0 (records d) (h .clean)
+-- of any faultless records
+module _ {l : List (List ℕ)} (faultless : Each (λ r. fault r ≡ 0) l) {r : ℕ} {x : List ℕ} (k n i o w : ℕ) where
+  pub says-read : parameters l .says k n i ≡ number o w (current k n l) → r ≡ number o w x → x ≡ current k n l → (r ≡ parameters l .says k n i) × (r ≤ fieldOf k i .highest)
+  says-read e p q =
+      let z : r ≡ parameters l .says k n i = p ∙ ap (number o w) q ∙ sym e in
+      (z, rw z (says-high faultless k n i))
 
-  pub says-read : {r : ℕ} {x : List ℕ} (k n i o w : ℕ) → parameters (records d) .says k n i ≡ number o w (current k n (records d)) → r ≡ number o w x → x ≡ current k n (records d) → (r ≡ parameters (records d) .says k n i) × (r ≤ fieldOf k i .highest)
-  says-read {r} k n i o w e p q =
-      let z : r ≡ parameters (records d) .says k n i = p ∙ ap (number o w) q ∙ sym e in
-      (z, rw z (says-high clean k n i))
+  pub amount-read : amounts l .of k n i ≡ number o w (current k n l) → r ≡ number o w x → x ≡ current k n l → (r ≡ amounts l .of k n i) × (r ≤ fieldOf k i .highest)
+  amount-read e p q =
+      let z : r ≡ amounts l .of k n i = p ∙ ap (number o w) q ∙ sym e in
+      (z, rw z (amount-high faultless k n i))
 
-  pub amount-read : {r : ℕ} {x : List ℕ} (k n i o w : ℕ) → amounts (records d) .of k n i ≡ number o w (current k n (records d)) → r ≡ number o w x → x ≡ current k n (records d) → (r ≡ amounts (records d) .of k n i) × (r ≤ fieldOf k i .highest)
-  amount-read {r} k n i o w e p q =
-      let z : r ≡ amounts (records d) .of k n i = p ∙ ap (number o w) q ∙ sym e in
-      (z, rw z (amount-high clean k n i))
+-- a price, plus 2^31
+pub price-read : {l : List (List ℕ)} → Each (λ r. fault r ≡ 0) l → {r v : ℕ} {x : List ℕ} (k n i o : ℕ) → amounts l .of k n i ≡ biased (number o 4 (current k n l)) → r ≡ biased v → v ≡ number o 4 x → x ≡ current k n l → (r ≡ amounts l .of k n i) × (r ≤ fieldOf k i .highest)
+price-read {l} faultless {r} k n i o e b p q =
+    let z : r ≡ amounts l .of k n i = b ∙ ap biased (p ∙ ap (number o 4) q) ∙ sym e in
+    (z, rw z (amount-high faultless k n i))
 
-  -- a price, plus 2^31
-  pub price-read : {r v : ℕ} {x : List ℕ} (k n i o : ℕ) → amounts (records d) .of k n i ≡ biased (number o 4 (current k n (records d))) → r ≡ biased v → v ≡ number o 4 x → x ≡ current k n (records d) → (r ≡ amounts (records d) .of k n i) × (r ≤ fieldOf k i .highest)
-  price-read {r} k n i o e b p q =
-      let z : r ≡ amounts (records d) .of k n i = b ∙ ap biased (p ∙ ap (number o 4) q) ∙ sym e in
-      (z, rw z (amount-high clean k n i))
+-- a dossier's records are
+pub clean : {d ix : List ℕ} → Indexed d ix → Each (λ r. fault r ≡ 0) (records d)
+clean {d} h = scan-each 0 (records d) (h .clean)

@@ -21,6 +21,8 @@ use Rattle.rules.specs.Curve.{points}
 use Rattle.rules.specs.Answer.{answer}
 use Rattle.reference.specs.declared.HourLevels.{HourLevels}
 use Rattle.reference.specs.declared.SingleLevels.{SingleLevels}
+use Rattle.lookup.specs.Parts.{Indexed, parametersHeld, amountsHeld}
+use Rattle.lookup.proofs.Held.{parameters-held, amounts-held}
 use Rattle.formulas.specs.Exact.{Sum, quotient, microDollars, cents}
 use Rattle.formulas.specs.Levels.{parametersIn, amountsIn, Line, amount, adders, startCost, noLoadCost, nuclearEnergy, storageEnergy, hydroEnergy, lamination, laminations, oneLamination, single, profile, linesOf, lines, levels, Shown, row, shown}
 use Rattle.reference.specs.Packed.{laminationsFrom, singleOf, unpacked, energyLines, amountOf, padded, hourLevels, singleLevels, hourOf, packed, noLevels, levelsAnswer}
@@ -141,12 +143,13 @@ pub one-handed :
     → hourLevels t p 1 (replicate 20 0) b' x' 0 0 z ≡ h → hourOf r a b x ≡ h
 one-handed r a b x e = rw (r, a, b, x) e
 
--- at an hour
-pub levels-packed : (d : List ℕ) (h : ℕ) {q : ℕ} {r : HourLevels} → q ≡ profile (parameters (records d)) h
-    → r ≡ packed (technology (parameters (records d))) q (linesOf (parameters (records d)) (amounts (records d)) q)
-    → r ≡ packed (technology (parameters (records d))) (profile (parameters (records d)) h) (levels d h)
+-- at an hour: the index at hand is the dossier's
+pub levels-packed : {d ix : List ℕ} → Indexed d ix → (h : ℕ) {q : ℕ} {r : HourLevels} → q ≡ profile (parametersIn d) h
+    → r ≡ packed (technology (parametersHeld d ix)) q (linesOf (parametersHeld d ix) (amountsHeld d ix) q)
+    → r ≡ packed (technology (parametersIn d)) (profile (parametersIn d) h) (levels d h)
 unfolding levels lines
-levels-packed d h e r = rw (← e) r
+levels-packed i h {q} e r =
+    rw (← e) (r ∙ ap₂ (λ (s : Parameters) (m : Amounts). packed (technology s) q (linesOf s m q)) (parameters-held i) (amounts-held i))
 
 -- ---- and unpacked again
 

@@ -1,5 +1,5 @@
 -- A level without laminations, where it is held: it stands among the lines of a thermal station, or it is reserve behind one lamination.
-use mathlib.Core.Path.{_≡_, refl, sym}
+use mathlib.Core.Path.{_≡_, refl, ap₂, sym, _∙_}
 use mathlib.Core.Bool.{Bool, true, false, cond, _||_, false≢true}
 use mathlib.Core.List.{List, [], _∷_}
 use Prim.Native.Nat.{ℕ, zero, suc, _-_, _≤_}
@@ -10,6 +10,8 @@ use Rattle.records.specs.Dossier.{records}
 use Rattle.station.specs.Parameters.{Parameters, Amounts, parameters, technology}
 use Rattle.rules.specs.Fit.{energy, start, noLoad, reserve, levelsOf, holds}
 use Rattle.rules.specs.Curve.{points}
+use Rattle.lookup.specs.Parts.{Indexed, parametersHeld, amountsHeld}
+use Rattle.lookup.proofs.Held.{parameters-held, amounts-held}
 use Rattle.formulas.specs.Exact.{Sum, microDollars, cents}
 use Rattle.formulas.specs.Levels.{parametersIn, amountsIn, Line, adders, startCost, noLoadCost, nuclearEnergy, storageEnergy, hydroEnergy, laminations, oneLamination, single, profile, linesOf, lines, levels}
 use Rattle.reference.specs.Packed.{amountOf, singleSum}
@@ -73,7 +75,7 @@ module _ (s : Parameters) (m : Amounts) (p : ℕ) where
       (λ e. refl)
 
 -- at an hour
-pub single-amount : (d : List ℕ) (h v : ℕ) {q : ℕ} → q ≡ profile (parameters (records d)) h → 2 ≤ v → v ≤ 4 → holds (technology (parametersIn d)) v ≡ true
-    → cents (microDollars (singleSum (parametersIn d) (amountsIn d) q v)) ≡ amountOf v (levels d h)
+pub single-amount : {d ix : List ℕ} → Indexed d ix → (h v : ℕ) {q : ℕ} → q ≡ profile (parameters (records d)) h → 2 ≤ v → v ≤ 4 → holds (technology (parametersIn d)) v ≡ true
+    → cents (microDollars (singleSum (parametersHeld d ix) (amountsHeld d ix) q v)) ≡ amountOf v (levels d h)
 unfolding levels lines
-single-amount d h v e l u g = rw e (sum-amount (parametersIn d) (amountsIn d) (profile (parametersIn d) h) v l u g)
+single-amount {d} i h v {q} e l u g = ap₂ (λ (s : Parameters) (m : Amounts). cents (microDollars (singleSum s m q v))) (parameters-held i) (amounts-held i) ∙ rw e (sum-amount (parametersIn d) (amountsIn d) (profile (parametersIn d) h) v l u g)

@@ -3,8 +3,8 @@ ghost use mathlib.Core.Path.{_≡_};
 ghost use mathlib.Core.List.{[], map};
 ghost use Prim.Native.Nat.{_≤_};
 ghost use lib.ListN.{replicate};
-ghost use Rattle.lookup.specs.Parts.{Indexed};
-ghost use Rattle.formulas.specs.Levels.{parametersIn, amountsIn, laminations, amount};
+ghost use Rattle.lookup.specs.Parts.{Indexed, parametersHeld, amountsHeld};
+ghost use Rattle.formulas.specs.Levels.{laminations, amount};
 ghost use Rattle.reference.specs.Packed.{padded};
 use costs::maintenance::adders;
 use costs::maintenance::maintenance;
@@ -22,7 +22,7 @@ pub fn laminations(
     cents: &mut [u64],
 )
     requires { ⌜ Indexed (now d) (now index) × (1 ≤ p) × (p ≤ 4) × (n ≤ 20) × (now from ≡ replicate 20 0) × (now to ≡ replicate 20 0) × (now cents ≡ replicate 20 0) ⌝ }
-    ensures { λ r. ⌜ (now (from .exit) ≡ padded 20 (map (λ x. x .from) (laminations (parametersIn (now (d .entry))) (amountsIn (now (d .entry))) p 1 n []))) × (now (to .exit) ≡ padded 20 (map (λ x. x .to) (laminations (parametersIn (now (d .entry))) (amountsIn (now (d .entry))) p 1 n []))) × (now (cents .exit) ≡ padded 20 (map (λ x. amount x) (laminations (parametersIn (now (d .entry))) (amountsIn (now (d .entry))) p 1 n []))) ⌝ }
+    ensures { λ r. ⌜ (now (from .exit) ≡ padded 20 (map (λ x. x .from) (laminations (parametersHeld (now (d .entry)) (now (index .entry))) (amountsHeld (now (d .entry)) (now (index .entry))) p 1 n []))) × (now (to .exit) ≡ padded 20 (map (λ x. x .to) (laminations (parametersHeld (now (d .entry)) (now (index .entry))) (amountsHeld (now (d .entry)) (now (index .entry))) p 1 n []))) × (now (cents .exit) ≡ padded 20 (map (λ x. amount x) (laminations (parametersHeld (now (d .entry)) (now (index .entry))) (amountsHeld (now (d .entry)) (now (index .entry))) p 1 n []))) ⌝ }
 {
     let more = adders(d, index, p, 1) + maintenance(d, index, p);
     let mut i = 0;

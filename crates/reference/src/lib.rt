@@ -8,11 +8,11 @@ ghost use mathlib.Core.Bool.{true};
 ghost use Prim.Native.Nat.{_≤_};
 ghost use lib.ListN.{replicate};
 ghost use Rattle.station.specs.Parameters.{technology, capacity};
-ghost use Rattle.lookup.specs.Parts.{Indexed, Empty};
+ghost use Rattle.lookup.specs.Parts.{Indexed, Empty, parametersHeld, amountsHeld};
 ghost use Rattle.rules.specs.Fit.{holds};
 ghost use Rattle.rules.specs.Answer.{IsAccepted};
 ghost use Rattle.formulas.specs.Exact.{microDollars, cents as centsOf};
-ghost use Rattle.formulas.specs.Levels.{parametersIn, amountsIn, profile, linesOf, levels};
+ghost use Rattle.formulas.specs.Levels.{parametersIn, profile, linesOf, levels};
 ghost use Rattle.reference.specs.Packed.{padded, singleLevels, hourOf, singleSum, amountOf, packed, noLevels, levelsAnswer};
 use arithmetic::Money;
 use records::Answer;
@@ -60,7 +60,7 @@ fn one_lamination(
     cents: &mut [u64],
 ) -> SingleLevels
     requires { ⌜ Indexed (now d) (now index) × (now to ≡ replicate 20 0) × (now cents ≡ replicate 20 0) ⌝ }
-    ensures { λ r. ⌜ (r ≡ singleLevels technology p 1 0 0 (centsOf reserve)) × (now (to .exit) ≡ padded 20 (capacity (parametersIn (now (d .entry))) ∷ [])) × (now (cents .exit) ≡ padded 20 (centsOf energy ∷ [])) ⌝ }
+    ensures { λ r. ⌜ (r ≡ singleLevels technology p 1 0 0 (centsOf reserve)) × (now (to .exit) ≡ padded 20 (capacity (parametersHeld (now (d .entry)) (now (index .entry))) ∷ [])) × (now (cents .exit) ≡ padded 20 (centsOf energy ∷ [])) ⌝ }
 {
     let energy_level = Money::from_sum(energy);
     let reserve_level = Money::from_sum(reserve);
@@ -85,8 +85,8 @@ fn thermal_levels(
     to: &mut [u64],
     cents: &mut [u64],
 ) -> SingleLevels
-    requires { ⌜ Indexed (now d) (now index) × (1 ≤ p) × (p ≤ 4) × (technology (parametersIn (now d)) ≡ 1) × (now from ≡ replicate 20 0) × (now to ≡ replicate 20 0) × (now cents ≡ replicate 20 0) ⌝ }
-    ensures { λ r. ⌜ hourOf r (now (from .exit)) (now (to .exit)) (now (cents .exit)) ≡ packed (technology (parametersIn (now (d .entry)))) p (linesOf (parametersIn (now (d .entry))) (amountsIn (now (d .entry))) p) ⌝ }
+    requires { ⌜ Indexed (now d) (now index) × (1 ≤ p) × (p ≤ 4) × (technology (parametersHeld (now d) (now index)) ≡ 1) × (now from ≡ replicate 20 0) × (now to ≡ replicate 20 0) × (now cents ≡ replicate 20 0) ⌝ }
+    ensures { λ r. ⌜ hourOf r (now (from .exit)) (now (to .exit)) (now (cents .exit)) ≡ packed (technology (parametersHeld (now (d .entry)) (now (index .entry)))) p (linesOf (parametersHeld (now (d .entry)) (now (index .entry))) (amountsHeld (now (d .entry)) (now (index .entry))) p) ⌝ }
 {
     let count = costs::thermal::lamination_count(d, index);
     laminations::laminations(d, index, p, count, from, to, cents);
@@ -136,7 +136,7 @@ pub fn hour_levels(
 // The sum of a level without laminations in a profile.
 fn single_sum(d: &[u8], index: &[u16], p: usize, level: u8) -> u64
     requires { ⌜ Indexed (now d) (now index) × (1 ≤ p) × (p ≤ 4) ⌝ }
-    ensures { λ r. ⌜ r ≡ microDollars (singleSum (parametersIn (now (d .entry))) (amountsIn (now (d .entry))) p level) ⌝ }
+    ensures { λ r. ⌜ r ≡ microDollars (singleSum (parametersHeld (now (d .entry)) (now (index .entry))) (amountsHeld (now (d .entry)) (now (index .entry))) p level) ⌝ }
 {
     if level == 2 {
         return costs::thermal::start_cost(d, index, p);

@@ -26,9 +26,10 @@ use Rattle.station.proofs.Parameters.{says-high}
 use Rattle.station.proofs.Fields.{technology-at, capacity-at, charge-at, output-at, heat-at, requested-at}
 use Rattle.index.specs.Slots.{slot, slotsEmpty}
 use Rattle.index.proofs.Slots.{InKey}
-use Rattle.lookup.specs.Parts.{Indexed, Complete}
+use Rattle.lookup.specs.Parts.{held, Indexed, Complete}
 use Rattle.lookup.proofs.Parts.{one-field, point-key, request-key, current-in-empty, slot-tells, fits, beyond-index}
 use Rattle.rules.specs.Fit.{Known}
+use Rattle.lookup.proofs.Held.{held-always}
 use Rattle.rules.specs.Curve.{points, rise, curveHolds, curveFits, fuelHolds, fullHours, hoursHold, windowFits, placesHold, forecastFits}
 use Rattle.support.specs.Legs.{lastRise, legHolds, fuelled}
 use Rattle.rules.proofs.Sound.{clean-range, clean-agrees}
@@ -304,14 +305,14 @@ module _ (d ix : List ℕ) (h : Indexed d ix) {j : ℕ} (first : j ≡ slot RQ 1
       let i = request-key (n + 1) (omega arith) (omega arith) in
       current-in-empty d ix h RQ (n + 1) i (fits d ix h RQ (n + 1) i refl) j 16 empty (omega (arith, first)) (omega (arith, first))
 
-  fuelled-to : (n : ℕ) → n ≤ 16 → true ≡ allTo n (fuelled (parameters (records d)))
+  fuelled-to : (n : ℕ) → n ≤ 16 → true ≡ allTo n (fuelled (parameters (held d ix)))
   unfolding allTo
   fuelled-to zero p = refl
   fuelled-to (suc n) p =
-      let k : fuelled (parameters (records d)) (n + 1) ≡ true = sym (request-none (records d) (n + 1) 0 {part = []} (sym (unrequested n (omega arith))) (sym (number-nil 15 1)) refl) in
+      let k : fuelled (parameters (held d ix)) (n + 1) ≡ true = sym (request-none (held d ix) (n + 1) 0 {part = []} (sym (held-always h RQ _ refl ∙ unrequested n (omega arith))) (sym (number-nil 15 1)) refl) in
       rw (← fuelled-to n (omega arith), ← add-one n, k) refl
 
-  pub requests-none : true ≡ allTo 16 (fuelled (parameters (records d)))
+  pub requests-none : true ≡ allTo 16 (fuelled (parameters (held d ix)))
   requests-none = fuelled-to 16 (le-refl 16)
 
 -- ---- ranges

@@ -8,7 +8,7 @@ ghost use Rattle.lists.specs.Tests.{allTo};
 ghost use Rattle.records.specs.Table.{HR, FP};
 ghost use Rattle.records.specs.Dossier.{records};
 ghost use Rattle.station.specs.Parameters.{parameters};
-ghost use Rattle.lookup.specs.Parts.{Indexed, Complete};
+ghost use Rattle.lookup.specs.Parts.{Indexed, Complete, parametersHeld};
 ghost use Rattle.support.specs.Legs.{fuelled};
 ghost use Rattle.rules.specs.Curve.{points, curveHolds, curveFits, fuelHolds, fullHours, windowFits, forecastFits};
 ghost use Rattle.rules.specs.Answer.{unsupported};
@@ -103,7 +103,7 @@ fn curve_fits(d: &[u8], index: &[u16]) -> bool
 // Whether a request is absent or withdrawn, or its profile has an FU.
 fn request_fuelled(d: &[u8], index: &[u16], n: usize) -> bool
     requires { ⌜ Indexed (now d) (now index) × (1 ≤ n) × (n ≤ 16) ⌝ }
-    ensures { λ r. ⌜ r ≡ fuelled (parameters (records (now (d .entry)))) n ⌝ }
+    ensures { λ r. ⌜ r ≡ fuelled (parametersHeld (now (d .entry)) (now (index .entry))) n ⌝ }
 {
     let p = fields::u8_at(lookup::rq(d, index, n), 15) as usize;
     if p == 0 {
@@ -115,7 +115,7 @@ fn request_fuelled(d: &[u8], index: &[u16], n: usize) -> bool
 // The same of every request; without any, the slots tell it at once.
 fn requests_fuelled(d: &[u8], index: &[u16]) -> bool
     requires { ⌜ Indexed (now d) (now index) ⌝ }
-    ensures { λ r. ⌜ r ≡ allTo 16 (fuelled (parameters (records (now (d .entry))))) ⌝ }
+    ensures { λ r. ⌜ r ≡ allTo 16 (fuelled (parametersHeld (now (d .entry)) (now (index .entry)))) ⌝ }
 {
     if slots_empty(index, index::keys::slot_rq(1), 16) {
         return true;
@@ -132,7 +132,7 @@ fn requests_fuelled(d: &[u8], index: &[u16]) -> bool
 // What 8 asks.
 fn fuel_holds(d: &[u8], index: &[u16]) -> bool
     requires { ⌜ Indexed (now d) (now index) ⌝ }
-    ensures { λ r. ⌜ r ≡ fuelHolds (parameters (records (now (d .entry)))) ⌝ }
+    ensures { λ r. ⌜ r ≡ fuelHolds (parametersHeld (now (d .entry)) (now (index .entry))) ⌝ }
 {
     (0 < lookup::fu(d, index, 1).len()) & requests_fuelled(d, index)
 }

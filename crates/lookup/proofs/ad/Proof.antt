@@ -4,7 +4,8 @@ use Rattle.records.specs.Table.{table, rowOf}
 use Rattle.records.specs.Record.{widths, size}
 use Rattle.records.specs.Shapes.{shape, shapeOf}
 use Rattle.index.proofs.Slots.{InKey}
-use Rattle.lookup.proofs.Parts.{three-field, slot-fits, part-found}
+use Rattle.lookup.proofs.Parts.{three-field, slot-fits}
+use Rattle.lookup.proofs.Held.{held-found}
 use borrow.Author.Needs.{needs}
 use Rattle.lookup.proofs.ad.Statement.{statement}
 use Rattle.lookup.proofs.ad.Tie as tie
@@ -21,7 +22,7 @@ part-at-requires c κs = (slot-fits _ _ (c .before .before .before .pre .0) 4 _ 
 
 returns : tie.Need-returns
 unfolding size widths rowOf table
-returns c = c .part-at .ensures ∙ part-found _ _ (c .before .before .before .before .pre .0) 4 _ refl (key _ _ _ (c .before .before .before .before .pre .1) (c .before .before .before .before .pre .2) (c .before .before .before .before .pre .3) (c .before .before .before .before .pre .4) (c .before .before .before .before .pre .5) (c .before .before .before .before .pre .6)) (c .before .slot-ad .ensures) refl
+returns c = c .part-at .ensures ∙ held-found (c .before .before .before .before .pre .0) 4 _ refl (key _ _ _ (c .before .before .before .before .pre .1) (c .before .before .before .before .pre .2) (c .before .before .before .before .pre .3) (c .before .before .before .before .pre .4) (c .before .before .before .before .pre .5) (c .before .before .before .before .pre .6)) (c .before .slot-ad .ensures) refl
 
 pub ad-spec : {M : Type 1} → statement M
 ad-spec = tie.close (tie.spec slot-ad-requires part-at-requires returns)

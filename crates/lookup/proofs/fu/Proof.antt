@@ -5,7 +5,8 @@ use Rattle.records.specs.Table.{table, rowOf}
 use Rattle.records.specs.Record.{widths, size}
 use Rattle.records.specs.Shapes.{shape, shapeOf}
 use Rattle.index.proofs.Slots.{InKey}
-use Rattle.lookup.proofs.Parts.{one-field, slot-fits, part-found}
+use Rattle.lookup.proofs.Parts.{one-field, slot-fits}
+use Rattle.lookup.proofs.Held.{held-found}
 use borrow.Author.Needs.{needs}
 use Rattle.lookup.proofs.fu.Statement.{statement}
 use Rattle.lookup.proofs.fu.Tie as tie
@@ -22,7 +23,7 @@ part-at-requires c κs = (slot-fits _ _ (c .before .before .before .pre .0) 3 _ 
 
 returns : tie.Need-returns
 unfolding size widths rowOf table
-returns c = c .part-at .ensures ∙ part-found _ _ (c .before .before .before .before .pre .0) 3 _ refl (key _ (c .before .before .before .before .pre .1) (c .before .before .before .before .pre .2)) (c .before .slot-fu .ensures) refl
+returns c = c .part-at .ensures ∙ held-found (c .before .before .before .before .pre .0) 3 _ refl (key _ (c .before .before .before .before .pre .1) (c .before .before .before .before .pre .2)) (c .before .slot-fu .ensures) refl
 
 pub fu-spec : {M : Type 1} → statement M
 fu-spec = tie.close (tie.spec slot-fu-requires part-at-requires returns)

@@ -1,7 +1,8 @@
 use mathlib.Core.Path.{refl, _∙_}
 use Rattle.records.specs.Table.{table, rowOf}
 use Rattle.records.specs.Record.{widths, size}
-use Rattle.lookup.proofs.Parts.{item-key, slot-fits, part-found}
+use Rattle.lookup.proofs.Parts.{item-key, slot-fits}
+use Rattle.lookup.proofs.Held.{held-found}
 use borrow.Author.Needs.{needs}
 use Rattle.lookup.proofs.mm.Statement.{statement}
 use Rattle.lookup.proofs.mm.Tie as tie
@@ -14,7 +15,7 @@ part-at-requires c κs = (slot-fits _ _ (c .before .before .before .pre .0) 5 _ 
 
 returns : tie.Need-returns
 unfolding size widths rowOf table
-returns c = c .part-at .ensures ∙ part-found _ _ (c .before .before .before .before .pre .0) 5 _ refl (item-key _ _ (c .before .before .before .before .pre .1) (c .before .before .before .before .pre .2) (c .before .before .before .before .pre .3) (c .before .before .before .before .pre .4)) (c .before .slot-mm .ensures) refl
+returns c = c .part-at .ensures ∙ held-found (c .before .before .before .before .pre .0) 5 _ refl (item-key _ _ (c .before .before .before .before .pre .1) (c .before .before .before .before .pre .2) (c .before .before .before .before .pre .3) (c .before .before .before .before .pre .4)) (c .before .slot-mm .ensures) refl
 
 pub mm-spec : {M : Type 1} → statement M
 mm-spec = tie.close (tie.spec slot-mm-requires part-at-requires returns)

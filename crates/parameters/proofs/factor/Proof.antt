@@ -1,6 +1,8 @@
+use mathlib.Core.Path.{refl, sym, _∙_}
 use borrow.Author.Needs.{needs}
 use Rattle.records.specs.Table.{table, rowOf, fieldOf, RS}
 use Rattle.station.proofs.Fields.{factor-at}
+use Rattle.lookup.proofs.Held.{held-clean, held-always}
 use Rattle.parameters.proofs.Bounds.{says-read}
 use Rattle.parameters.proofs.factor.Statement.{statement}
 use Rattle.parameters.proofs.factor.Tie as tie
@@ -18,7 +20,7 @@ returns : tie.Need-returns
 unfolding fieldOf rowOf table
 returns c =
     let a = c .before .before .before .before in
-    says-read (a .pre) RS 0 2 9 2 (factor-at _) (c .u16-at .ensures) (c .before .rs .ensures)
+    says-read (held-clean (a .pre)) RS 0 2 9 2 (factor-at _) (c .u16-at .ensures) (c .before .rs .ensures ∙ sym (held-always (a .pre) RS 0 refl))
 
 pub factor-spec : {M : Type 1} → statement M
 factor-spec = tie.close (tie.spec rs-requires u16-at-requires cast-result returns)

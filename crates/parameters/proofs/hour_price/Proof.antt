@@ -1,6 +1,8 @@
+use mathlib.Core.Path.{refl, sym, _∙_}
 use borrow.Author.Needs.{needs}
 use Rattle.records.specs.Table.{HR}
 use Rattle.station.proofs.Fields.{hourPrice-at}
+use Rattle.lookup.proofs.Held.{held-clean, held-always}
 use Rattle.parameters.proofs.Bounds.{price-read}
 use Rattle.parameters.proofs.hour_price.Statement.{statement}
 use Rattle.parameters.proofs.hour_price.Tie as tie
@@ -17,7 +19,7 @@ biased-requires c κs = search needs
 returns : tie.Need-returns
 returns c =
     let a = c .before .before .before .before .before in
-    price-read (a .pre .0) HR (a .args .n) 1 7 (hourPrice-at _ (a .args .n)) (c .biased .ensures) (c .before .u32-at .ensures) (c .before .before .hr .ensures) .0
+    price-read (held-clean (a .pre .0)) HR (a .args .n) 1 7 (hourPrice-at _ (a .args .n)) (c .biased .ensures) (c .before .u32-at .ensures) (c .before .before .hr .ensures ∙ sym (held-always (a .pre .0) HR (a .args .n) refl)) .0
 
 pub hour-price-spec : {M : Type 1} → statement M
 hour-price-spec = tie.close (tie.spec hr-requires u32-at-requires biased-requires returns)

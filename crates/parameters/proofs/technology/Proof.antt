@@ -1,6 +1,8 @@
+use mathlib.Core.Path.{refl, sym, _∙_}
 use borrow.Author.Needs.{needs}
 use Rattle.records.specs.Table.{table, rowOf, fieldOf, RS}
 use Rattle.station.proofs.Fields.{technology-at}
+use Rattle.lookup.proofs.Held.{held-clean, held-always}
 use Rattle.parameters.proofs.Bounds.{says-read}
 use Rattle.parameters.proofs.technology.Statement.{statement}
 use Rattle.parameters.proofs.technology.Tie as tie
@@ -15,7 +17,7 @@ returns : tie.Need-returns
 unfolding fieldOf rowOf table
 returns c =
     let a = c .before .before .before .before in
-    says-read (a .pre) RS 0 0 6 1 (technology-at _) (c .u8-at .ensures) (c .before .rs .ensures)
+    says-read (held-clean (a .pre)) RS 0 0 6 1 (technology-at _) (c .u8-at .ensures) (c .before .rs .ensures ∙ sym (held-always (a .pre) RS 0 refl))
 
 pub technology-spec : {M : Type 1} → statement M
 technology-spec = tie.close (tie.spec rs-requires u8-at-requires returns)

@@ -1,8 +1,12 @@
 use borrow.Author.Needs.{needs}
-use mathlib.Core.Path.{_≡_, sym, _∙_}
+use mathlib.Core.Path.{_≡_, refl, sym, _∙_}
 use native.Mathlib.Omega.{arith}
-use Rattle.records.specs.Dossier.{records}
-use Rattle.station.specs.Parameters.{parameters, technology}
+use Rattle.records.specs.Table.{RS}
+use Rattle.station.specs.Parameters.{technology}
+use Rattle.lookup.specs.Parts.{parametersHeld}
+use Rattle.lookup.proofs.Held.{says-always}
+use Rattle.costs.proofs.Always.{full-hours-always}
+use Rattle.formulas.specs.Levels.{parametersIn}
 use Rattle.rules.proofs.Sound.{accepted-sound}
 use Rattle.support.proofs.Curve.{storage-window}
 use Rattle.reference.proofs.Accepted.{technology-low, hours-fit, places-fit}
@@ -11,11 +15,11 @@ use Rattle.reference.proofs.hour_levels.Statement.{statement}
 use Rattle.reference.proofs.hour_levels.Tie as tie
 
 -- the station is of no other technology
-is-hydro : (c : tie.Else3) → technology (parameters (records (c .before .before .before .before .before .before .before .before .before .before .before .args .d .now))) ≡ 4
+is-hydro : (c : tie.Else3) → let a = c .before .before .before .before .before .before .before .before .before .before .before .args in technology (parametersHeld (a .d .now) (a .index .now)) ≡ 4
 is-hydro c =
     let t = c .before .before .before .before in
     let a = t .before .before .before .before .before .before .before in
-    omega (arith, technology-low (accepted-sound (a .args .d .now) (a .pre .0) .1), t .technology .ensures .0, t .technology .ensures .1, c .if3 .left, c .before .before .if2 .left, c .before .before .before .if1 .left)
+    omega (arith, technology-low (accepted-sound (a .args .d .now) (a .pre .0) .1), says-always (a .pre .1) RS 0 refl 0, t .technology .ensures .0, t .technology .ensures .1, c .if3 .left, c .before .before .if2 .left, c .before .before .before .if1 .left)
 
 profile-requires : tie.Need-profile-requires
 profile-requires c κs = search needs
@@ -36,7 +40,7 @@ same-length-3 : tie.Need-same-length-3
 same-length-3 c = search needs
 
 returns : tie.Need-returns
-returns c = levels-packed _ _ (c .before .before .before .before .before .before .before .before .before .before .before .before .profile .ensures .0) (c .before .before .before .before .before .before .thermal-levels .ensures)
+returns c = levels-packed (c .before .before .before .before .before .before .before .before .before .before .before .before .before .before .before .before .before .before .pre .1) _ (c .before .before .before .before .before .before .before .before .before .before .before .before .profile .ensures .0) (c .before .before .before .before .before .before .thermal-levels .ensures)
 
 nuclear-energy-requires : tie.Need-nuclear-energy-requires
 nuclear-energy-requires c κs = search needs
@@ -56,7 +60,7 @@ returns-2 c =
     let n = l .before .before .before in
     let t = n .before .before .before in
     let a = t .before .before .before .before .before .before .before .pre in
-    levels-packed _ _ (t .before .profile .ensures .0)
+    levels-packed (a .1) _ (t .before .profile .ensures .0)
     (one-handed (l .one-lamination .ensures .0) (a .2) (l .one-lamination .ensures .1) (l .one-lamination .ensures .2)
     (nuclear-packed _ _ _ (sym (t .technology .ensures .0) ∙ n .before .if2 .taken) (n .nuclear-energy .ensures)))
 
@@ -67,8 +71,10 @@ storage-energy-requires : tie.Need-storage-energy-requires
 storage-energy-requires c κs =
     let p = c .before .before .before .before .before in
     let a = p .before .before .before .before .before .before in
-    let e : technology (parameters (records (a .args .d .now))) ≡ 3 = sym (c .before .before .before .before .technology .ensures .0) ∙ c .if3 .taken in
-    (a .pre .1, p .profile .ensures .1, p .profile .ensures .2, hours-fit (accepted-sound (a .args .d .now) (a .pre .0) .1) e, storage-window _ _ (a .pre .1) e)
+    let i = a .pre .1 in
+    let e : technology (parametersIn (a .args .d .now)) ≡ 3 = sym (c .before .before .before .before .technology .ensures .0 ∙ says-always i RS 0 refl 0) ∙ c .if3 .taken in
+    let w = says-always i RS 0 refl 8 in
+    (i, p .profile .ensures .1, p .profile .ensures .2, omega (arith, hours-fit (accepted-sound (a .args .d .now) (a .pre .0) .1) e, full-hours-always i, w), omega (arith, storage-window _ _ i e, w))
 
 one-lamination-requires-2 : tie.Need-one-lamination-requires-2
 one-lamination-requires-2 c κs = search needs
@@ -85,7 +91,7 @@ returns-3 c =
     let n = l .before .before .before in
     let t = n .before .before .before .before .before in
     let a = t .before .before .before .before .before .before .before .pre in
-    levels-packed _ _ (t .before .profile .ensures .0)
+    levels-packed (a .1) _ (t .before .profile .ensures .0)
     (one-handed (l .one-lamination2 .ensures .0) (a .2) (l .one-lamination2 .ensures .1) (l .one-lamination2 .ensures .2)
     (storage-packed _ _ _ (sym (t .technology .ensures .0) ∙ n .before .if3 .taken) (n .storage-energy .ensures) (n .before .before .adders .ensures .0)))
 
@@ -93,7 +99,8 @@ hydro-energy-requires : tie.Need-hydro-energy-requires
 hydro-energy-requires c κs =
     let p = c .before .before .before .before .before in
     let a = p .before .before .before .before .before .before in
-    (a .pre .1, p .profile .ensures .1, p .profile .ensures .2, places-fit (accepted-sound (a .args .d .now) (a .pre .0) .1) (is-hydro c))
+    let i = a .pre .1 in
+    (i, p .profile .ensures .1, p .profile .ensures .2, omega (arith, places-fit (accepted-sound (a .args .d .now) (a .pre .0) .1) (sym (says-always i RS 0 refl 0) ∙ is-hydro c), says-always i RS 0 refl 8))
 
 one-lamination-requires-3 : tie.Need-one-lamination-requires-3
 one-lamination-requires-3 c κs = search needs
@@ -110,7 +117,7 @@ returns-4 c =
     let n = l .before .before .before in
     let t = n .before .before .before .before .before in
     let a = t .before .before .before .before .before .before .before .pre in
-    levels-packed _ _ (t .before .profile .ensures .0)
+    levels-packed (a .1) _ (t .before .profile .ensures .0)
     (one-handed (l .one-lamination3 .ensures .0) (a .2) (l .one-lamination3 .ensures .1) (l .one-lamination3 .ensures .2)
     (hydro-packed _ _ _ (is-hydro (n .before)) (n .hydro-energy .ensures) (n .before .before .adders .ensures .0)))
 

@@ -19,7 +19,7 @@ returns c =
     let a = c .before .before .before .before .before in
     c .from-sum .ensures
     ∙ ap cents (c .before .single-sum .ensures)
-    ∙ single-amount _ _ _ (c .before .before .profile .ensures .0) (a .pre .2) (a .pre .3) (a .pre .1)
+    ∙ single-amount (a .pre .0) _ _ (c .before .before .profile .ensures .0) (a .pre .2) (a .pre .3) (a .pre .1)
 
 pub single-level-spec : {M : Type 1} → statement M
 single-level-spec =

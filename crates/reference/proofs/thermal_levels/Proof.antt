@@ -1,5 +1,7 @@
 use borrow.Author.Needs.{needs}
-use mathlib.Core.Path.{refl, ap, _∙_}
+use mathlib.Core.Path.{refl, ap, sym, _∙_}
+use Prim.Native.Nat.{ℕ, _-_}
+use Rattle.costs.proofs.Always.{points-always}
 use Rattle.formulas.specs.Exact.{cents}
 use Rattle.reference.proofs.Packed.{thermal-packed}
 use Rattle.reference.proofs.thermal_levels.Statement.{statement}
@@ -44,7 +46,7 @@ returns c =
     let s = n .before .before in
     let l = s .before .before .before .before .before .before .before in
     let k = l .before .before .before .before in
-    thermal-packed _ _ _ (k .before .before .before .before .before .before .pre .3) refl (k .lamination-count .ensures .0)
+    thermal-packed _ _ _ (k .before .before .before .before .before .before .pre .3) refl (k .lamination-count .ensures .0 ∙ sym (ap (λ (x : ℕ). x - 1) (points-always (k .before .before .before .before .before .before .pre .0))))
     (l .laminations .ensures .0) (l .laminations .ensures .1) (l .laminations .ensures .2)
     (n .before .from-sum .ensures ∙ ap cents (s .start-cost .ensures))
     (c .before .before .from-sum2 .ensures ∙ ap cents (n .no-load-cost .ensures))

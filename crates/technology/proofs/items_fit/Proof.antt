@@ -7,6 +7,7 @@ use Rattle.lists.proofs.Tests.{to-next}
 use Rattle.records.specs.Dossier.{records}
 use Rattle.station.specs.Current.{current}
 use Rattle.index.specs.Slots.{slot}
+use Rattle.lookup.proofs.Held.{current-held}
 use Rattle.rules.specs.Fit.{fits}
 use Rattle.technology.specs.Looked.{itemsFit}
 use Rattle.technology.proofs.Unfit.{no-items}
@@ -54,7 +55,7 @@ loop-again : tie.Need-loop-again Inv-loop μ-loop
 loop-again c =
     let a = c .before .before .before .before .before .before .before .before .before .args in
     let l = c .before .before .before .loop in
-    (omega arith, to-next (l .j) (λ i. fits (a .t) 5 (current 5 (a .p * 256 + i) (records (a .d .now)))) (l .inv .1) (c .mm-fits .ensures ∙ ap (fits (a .t) 5) (c .before .mm .ensures)))
+    (omega arith, to-next (l .j) (λ i. fits (a .t) 5 (current 5 (a .p * 256 + i) (records (a .d .now)))) (l .inv .1) (c .mm-fits .ensures ∙ ap (fits (a .t) 5) (c .before .mm .ensures ∙ current-held (c .before .before .before .before .before .before .before .before .before .pre .0) 5 _)))
 
 returns-2 : tie.Need-returns-2 Inv-loop μ-loop
 unfolding itemsFit

@@ -7,6 +7,7 @@ use Rattle.lists.specs.Tests.{allTo}
 use Rattle.lists.proofs.Tests.{to-next}
 use Rattle.records.specs.Dossier.{records}
 use Rattle.station.specs.Current.{current}
+use Rattle.lookup.proofs.Held.{current-held}
 use Rattle.rules.specs.Fit.{fits}
 use Rattle.technology.specs.Looked.{itemsFit, profilesFit}
 use Rattle.technology.proofs.profiles_fit.Statement.{statement}
@@ -52,7 +53,7 @@ loop-again c =
     let l = c .before .before .before .before .loop in (
       omega arith,
       to-next (l .p) (λ p. fits (a .t) 3 (current 3 p (records (a .d .now))) && itemsFit (a .t) (a .d .now) p) (l .inv .1)
-          (ap₂ (λ (x y : Bool). x && y) (c .before .fu-fits .ensures ∙ ap (fits (a .t) 3) (c .before .before .fu .ensures)) (c .items-fit .ensures)),
+          (ap₂ (λ (x y : Bool). x && y) (c .before .fu-fits .ensures ∙ ap (fits (a .t) 3) (c .before .before .fu .ensures ∙ current-held (c .before .before .before .before .before .before .before .before .pre .0) 3 _)) (c .items-fit .ensures)),
     )
 
 returns-2 : tie.Need-returns-2 Inv-loop μ-loop

@@ -2,7 +2,7 @@ use borrow.Author.Needs.{needs}
 use mathlib.Core.Path.{_≡_, sym, _∙_}
 use Prim.Native.Nat.{_≤_, _*_, _-_}
 use native.Mathlib.Omega.{arith}
-use Rattle.records.specs.Dossier.{records}
+use Rattle.lookup.specs.Parts.{held}
 use Rattle.station.specs.Parameters.{amounts, adder}
 use Rattle.index.proofs.Slots.{adder-slot}
 use Rattle.formulas.specs.Sums.{sumTo}
@@ -14,7 +14,7 @@ use Rattle.costs.proofs.maintenance.adders.Statement.{statement}
 use Rattle.costs.proofs.maintenance.adders.Tie as tie
 
 abbrev Inv-loop : tie.InvT-loop
-Inv-loop d index p v sum₀ c₀ sum c = (c ≤ 5) × (sum ≤ c * 1000000000000) × (sum ≡ sumTo c (λ k. adder (amounts (records d)) p k v))
+Inv-loop d index p v sum₀ c₀ sum c = (c ≤ 5) × (sum ≤ c * 1000000000000) × (sum ≡ sumTo c (λ k. adder (amounts (held d index)) p k v))
 
 abbrev μ-loop : tie.MeasureT-loop
 μ-loop d index p v sum₀ c₀ sum c = 5 - c

@@ -2,7 +2,7 @@ use borrow.Author.Needs.{needs}
 use mathlib.Core.Path.{_≡_, sym, _∙_}
 use Prim.Native.Nat.{_≤_, _*_, _-_}
 use native.Mathlib.Omega.{arith}
-use Rattle.records.specs.Dossier.{records}
+use Rattle.lookup.specs.Parts.{held}
 use Rattle.station.specs.Parameters.{parameters, amounts, costC, outputW, intervalT}
 use Rattle.index.specs.Slots.{slot}
 use Rattle.formulas.specs.Sums.{sumTo}
@@ -15,7 +15,7 @@ use Rattle.costs.proofs.maintenance.maintenance.Tie as tie
 
 abbrev Inv-loop : tie.InvT-loop
 Inv-loop d index p sum₀ j₀ sum j =
-    (j ≤ 8) × (sum ≤ j * 10000000000000000) × (sum ≡ sumTo j (λ k. quotient (costC (amounts (records d)) p k * 100000) (outputW (parameters (records d)) p k * intervalT (parameters (records d)) p k)))
+    (j ≤ 8) × (sum ≤ j * 10000000000000000) × (sum ≡ sumTo j (λ k. quotient (costC (amounts (held d index)) p k * 100000) (outputW (parameters (held d index)) p k * intervalT (parameters (held d index)) p k)))
 
 abbrev μ-loop : tie.MeasureT-loop
 μ-loop d index p sum₀ j₀ sum j = 8 - j

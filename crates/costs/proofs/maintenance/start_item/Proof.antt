@@ -4,10 +4,11 @@ use Prim.Native.Nat.{ℕ, _*_, _≤_}
 use native.Mathlib.Nat.{mul-le-mul}
 use native.Mathlib.Omega.{arith}
 use Rattle.records.specs.Table.{table, rowOf, fieldOf, MM}
-use Rattle.records.specs.Dossier.{records}
+use Rattle.lookup.specs.Parts.{held}
 use Rattle.station.specs.Parameters.{parameters, amounts, itemKey, costC, intervalT, hoursPerStartS}
 use Rattle.station.proofs.Fields.{costC-at, intervalT-at, hoursPerStartS-at}
 use Rattle.formulas.specs.Exact.{quotient}
+use Rattle.lookup.proofs.Held.{held-clean}
 use Rattle.parameters.proofs.Bounds.{says-read, amount-read}
 use Rattle.costs.proofs.maintenance.start_item.Statement.{statement}
 use Rattle.costs.proofs.maintenance.start_item.Tie as tie
@@ -34,7 +35,7 @@ cast-hours c = search needs
 Reads : tie.After-u16-at → Type 0
 Reads c =
     let a = c .before .before .before .before .before .before in
-    let l = records (a .args .d .now) in
+    let l = held (a .args .d .now) (a .args .index .now) in
     ((c .before .before .u64-at .result ≡ costC (amounts l) (a .args .p) (a .args .j)) × (c .before .before .u64-at .result ≤ 100000000000))
     × (c .before .u32-at .result ≡ intervalT (parameters l) (a .args .p) (a .args .j))
     × ((c .u16-at .result ≡ hoursPerStartS (parameters l) (a .args .p) (a .args .j)) × (c .u16-at .result ≤ 10000))
@@ -46,9 +47,9 @@ reads c =
     let e = c .before .before .before .mm .ensures in
     let p = a .args .p in
     let j = a .args .j in (
-      amount-read (a .pre .0) MM (itemKey p j) 2 8 8 (costC-at _ p j) (c .before .before .u64-at .ensures) e,
-      says-read (a .pre .0) MM (itemKey p j) 4 18 4 (intervalT-at _ p j) (c .before .u32-at .ensures) e .0,
-      says-read (a .pre .0) MM (itemKey p j) 5 22 2 (hoursPerStartS-at _ p j) (c .u16-at .ensures) e,
+      amount-read (held-clean (a .pre .0)) MM (itemKey p j) 2 8 8 (costC-at _ p j) (c .before .before .u64-at .ensures) e,
+      says-read (held-clean (a .pre .0)) MM (itemKey p j) 4 18 4 (intervalT-at _ p j) (c .before .u32-at .ensures) e .0,
+      says-read (held-clean (a .pre .0)) MM (itemKey p j) 5 22 2 (hoursPerStartS-at _ p j) (c .u16-at .ensures) e,
     )
 
 mul-share : tie.Need-mul-share

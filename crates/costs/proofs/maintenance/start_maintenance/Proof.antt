@@ -2,7 +2,7 @@ use borrow.Author.Needs.{needs}
 use mathlib.Core.Path.{_≡_, sym, _∙_}
 use Prim.Native.Nat.{_≤_, _*_, _-_}
 use native.Mathlib.Omega.{arith}
-use Rattle.records.specs.Dossier.{records}
+use Rattle.lookup.specs.Parts.{held}
 use Rattle.station.specs.Parameters.{parameters, amounts, costC, intervalT, hoursPerStartS}
 use Rattle.index.specs.Slots.{slot}
 use Rattle.formulas.specs.Sums.{sumTo}
@@ -15,7 +15,7 @@ use Rattle.costs.proofs.maintenance.start_maintenance.Tie as tie
 
 abbrev Inv-loop : tie.InvT-loop
 Inv-loop d index p sum₀ j₀ sum j =
-    (j ≤ 8) × (sum ≤ j * 1000000000000000000) × (sum ≡ sumTo j (λ k. quotient (costC (amounts (records d)) p k * hoursPerStartS (parameters (records d)) p k * 1000) (intervalT (parameters (records d)) p k)))
+    (j ≤ 8) × (sum ≤ j * 1000000000000000000) × (sum ≡ sumTo j (λ k. quotient (costC (amounts (held d index)) p k * hoursPerStartS (parameters (held d index)) p k * 1000) (intervalT (parameters (held d index)) p k)))
 
 abbrev μ-loop : tie.MeasureT-loop
 μ-loop d index p sum₀ j₀ sum j = 8 - j

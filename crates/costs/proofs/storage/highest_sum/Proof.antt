@@ -3,10 +3,10 @@ use mathlib.Core.Path.{ap, _∙_}
 use mathlib.Core.List.{List}
 use Prim.Native.Nat.{ℕ}
 use native.Mathlib.Omega.{arith}
-use Rattle.records.specs.Dossier.{records}
+use Rattle.lookup.specs.Parts.{held}
+use Rattle.lookup.proofs.Held.{held-clean}
 use Rattle.station.specs.Parameters.{amounts, hourPrice}
 use Rattle.formulas.specs.Sums.{sumHighest}
-use Rattle.parameters.proofs.Bounds.{clean}
 use Rattle.costs.proofs.Prices.{prices-part, prices-ready, hour-in}
 use Rattle.costs.proofs.storage.highest_sum.Statement.{statement}
 use Rattle.costs.proofs.storage.highest_sum.Tie as tie
@@ -41,7 +41,7 @@ unfolding prices-of
 highest-requires c κs =
     let p = c .before .before .before in
     let a = p .before .before .before .before in
-    let r = prices-ready 168 (hourPrice (amounts (records (a .args .d .now)))) (prices-of p) (a .args .window) (a .pre .1) (p .prices .ensures) (hour-in (clean (a .pre .0))) in
+    let r = prices-ready 168 (hourPrice (amounts (held (a .args .d .now) (a .args .index .now)))) (prices-of p) (a .args .window) (a .pre .1) (p .prices .ensures) (hour-in (held-clean (a .pre .0))) in
     (omega (arith, r .0, a .pre .2), omega (arith, r .0, a .pre .1), r .1)
 
 returns : tie.Need-returns
@@ -49,7 +49,7 @@ unfolding prices-of
 returns c =
     let p = c .before .before .before .before in
     let a = p .before .before .before .before in
-    (c .highest .ensures .0 ∙ ap (sumHighest (a .args .hours)) (prices-part 168 (hourPrice (amounts (records (a .args .d .now)))) (prices-of p) (a .args .window) (a .pre .1) (p .prices .ensures)), c .highest .ensures .1)
+    (c .highest .ensures .0 ∙ ap (sumHighest (a .args .hours)) (prices-part 168 (hourPrice (amounts (held (a .args .d .now) (a .args .index .now)))) (prices-of p) (a .args .window) (a .pre .1) (p .prices .ensures)), c .highest .ensures .1)
 
 pub highest-sum-spec : {M : Type 1} → statement M
 highest-sum-spec =

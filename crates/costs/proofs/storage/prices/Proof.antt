@@ -3,7 +3,7 @@ use mathlib.Core.Path.{_≡_}
 use Prim.Native.Nat.{_-_, _≤_}
 use native.Mathlib.Omega.{arith}
 use lib.ListN.{length, drop, length-set}
-use Rattle.records.specs.Dossier.{records}
+use Rattle.lookup.specs.Parts.{held}
 use Rattle.station.specs.Parameters.{amounts, hourPrice}
 use Rattle.formulas.specs.Sums.{listTo}
 use Rattle.costs.proofs.Prices.{prices-none, prices-more, prices-end}
@@ -11,7 +11,7 @@ use Rattle.costs.proofs.storage.prices.Statement.{statement}
 use Rattle.costs.proofs.storage.prices.Tie as tie
 
 abbrev Inv-loop : tie.InvT-loop
-Inv-loop d index window prices₀ n₀ prices n = (n ≤ window) × (length prices ≡ 168) × (drop (168 - n) prices ≡ listTo n (hourPrice (amounts (records d))))
+Inv-loop d index window prices₀ n₀ prices n = (n ≤ window) × (length prices ≡ 168) × (drop (168 - n) prices ≡ listTo n (hourPrice (amounts (held d index))))
 
 abbrev μ-loop : tie.MeasureT-loop
 μ-loop d index window prices₀ n₀ prices n = window - n

@@ -10,7 +10,7 @@ use Rattle.station.specs.Current.{current}
 use Rattle.station.specs.Parameters.{parameters, amounts, chargePrice, chargeEnergy}
 use Rattle.station.proofs.Fields.{chargePrice-at, chargeEnergy-at}
 use Rattle.index.specs.Slots.{slot}
-use Rattle.parameters.proofs.Bounds.{says-read, price-read}
+use Rattle.parameters.proofs.Bounds.{clean, says-read, price-read}
 use Rattle.costs.proofs.Intervals.{charged, uncharged-slot}
 use Rattle.costs.proofs.storage.with_interval.Statement.{statement}
 use Rattle.costs.proofs.storage.with_interval.Tie as tie
@@ -103,7 +103,7 @@ reads c =
     let v = getD (a .args .index .now) (t .before .before .slot-ch .result) 0 in
     let n = a .args .n in
     let e = ap (λ (k : ℕ). take k (drop (v - 1) (a .args .d .now))) (add-sub-cancel-left (v - 1) 16) ∙ stands t .1 in
-    (price-read (a .pre .0) CH n 1 8 (chargePrice-at _ n) (c .before .biased .ensures) (c .before .before .u32-at .ensures) e, says-read (a .pre .0) CH n 2 12 4 (chargeEnergy-at _ n) (c .u32-at2 .ensures) e)
+    (price-read (clean (a .pre .0)) CH n 1 8 (chargePrice-at _ n) (c .before .biased .ensures) (c .before .before .u32-at .ensures) e, says-read (clean (a .pre .0)) CH n 2 12 4 (chargeEnergy-at _ n) (c .u32-at2 .ensures) e)
 
 mul-t23 : tie.Need-mul-t23
 unfolding Reads

@@ -4,7 +4,7 @@ use mathlib.Core.List.{List, [], map}
 use Prim.Native.Nat.{ℕ, _+_, _-_, _≤_}
 use native.Mathlib.Omega.{arith}
 use lib.ListN.{length, take, set}
-use Rattle.records.specs.Dossier.{records}
+use Rattle.lookup.specs.Parts.{held}
 use Rattle.station.specs.Parameters.{parameters, amounts, output}
 use Rattle.formulas.specs.Levels.{Line, amount, lamination, laminations}
 use Rattle.reference.specs.Packed.{padded}
@@ -13,15 +13,15 @@ use Rattle.reference.proofs.laminations.laminations.Statement.{statemen
 use Rattle.reference.proofs.laminations.laminations.Tie as tie
 
 -- one number of each lamination
-abbrev column : List ℕ → ℕ → ℕ → (Line → ℕ) → List ℕ
-column d p n g = map g (laminations (parameters (records d)) (amounts (records d)) p 1 n [])
+abbrev column : List (List ℕ) → ℕ → ℕ → (Line → ℕ) → List ℕ
+column l p n g = map g (laminations (parameters l) (amounts l) p 1 n [])
 
 abbrev Inv-loop : tie.InvT-loop
 Inv-loop d index p n from₀ to₀ cents₀ more i₀ from to cents i =
     (i ≤ n)
-    × (from ≡ padded 20 (take i (column d p n (λ x. x .from))))
-    × (to ≡ padded 20 (take i (column d p n (λ x. x .to))))
-    × (cents ≡ padded 20 (take i (column d p n (λ x. amount x))))
+    × (from ≡ padded 20 (take i (column (held d index) p n (λ x. x .from))))
+    × (to ≡ padded 20 (take i (column (held d index) p n (λ x. x .to))))
+    × (cents ≡ padded 20 (take i (column (held d index) p n (λ x. amount x))))
 
 abbrev μ-loop : tie.MeasureT-loop
 μ-loop d index p n from₀ to₀ cents₀ more i₀ from to cents i = n - i
@@ -45,8 +45,8 @@ abbrev At : Type 0
 At = tie.At-loop Inv-loop μ-loop
 
 -- what the loop was given
-abbrev d-of : At → List ℕ
-d-of c = c .before .before .before .before .before .before .before .before .args .d .now
+abbrev held-of : At → List (List ℕ)
+held-of c = let a = c .before .before .before .before .before .before .before .before .args in held (a .d .now) (a .index .now)
 
 abbrev p-of : At → ℕ
 p-of c = c .before .before .before .before .before .before .before .before .args .p
@@ -55,13 +55,13 @@ abbrev n-of : At → ℕ
 n-of c = c .before .before .before .before .before .before .before .before .args .n
 
 from-long : (c : At) → length (c .loop .from) ≡ 20
-from-long c = row-length (column (d-of c) (p-of c) (n-of c) (λ x. x .from)) _ (c .loop .i) (c .loop .inv .1)
+from-long c = row-length (column (held-of c) (p-of c) (n-of c) (λ x. x .from)) _ (c .loop .i) (c .loop .inv .1)
 
 to-long : (c : At) → length (c .loop .to) ≡ 20
-to-long c = row-length (column (d-of c) (p-of c) (n-of c) (λ x. x .to)) _ (c .loop .i) (c .loop .inv .2)
+to-long c = row-length (column (held-of c) (p-of c) (n-of c) (λ x. x .to)) _ (c .loop .i) (c .loop .inv .2)
 
 cents-long : (c : At) → length (c .loop .cents) ≡ 20
-cents-long c = row-length (column (d-of c) (p-of c) (n-of c) (λ x. amount x)) _ (c .loop .i) (c .loop .inv .3)
+cents-long c = row-length (column (held-of c) (p-of c) (n-of c) (λ x. amount x)) _ (c .loop .i) (c .loop .inv .3)
 
 add-bottom : tie.Need-add-bottom Inv-loop μ-loop
 add-bottom c = omega arith
@@ -109,11 +109,11 @@ loop-less : tie.Need-loop-less Inv-loop μ-loop
 loop-less c = omega arith
 
 -- what one turn writes to an array is the next number of its column
-turn : (d : List ℕ) (p n i : ℕ) (g : Line → ℕ) (a : List ℕ) (x : ℕ) → n ≤ 20 → i + 1 ≤ n → a ≡ padded 20 (take i (column d p n g)) → x ≡ g (lamination (parameters (records d)) (amounts (records d)) p (i + 1))
-    → set a i x ≡ padded 20 (take (i + 1) (column d p n g))
-turn d p n i g a x h k e f =
-    row-more (column d p n g) a i x (omega arith) (omega (arith, laminations-length (parameters (records d)) (amounts (records d)) p g 1 n)) e
-    (f ∙ lamination-at (parameters (records d)) (amounts (records d)) p g 1 n i (i + 1) (omega arith) (omega arith))
+turn : (l : List (List ℕ)) (p n i : ℕ) (g : Line → ℕ) (a : List ℕ) (x : ℕ) → n ≤ 20 → i + 1 ≤ n → a ≡ padded 20 (take i (column l p n g)) → x ≡ g (lamination (parameters l) (amounts l) p (i + 1))
+    → set a i x ≡ padded 20 (take (i + 1) (column l p n g))
+turn l p n i g a x h k e f =
+    row-more (column l p n g) a i x (omega arith) (omega (arith, laminations-length (parameters l) (amounts l) p g 1 n)) e
+    (f ∙ lamination-at (parameters l) (amounts l) p g 1 n i (i + 1) (omega arith) (omega arith))
 
 loop-again : tie.Need-loop-again Inv-loop μ-loop
 loop-again c =
@@ -121,10 +121,10 @@ loop-again c =
     let l = t .loop in
     let h = t .before .before .before .before .before .before .before .before .pre in (
       omega arith,
-      turn (d-of t) (p-of t) (n-of t) (l .i) (λ x. x .from) (l .from) _ (h .3) (omega arith) (l .inv .1) (c .before .before .bottom .ensures),
-      turn (d-of t) (p-of t) (n-of t) (l .i) (λ x. x .to) (l .to) _ (h .3) (omega arith) (l .inv .2)
-          (c .before .output .ensures .0 ∙ ap (λ (j : ℕ). output (parameters (records (d-of t))) j) (omega arith)),
-      turn (d-of t) (p-of t) (n-of t) (l .i) (λ x. amount x) (l .cents) _ (h .3) (omega arith) (l .inv .3) (c .lamination .ensures),
+      turn (held-of t) (p-of t) (n-of t) (l .i) (λ x. x .from) (l .from) _ (h .3) (omega arith) (l .inv .1) (c .before .before .bottom .ensures),
+      turn (held-of t) (p-of t) (n-of t) (l .i) (λ x. x .to) (l .to) _ (h .3) (omega arith) (l .inv .2)
+          (c .before .output .ensures .0 ∙ ap (λ (j : ℕ). output (parameters (held-of t)) j) (omega arith)),
+      turn (held-of t) (p-of t) (n-of t) (l .i) (λ x. amount x) (l .cents) _ (h .3) (omega arith) (l .inv .3) (c .lamination .ensures),
     )
 
 same-length : tie.Need-same-length Inv-loop μ-loop
@@ -137,12 +137,12 @@ same-length-3 : tie.Need-same-length-3 Inv-loop μ-loop
 same-length-3 c = omega (arith, cents-long (c .before), ap length (c .before .before .before .before .before .before .before .before .before .pre .6))
 
 -- a column that is filled
-filled : (c : tie.After-loop Inv-loop μ-loop) (g : Line → ℕ) {a : List ℕ} → a ≡ padded 20 (take (c .before .loop .i) (column (d-of (c .before)) (p-of (c .before)) (n-of (c .before)) g))
-    → a ≡ padded 20 (column (d-of (c .before)) (p-of (c .before)) (n-of (c .before)) g)
+filled : (c : tie.After-loop Inv-loop μ-loop) (g : Line → ℕ) {a : List ℕ} → a ≡ padded 20 (take (c .before .loop .i) (column (held-of (c .before)) (p-of (c .before)) (n-of (c .before)) g))
+    → a ≡ padded 20 (column (held-of (c .before)) (p-of (c .before)) (n-of (c .before)) g)
 filled c g e =
     let t = c .before in
-    row-ends (column (d-of t) (p-of t) (n-of t) g) _ (t .loop .i)
-    (omega (arith, laminations-length (parameters (records (d-of t))) (amounts (records (d-of t))) (p-of t) g 1 (n-of t), c .loop-test .left)) e
+    row-ends (column (held-of t) (p-of t) (n-of t) g) _ (t .loop .i)
+    (omega (arith, laminations-length (parameters (held-of t)) (amounts (held-of t)) (p-of t) g 1 (n-of t), c .loop-test .left)) e
 
 returns : tie.Need-returns Inv-loop μ-loop
 returns c =
