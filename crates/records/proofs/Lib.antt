@@ -7,3 +7,4 @@ pub mod RaiseTest
 pub mod Walk
 pub mod Shapes
 pub mod Read
+pub mod Over
