@@ -233,7 +233,7 @@ fn opportunity_cost(d: &[u8], index: &[u16]) -> u64
     requires { ⌜ Indexed (now d) (now index) × (fullHours (parametersHeld (now d) (now index)) ≤ window (parametersHeld (now d) (now index))) × (window (parametersHeld (now d) (now index)) ≤ 168) ⌝ }
     ensures { λ r. ⌜ r ≡ microDollars (opportunityCost (parametersHeld (now (d .entry)) (now (index .entry))) (amountsHeld (now (d .entry)) (now (index .entry)))) ⌝ }
 {
-    let hours = support::full_hours(d, index) as u64;
+    let hours = requirements::full_hours(d, index) as u64;
     let window = parameters::window(d, index);
     let sum = arithmetic::less(
         highest_sum(d, index, hours as usize, window),

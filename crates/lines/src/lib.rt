@@ -10,7 +10,7 @@ ghost use Rattle.reference.specs.Packed.{hourOf, inArrays};
 ghost use Rattle.lines.specs.Parts.{laminationLines, heldLine, otherLines, writtenOf, bufferOf};
 use layout::Written;
 use reference::SingleLevels;
-use technology::level_held;
+use fit::level_held;
 
 // No report is longer.
 const LONGEST: usize = 2283;

@@ -10,7 +10,7 @@ ghost use Rattle.words.specs.Words.{heldBits, Blank, wordsTo, wordsOf, w
 use lists::choose;
 use records::Answer;
 use reference::SingleLevels;
-use technology::level_held;
+use fit::level_held;
 
 // The levels that a technology holds, a bit each.
 fn held_bits(technology: u8) -> u64

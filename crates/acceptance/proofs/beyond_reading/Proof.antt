@@ -1,5 +1,5 @@
 use Rattle.rules.proofs.Draws.{no-station, draws-6, the-rest}
-use Rattle.support.proofs.Curve.{none-there, one-there, technology-known}
+use Rattle.requirements.proofs.Curve.{none-there, one-there, technology-known}
 use Rattle.rules.specs.Fit.{Known, unfit}
 use Rattle.station.proofs.Fields.{technology-at}
 use Rattle.records.specs.Dossier.{records}

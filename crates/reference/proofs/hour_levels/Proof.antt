@@ -8,7 +8,7 @@ use Rattle.lookup.proofs.Held.{says-always}
 use Rattle.costs.proofs.Always.{full-hours-always}
 use Rattle.formulas.specs.Levels.{parametersIn}
 use Rattle.rules.proofs.Sound.{accepted-sound}
-use Rattle.support.proofs.Curve.{storage-window}
+use Rattle.requirements.proofs.Curve.{storage-window}
 use Rattle.reference.proofs.Accepted.{technology-low, hours-fit, places-fit}
 use Rattle.reference.proofs.Packed.{levels-packed, nuclear-packed, storage-packed, hydro-packed, one-handed}
 use Rattle.reference.proofs.hour_levels.Statement.{statement}

@@ -1,0 +1,423 @@
+-- 6 through the index: what a slot says of the current record, and the loop over the records.
+use mathlib.Core.Path.{_≡_, refl, ap, sym, subst, _∙_}
+use mathlib.Core.Bool.{Bool, true, false, cond, _&&_, _||_, not, false≢true}
+use mathlib.Core.List.{List, [], _∷_}
+use Prim.Native.Nat.{ℕ, _+_, _-_, _*_, _/_, _%_, _≤_, _<_}
+use native.Mathlib.Numerals.{add-one}
+use native.Mathlib.Omega.{arith}
+use lib.Bits.{bitOr}
+use lib.Dec.{ltb, eqb}
+use lib.ListN.{length, getD, take, drop, length-take, length-drop, drop-of-length-le, List·getD-eq-default}
+use lib.Seq.{drop-drop}
+use borrow.Author.Tests.{ltb-true, ltb-false, eqb-true, eq-eqb}
+use Rattle.lists.specs.Lists.{Each, done, also, Member, here, there}
+use Rattle.lists.specs.Tests.{allBelow, allTo}
+use Rattle.lists.proofs.Lists.{member-each}
+use Rattle.lists.proofs.Tests.{and-true, and-left, and-right, split, below-at, below-same, to-at, at-to, or-none}
+use Rattle.fields.specs.Numbers.{number}
+use Rattle.fields.proofs.Numbers.{number-join}
+use Rattle.records.specs.declared.Answer.the-variants.{Accepted, Refused}
+use Rattle.records.specs.Table.{table, rowOf, fieldOf, AD, TH}
+use Rattle.records.specs.declared.MarkShape.{MarkShape}
+use Rattle.records.specs.Shapes.{shape, shapeOf}
+use Rattle.records.specs.Record.{mark, size, issue, keyIn, keyWidth, keyOf, value, rangesHold, fault}
+use Rattle.records.specs.Answers.{orElse, refuseIf}
+use Rattle.records.specs.declared.Found.the-variants.{Record}
+use Rattle.records.specs.Walk.{found}
+use Rattle.records.specs.Dossier.{firstOf, restOf, recordsIn, records, firstDrawn, scan}
+use Rattle.records.proofs.Record.{mark-nil, size-ge, faultless}
+use Rattle.records.proofs.Shapes.{shape-width}
+use Rattle.records.proofs.Answers.{orElse-parts}
+use Rattle.records.proofs.Dossier.{first-mark, first-length, records-step, scan-each}
+use Rattle.records.proofs.Read.{number-take, value-take}
+use Rattle.station.specs.Current.{current, twin, twins, readable}
+use Rattle.station.specs.Parameters.{parameters, technology}
+use Rattle.station.specs.Declared.{CurrentOf, absent, standing, Distinct}
+use Rattle.station.proofs.Current.{current-found, matches-self}
+use Rattle.station.proofs.Twins.{twins-distinct}
+use Rattle.index.specs.Slots.{narrow, slotAt, slot, slotsEmpty}
+use Rattle.index.proofs.Slots.{Spans, InKey, in-key, at-mark, low, high, limits, in-empty}
+use Rattle.index.proofs.Turn.{tail, its-slot as found-slot}
+use Rattle.lookup.specs.Parts.{part, partAt, Indexed, Complete, UpTo}
+use Rattle.lookup.proofs.Parts.{part-current, current-none, current-in-empty, slot-fits, item-key}
+use Rattle.rules.specs.Fit.{Known, holds, fieldFits, ruleFits, fits, isCurrent, unfit}
+use Rattle.fit.specs.Looked.{fourthsEmpty, pointsFit, itemsFit, profilesFit, levelFits, proratedFit, pricedFit, allFit, notFit}
+use Rattle.rules.proofs.ByMark.{fits-rs, fits-hp, fits-fu, fits-mm, fits-rq, fits-hr, fits-ch, fits-fp, fits-lc, held-ad, held-th}
+use Rattle.rules.proofs.Sound.{each-unfit}
+
+-- ---- a record cut from the rest fits as the rest does
+
+rule-take : (t k : ℕ) (s : List ℕ) → ruleFits t k (take (size k) s) ≡ ruleFits t k s
+unfolding ruleFits
+rule-take t k s = go (eqb k AD) refl (eqb k TH) refl
+  where
+    at : (j i : ℕ) → k ≡ j → value j i (take (size k) s) ≡ value j i s
+    at j i e = rw e (value-take j i s)
+
+    go : (a : Bool) → eqb k AD ≡ a → (b : Bool) → eqb k TH ≡ b
+        → cond a (holds t (value AD 2 (take (size k) s)) && (not (eqb (value AD 1 (take (size k) s)) 5) || (eqb t 2 && eqb (value AD 2 (take (size k) s)) 1))) (cond b (holds t (value TH 1 (take (size k) s))) true)
+        ≡ cond a (holds t (value AD 2 s) && (not (eqb (value AD 1 s) 5) || (eqb t 2 && eqb (value AD 2 s) 1))) (cond b (holds t (value TH 1 s)) true)
+    go true e b f = rw (at AD 1 (eqb-true k AD e), at AD 2 (eqb-true k AD e)) refl
+    go false e true f = rw (at TH 1 (eqb-true k TH f)) refl
+    go false e false f = refl
+
+fits-take : (t k : ℕ) (s : List ℕ) → fits t k (take (size k) s) ≡ fits t k s
+unfolding fits
+fits-take t k s =
+    rw (below-same (length (rowOf k .fields)) (λ i. fieldFits t (fieldOf k i) (value k i (take (size k) s))) (λ i. fieldFits t (fieldOf k i) (value k i s)) (λ i. ap (fieldFits t (fieldOf k i)) (value-take k i s)), rule-take t k s)
+    refl
+
+-- ---- where no two records are twins, one that has the current one's issue is the current one
+
+twin-of : (r s : List ℕ) → mark r ≡ mark s → keyOf r ≡ keyOf s → issue r ≡ issue s → twin r s ≡ true
+unfolding twin
+twin-of r s a b c = rw (a, b, c, eq-eqb (mark s) (mark s) refl, eq-eqb (keyOf s) (keyOf s) refl, eq-eqb (issue s) (issue s) refl) refl
+
+same-member : {l : List (List ℕ)} {r s : List ℕ} → Distinct l → Member r l → Member s l → twin r s ≡ true → twin s r ≡ true → r ≡ s
+same-member d here here e f = refl
+same-member d here (there m) e f = absurd (false≢true (sym (member-each m (d .0)) ∙ e))
+same-member d (there m) here e f = absurd (false≢true (sym (member-each m (d .0)) ∙ f))
+same-member d (there m) (there n) e f = same-member (d .1) m n e f
+
+is-the-current : {l : List (List ℕ)} {r : List ℕ} → Distinct l → Member r l → isCurrent l r ≡ true → current (mark r) (keyOf r) l ≡ r
+unfolding isCurrent
+is-the-current {l} {r} d m e = go (current-found (mark r) (keyOf r) l)
+  where
+    go : CurrentOf (mark r) (keyOf r) l (current (mark r) (keyOf r) l) → current (mark r) (keyOf r) l ≡ r
+    go (absent p w) = absurd (false≢true (sym (member-each m w) ∙ matches-self r))
+    go (standing q) =
+        let i : issue r ≡ issue (current (mark r) (keyOf r) l) = eqb-true (issue r) (issue (current (mark r) (keyOf r) l)) e in
+        same-member d (q .member) m (twin-of _ r (q .marked) (q .keyed) (sym i)) (twin-of r _ (sym (q .marked)) (sym (q .keyed)) i)
+
+pub readable-distinct : (d : List ℕ) → readable d ≡ Accepted → Distinct (records d)
+unfolding readable
+readable-distinct d e =
+    twins-distinct 0 (records d)
+    (orElse-parts (scan 0 (records d)) (twins 0 [] (records d)) (orElse-parts (refuseIf (ltb 60000 (length d)) 13 0) _ e .1) .1)
+
+each-member : {A : Type 0} {P : A → Type 0} (l : List A) → ((a : A) → Member a l → P a) → Each P l
+each-member [] f = done
+each-member (a ∷ l) f = also (f a here) (each-member l (λ b m. f b (there m)))
+
+-- ---- every slot fits
+
+three : (a b c : Bool) → a && b && c ≡ true → (a ≡ true) × (b ≡ true) × (c ≡ true)
+three true true c h = (refl, refl, h)
+three true false c h = absurd (false≢true h)
+three false b c h = absurd (false≢true h)
+
+-- of two tests the one that fails leaves the other
+or-right : (a b : Bool) → a ≡ false → a || b ≡ true → b ≡ true
+or-right a b z e = rw z at e
+
+module _ (ix : List ℕ) where
+  in-fourths : (a n i j : ℕ) → fourthsEmpty ix a n ≡ true → i < n → a + 4 * i ≡ j → eqb (getD ix j 0) 0 ≡ true
+  unfolding fourthsEmpty
+  in-fourths a n i j e p q = rw q at (below-at n (λ i. eqb (getD ix (a + 4 * i) 0) 0) e i p)
+
+module _ (t : ℕ) (d ix rs : List ℕ) (top : ℕ) where
+  -- the current record of the mark and key fits, if it has a slot that is not empty and not above the highest
+  abbrev Fit : ℕ → ℕ → Type 0
+  Fit k n =
+      (s : List ℕ) → rangesHold k s ≡ true → number 6 (keyWidth k) s ≡ n → current k n (records d) ≡ s → slot k n ≤ top → eqb (getD ix (slot k n) 0) 0 ≡ false → fits t k s ≡ true
+
+  -- there is none
+  empty-fit : (k n : ℕ) → eqb (getD ix (slot k n) 0) 0 ≡ true → Fit k n
+  empty-fit k n e s _ _ _ _ z = absurd (false≢true (sym z ∙ e))
+
+  module _ (known : Known t) (same : rs ≡ current 1 0 (records d)) (e : allFit t d ix rs top ≡ true) where
+    placed : eqb t 4 || not (ltb narrow (length ix)) ≡ true
+    unfolding allFit
+    placed = and-left _ _ e
+
+    parts : (fits t 1 rs && pointsFit t ix && profilesFit t d && allTo 4 (levelFits t ix) ≡ true) × (proratedFit t ix ≡ true) × (pricedFit t ix top ≡ true)
+    unfolding allFit
+    parts = three _ _ _ (and-right (eqb t 4 || not (ltb narrow (length ix))) _ e)
+
+    first-parts : (fits t 1 rs && pointsFit t ix ≡ true) × (profilesFit t d ≡ true) × (allTo 4 (levelFits t ix) ≡ true)
+    first-parts = three _ _ _ (parts .0)
+
+    fit-rs : (n : ℕ) → InKey 1 n → Fit 1 n
+    unfolding Spans shapeOf shape rowOf table
+    fit-rs n q s _ _ c _ _ =
+        let z : n ≡ 0 = omega (arith, q .spans) in
+        subst (λ (r : List ℕ). fits t 1 r ≡ true) (same ∙ ap (λ (i : ℕ). current 1 i (records d)) (sym z) ∙ c) (and-left (fits t 1 rs) (pointsFit t ix) (first-parts .0))
+
+    fit-hp : (n : ℕ) → InKey 2 n → Fit 2 n
+    unfolding low high
+    fit-hp n q =
+        split (eqb t 1)
+        (λ w s _ _ _ _ _. sym (fits-hp t s known) ∙ w)
+        (λ w. empty-fit 2 n (in-empty ix 1 21 (slot 2 n) (or-right (eqb t 1) _ w (and-right (fits t 1 rs) (pointsFit t ix) (first-parts .0))) (omega (arith, limits 2 n q)) (omega (arith, limits 2 n q))))
+
+    -- FU and MM of a profile, of a station that is not thermal
+    profile-parts : eqb t 1 ≡ false → (p : ℕ) → 1 ≤ p → p ≤ 4 → (fits t 3 (current 3 p (records d)) ≡ true) × (itemsFit t d p ≡ true)
+    unfolding profilesFit
+    profile-parts w p a b =
+        let z = to-at 4 (λ p. fits t 3 (current 3 p (records d)) && itemsFit t d p) (or-right (eqb t 1) _ w (first-parts .1)) p a b in
+        (and-left _ _ z, and-right (fits t 3 (current 3 p (records d))) _ z)
+
+    fit-fu : (n : ℕ) → InKey 3 n → Fit 3 n
+    unfolding Spans shapeOf shape rowOf table
+    fit-fu n q =
+        split (eqb t 1)
+        (λ w s _ _ _ _ _. sym (fits-fu t s known) ∙ rw (eqb-true t 1 w) refl)
+        (λ w s _ _ c _ _. subst (λ (r : List ℕ). fits t 3 r ≡ true) c (profile-parts w n (omega (arith, q .spans)) (omega (arith, q .spans)) .0))
+
+    fit-mm : (n : ℕ) → InKey 5 n → Fit 5 n
+    unfolding itemsFit Spans shapeOf shape rowOf table
+    fit-mm n q =
+        split (eqb t 1)
+        (λ w s _ _ _ _ _. sym (fits-mm t s known) ∙ rw w refl)
+        (λ w s _ _ c _ _.
+        let z = profile-parts w (n / 256) (omega (arith, q .spans)) (omega (arith, q .spans)) .1 in
+        let k : n / 256 * 256 + n % 256 ≡ n = omega arith in
+        subst (λ (r : List ℕ). fits t 5 r ≡ true) (ap (λ (i : ℕ). current 5 i (records d)) k ∙ c) (to-at 8 (λ j. fits t 5 (current 5 (n / 256 * 256 + j) (records d))) z (n % 256) (omega (arith, q .spans)) (omega (arith, q .spans))))
+
+    -- a level that is not held has no slot of AD and none of TH
+    unheld : (v : ℕ) → holds t v ≡ false → 1 ≤ v → v ≤ 4 → (fourthsEmpty ix (25 + v) 20 ≡ true) × (fourthsEmpty ix (153 + v) 3 ≡ true)
+    unfolding levelFits
+    unheld v w a b =
+        let z = or-right (holds t v) _ w (to-at 4 (levelFits t ix) (first-parts .2) v a b) in
+        (and-left _ _ z, and-right (fourthsEmpty ix (25 + v) 20) _ z)
+
+    fit-th : (n : ℕ) → InKey 9 n → Fit 9 n
+    unfolding slot keyWidth keyIn Spans shapeOf shape rowOf table
+    fit-th n q =
+        split (holds t (n % 256))
+        (λ w s g i _ _ _. held-th t s known g (rw (← i) at w))
+        (λ w. empty-fit 9 n (in-fourths ix (153 + n % 256) 3 (n / 256 - 1) (slot 9 n) (unheld (n % 256) w (omega (arith, q .spans)) (omega (arith, q .spans)) .1) (omega (arith, q .spans)) (omega (arith, q .spans))))
+
+    -- an AD of cost 5 would stand in one of four slots of its profile
+    prorated : eqb t 2 ≡ false → (n : ℕ) → InKey 4 n → n / 256 % 256 ≡ 5 → eqb (getD ix (slot 4 n) 0) 0 ≡ true
+    unfolding slot Spans shapeOf shape rowOf table
+    prorated w n q five =
+        let p = n / 65536 - 1 in
+        in-empty ix (42 + 20 * p) 4 (slot 4 n) (below-at 4 (λ p. slotsEmpty ix (42 + 20 * p) 4) (or-right (eqb t 2) _ w (parts .1)) p (omega (arith, q .spans))) (omega (arith, q .spans, five)) (omega (arith, q .spans, five))
+
+    fit-ad : (n : ℕ) → InKey 4 n → Fit 4 n
+    unfolding slot keyWidth keyIn Spans shapeOf shape rowOf table
+    fit-ad n q =
+        split (holds t (n % 256))
+        (λ w s g i _ _ z.
+        held-ad t s known g (rw (← i) at w)
+        (λ five. split (eqb t 2) (eqb-true t 2) (λ x. absurd (false≢true (sym z ∙ prorated x n q (sym (ap (λ (m : ℕ). m / 256 % 256) i) ∙ five))))))
+        (λ w. empty-fit 4 n (in-fourths ix (25 + n % 256) 20 (5 * (n / 65536 - 1) + (n / 256 % 256 - 1)) (slot 4 n) (unheld (n % 256) w (omega (arith, q .spans)) (omega (arith, q .spans)) .0) (omega (arith, q .spans)) (omega (arith, q .spans))))
+
+    -- HR, CH and LC: storage, or there is none
+    fit-priced : (k n : ℕ) → ((s : List ℕ) → eqb t 3 ≡ fits t k s) → 166 ≤ slot k n → slot k n < 2351 → Fit k n
+    fit-priced k n f a b =
+        split (ltb top 166)
+        (λ w s _ _ _ g _. absurd (omega (arith, a, g, ltb-true top 166 w)))
+        (λ w.
+        split (eqb t 3)
+        (λ x s _ _ _ _ _. sym (f s) ∙ x)
+        (λ x. empty-fit k n (in-empty ix 166 2185 (slot k n) (and-right (not (ltb (length ix) narrow)) _ (rw (w, x) at (parts .2))) a b)))
+
+    -- a slot beyond the index is empty
+    fit-fp : (n : ℕ) → InKey 10 n → Fit 10 n
+    unfolding low
+    fit-fp n q =
+        split (eqb t 4)
+        (λ w s _ _ _ _ _. sym (fits-fp t s known) ∙ w)
+        (λ w.
+        split (ltb narrow (length ix))
+        (λ x. absurd (false≢true (rw (w, x) at placed)))
+        (λ x. empty-fit 10 n (rw (List·getD-eq-default ix 0 {n = slot 10 n} (omega (arith, ltb-false narrow (length ix) x, limits 10 n q))) refl)))
+
+    fit : (k n : ℕ) → InKey k n → Fit k n
+    unfolding low high
+    fit k n p =
+        at-mark (λ k. InKey k n → Fit k n) k n p
+        (fit-rs n)
+        (fit-hp n)
+        (fit-fu n)
+        (fit-ad n)
+        (fit-mm n)
+        (λ q s _ _ _ _ _. sym (fits-rq t s known))
+        (λ q. fit-priced 7 n (λ s. fits-hr t s known) (omega (arith, limits 7 n q)) (omega (arith, limits 7 n q)))
+        (λ q. fit-priced 8 n (λ s. fits-ch t s known) (omega (arith, limits 8 n q)) (omega (arith, limits 8 n q)))
+        (fit-th n)
+        (fit-fp n)
+        (λ q. fit-priced 11 n (λ s. fits-lc t s known) (omega (arith, limits 11 n q)) (omega (arith, limits 11 n q)))
+        p
+
+    module _ (h : Indexed d ix) (complete : Complete d ix) (highest : UpTo d top) (distinct : Distinct (records d)) where
+      member-fits : (r : List ℕ) → Member r (records d) → isCurrent (records d) r ≡ true → fits t (mark r) r ≡ true
+      member-fits r m c =
+          let f = member-each m (scan-each 0 (records d) (h .clean)) in
+          let k = in-key r f in
+          let same : current (mark r) (keyOf r) (records d) ≡ r = is-the-current distinct m c in
+          fit (mark r) (keyOf r) k r (faultless r f .ranges) (unfold keyOf in refl) same (member-each m highest) (held r f k same (member-each m complete))
+        where
+          held : (r : List ℕ) → fault r ≡ 0 → InKey (mark r) (keyOf r) → current (mark r) (keyOf r) (records d) ≡ r → slot (mark r) (keyOf r) < length ix → eqb (getD ix (slot (mark r) (keyOf r)) 0) 0 ≡ false
+          held r f k same i =
+              split (eqb (getD ix (slot (mark r) (keyOf r)) 0) 0)
+              (λ w. absurd (faultless r f .known (ap mark (sym same ∙ current-none d ix h (mark r) (keyOf r) k i (eqb-true _ 0 w)) ∙ mark-nil)))
+              (λ w. w)
+
+      pub slots-accepted : t ≡ technology (parameters (records d)) → Accepted ≡ unfit t (records d)
+      slots-accepted g = sym (rw g (each-unfit (each-member (records d) (λ r m c. rw (← g) (member-fits r m c)))))
+
+-- ---- the tests of slots
+
+-- RS of a thermal station
+pub rs-thermal : (s : List ℕ) → ltb 0 (number 9 2 s) && eqb (number 19 4 s) 0 && eqb (number 23 4 s) 0 && eqb (number 27 2 s) 0 && eqb (number 29 2 s) 0 ≡ fits 1 1 s
+rs-thermal s =
+    subst (λ (b : Bool). b && eqb (number 19 4 s) 0 && eqb (number 23 4 s) 0 && eqb (number 27 2 s) 0 && eqb (number 29 2 s) 0 ≡ fits 1 1 s)
+    (and-true (ltb 0 (number 9 2 s) && true) ∙ and-true (ltb 0 (number 9 2 s)))
+    (fits-rs 1 s (omega arith, omega arith))
+
+pub fourths-next : (ix : List ℕ) (j i a : ℕ) → eqb a 0 ≡ fourthsEmpty ix j i → eqb (bitOr a (getD ix (j + 4 * i) 0)) 0 ≡ fourthsEmpty ix j (i + 1)
+unfolding fourthsEmpty allBelow
+fourths-next ix j i a e = or-none a (getD ix (j + 4 * i) 0) ∙ rw (e, add-one i) refl
+
+-- an index with slots for FP, of another station than a hydroelectric one
+pub other-wide : (t : ℕ) (d ix rs : List ℕ) (top : ℕ) → not (eqb t 4) && ltb narrow (length ix) ≡ true → false ≡ allFit t d ix rs top
+unfolding allFit
+other-wide t d ix rs top = go (eqb t 4) (ltb narrow (length ix))
+  where
+    go : (a b : Bool) → not a && b ≡ true → false ≡ (a || not b) && (fits t 1 rs && pointsFit t ix && profilesFit t d && allTo 4 (levelFits t ix) && proratedFit t ix && pricedFit t ix top)
+    go true b e = absurd (false≢true e)
+    go false true e = refl
+    go false false e = absurd (false≢true e)
+
+-- and any other
+pub by-slots : (t : ℕ) (d ix rs : List ℕ) (top : ℕ) → not (eqb t 4) && ltb narrow (length ix) ≡ false → {x : Bool} → x ≡ fits t 1 rs && pointsFit t ix && profilesFit t d && allTo 4 (levelFits t ix) && proratedFit t ix && pricedFit t ix top → x ≡ allFit t d ix rs top
+unfolding allFit
+by-slots t d ix rs top h {x = x} f = go (eqb t 4) (ltb narrow (length ix)) h
+  where
+    go : (a b : Bool) → not a && b ≡ false → x ≡ (a || not b) && (fits t 1 rs && pointsFit t ix && profilesFit t d && allTo 4 (levelFits t ix) && proratedFit t ix && pricedFit t ix top)
+    go true b e = f
+    go false true e = absurd (false≢true (sym e))
+    go false false e = f
+
+-- an item that is not there fits
+item-none : (t : ℕ) → Known t → fits t 5 [] ≡ true
+unfolding number
+item-none t known = sym (fits-mm t [] known) ∙ go (eqb t 1)
+  where
+    go : (b : Bool) → b || true ≡ true
+    go true = refl
+    go false = refl
+
+-- a profile whose slots of MM are empty has no item
+pub no-items : (t : ℕ) (d ix : List ℕ) (p : ℕ) → Known t → Indexed d ix → 1 ≤ p → p ≤ 4 → {j : ℕ} → j ≡ slot 5 (p * 256 + 1) → slotsEmpty ix j 8 ≡ true → true ≡ itemsFit t d p
+unfolding itemsFit slot
+no-items t d ix p known h a b {j} q e = sym (at-to 8 (λ i. fits t 5 (current 5 (p * 256 + i) (records d))) one)
+  where
+    one : (i : ℕ) → 1 ≤ i → i ≤ 8 → fits t 5 (current 5 (p * 256 + i) (records d)) ≡ true
+    one i c z =
+        let k = item-key p i a b c z in
+        rw (current-in-empty d ix h 5 (p * 256 + i) k (slot-fits d ix h 5 (p * 256 + i) refl k refl) j 8 e (omega (arith, q)) (omega (arith, q))) (item-none t known)
+
+-- ---- the loop over the records
+
+pub fit-passes : (d ix s : List ℕ) (f : Bool) → f ≡ true → false ≡ notFit d ix s f
+unfolding notFit
+fit-passes d ix s f e = rw e (go (eqb (number 2 4 s) (number 2 4 (partAt d ix (slotAt (mark s) s) (size (mark s))))))
+  where
+    go : (b : Bool) → false ≡ b && false
+    go true = refl
+    go false = refl
+
+-- the key of a record, by its width
+module _ (s : List ℕ) (w : ℕ) where
+  pub key-none : w ≡ 0 → 0 ≡ number 6 w s
+  unfolding number
+  key-none e = rw e refl
+
+  pub key-of : {n x : ℕ} → w ≡ n → x ≡ number 6 n s → x ≡ number 6 w s
+  key-of e q = rw e q
+
+  pub key-long : {a b : ℕ} → w ≡ 3 → a ≡ number 6 2 s → b ≡ number 8 1 s → a * 256 + b ≡ number 6 w s
+  key-long e p q = rw (e, p, q) (sym (number-join 6 2 1 s))
+
+-- the slot of a record, by the row of its mark
+pub slot-here : (s : List ℕ) {k n j : ℕ} {m : MarkShape} → k ≡ mark s → m ≡ shapeOf k → n ≡ number 6 (m .width) s → j ≡ slot k n → j ≡ slotAt (mark s) s
+unfolding slotAt
+slot-here s {k = k} {m = m} ek em en ej =
+    ej ∙ ap (slot k) (en ∙ ap (λ (w : ℕ). number 6 w s) (shape-width k em)) ∙ ap (λ (x : ℕ). slot x (number 6 (keyWidth x) s)) ek
+
+pub unfit-current : (d ix s : List ℕ) (f : Bool) → f ≡ false → {a b j n : ℕ} {part : List ℕ} → j ≡ slotAt (mark s) s → n ≡ size (mark s) → part ≡ partAt d ix j n → a ≡ number 2 4 s → b ≡ number 2 4 part → eqb a b ≡ notFit d ix s f
+unfolding notFit
+unfit-current d ix s f e ej en p q r = rw (e, q, r, p, ej, en, and-true (eqb (number 2 4 s) (number 2 4 (partAt d ix (slotAt (mark s) s) (size (mark s)))))) refl
+
+-- from place p on the first unfit record is that of the whole, no record is at fault, and each has a slot
+pub record Left (t : ℕ) (d ix : List ℕ) (p : ℕ) : Type 0 where
+  pub answer : firstDrawn (λ q r. refuseIf (isCurrent (records d) r && not (fits t (mark r) r)) 6 q) p (records (drop p d)) ≡ unfit t (records d)
+  pub clean : Each (λ r. fault r ≡ 0) (records (drop p d))
+  pub slotted : Each (λ r. slot (mark r) (keyOf r) < length ix) (records (drop p d))
+
+pub begin : (t : ℕ) (d ix : List ℕ) → Indexed d ix → Complete d ix → Left t d ix 0
+unfolding unfit
+begin t d ix h c = record { answer = refl; clean = scan-each 0 (records d) (h .clean); slotted = c }
+
+pub finish : (t : ℕ) (d ix : List ℕ) (p : ℕ) → length d ≤ p → Left t d ix p → Accepted ≡ unfit t (records d)
+unfolding firstDrawn records recordsIn
+finish t d ix p h left = rw (drop-of-length-le d {i = p} h) at (left .answer)
+
+both-parts : {P : List ℕ → Type 0} {r : List ℕ} {l : List (List ℕ)} → Each P (r ∷ l) → P r × Each P l
+both-parts (also h e) = (h, e)
+
+module _ (t : ℕ) (d ix : List ℕ) (h : Indexed d ix) (p : ℕ) (inside : p < length d) (left : Left t d ix p) where
+  step : records (drop p d) ≡ firstOf (drop p d) ∷ records (restOf (drop p d))
+  step = records-step (drop p d) (simp length-drop (omega arith))
+
+  clean-parts : (fault (firstOf (drop p d)) ≡ 0) × Each (λ r. fault r ≡ 0) (records (restOf (drop p d)))
+  clean-parts = both-parts (subst (λ (l : List (List ℕ)). Each (λ r. fault r ≡ 0) l) step (left .clean))
+
+  slot-parts : (slot (mark (firstOf (drop p d))) (keyOf (firstOf (drop p d))) < length ix) × Each (λ r. slot (mark r) (keyOf r) < length ix) (records (restOf (drop p d)))
+  slot-parts = both-parts (subst (λ (l : List (List ℕ)). Each (λ r. slot (mark r) (keyOf r) < length ix) l) step (left .slotted))
+
+  its-found : found (drop p d) ≡ Record (mark (drop p d)) (size (mark (drop p d)))
+  unfolding found
+  its-found = rw (eq-eqb (fault (firstOf (drop p d))) 0 (clean-parts .0)) refl
+
+  its-slot : slot (mark (firstOf (drop p d))) (keyOf (firstOf (drop p d))) ≡ slotAt (mark (drop p d)) (drop p d)
+  unfolding firstOf
+  its-slot = found-slot (drop p d) (mark (drop p d)) (size (mark (drop p d))) its-found
+
+  pub slot-below : slotAt (mark (take (length d - p) (drop p d))) (take (length d - p) (drop p d)) < length ix
+  slot-below = rw (tail d p, ← its-slot) (slot-parts .0)
+
+  module _ {n : ℕ} (en : n ≡ size (mark (take (length d - p) (drop p d)))) where
+    n-is : n ≡ size (mark (drop p d))
+    n-is = en ∙ ap (λ (s : List ℕ). size (mark s)) (tail d p)
+
+    pub its-length : (1 ≤ n) × (n ≤ length d - p)
+    unfolding firstOf
+    its-length =
+        let s : List ℕ = drop p d in
+        let w = first-length s (clean-parts .0) in
+        (omega (arith, n-is, size-ge (mark s)), omega (arith, n-is, w, length-take (size (mark s)) s, length-drop p d))
+
+    module _ {b f : Bool} (ef : f ≡ fits t (mark (take (length d - p) (drop p d))) (take (length d - p) (drop p d))) (eb : b ≡ notFit d ix (take (length d - p) (drop p d)) f) where
+      part-is : partAt d ix (slotAt (mark (drop p d)) (drop p d)) (size (mark (drop p d))) ≡ current (mark (firstOf (drop p d))) (keyOf (firstOf (drop p d))) (records d)
+      part-is =
+          let r : List ℕ = firstOf (drop p d) in
+          part-current d ix h (mark r) (keyOf r) (in-key r (clean-parts .0)) (slot-parts .0) (sym its-slot) (ap size (sym (first-mark (drop p d))))
+
+      test : b ≡ isCurrent (records d) (firstOf (drop p d)) && not (fits t (mark (firstOf (drop p d))) (firstOf (drop p d)))
+      unfolding isCurrent issue firstOf notFit
+      test =
+          let s : List ℕ = drop p d in
+          let v : f ≡ fits t (mark (firstOf s)) (firstOf s) =
+          ef ∙ ap (λ (x : List ℕ). fits t (mark x) x) (tail d p) ∙ sym (fits-take t (mark s) s) ∙ ap (λ (k : ℕ). fits t k (firstOf s)) (sym (first-mark s)) in
+          eb ∙ rw (tail d p, part-is, v, number-take (size (mark s)) 2 4 s (size-ge (mark s))) refl
+
+      pub refuses : b ≡ true → Refused 6 p ≡ unfit t (records d)
+      unfolding firstDrawn orElse refuseIf
+      refuses e = rw (step, sym test ∙ e) at (left .answer)
+
+      pub goes-on : b ≡ false → Left t d ix (p + n)
+      unfolding firstDrawn orElse refuseIf restOf
+      goes-on e =
+          let s : List ℕ = drop p d in
+          let z = rw (step, sym test ∙ e, first-length s (clean-parts .0)) at (left .answer) in
+          rw n-is
+          (record {
+            answer = rw (← drop-drop (size (mark s)) p d) z;
+            clean = rw (← drop-drop (size (mark s)) p d) (clean-parts .1);
+            slotted = rw (← drop-drop (size (mark s)) p d) (slot-parts .1);
+          })

@@ -1,0 +1,340 @@
+// 6: whether the current records fit the technology, told by the index. The definitions are in specs/, their laws in proofs/.
+ghost use mathlib.Core.Path.{_≡_};
+ghost use mathlib.Core.Bool.{cond, _||_, not};
+ghost use Prim.Native.Nat.{_+_, _*_, _<_, _≤_};
+ghost use lib.Dec.{ltb, eqb};
+ghost use lib.ListN.{length};
+ghost use Rattle.fields.specs.Numbers.{number};
+ghost use Rattle.records.specs.declared.Answer.the-variants.{Accepted};
+ghost use Rattle.records.specs.Table.{kinds, RS};
+ghost use Rattle.records.specs.Record.{mark, size, keyWidth};
+ghost use Rattle.index.specs.Slots.{short, slotAt};
+ghost use Rattle.records.specs.Dossier.{records};
+ghost use Rattle.station.specs.Current.{current, readable};
+ghost use Rattle.station.specs.Parameters.{parameters, technology};
+ghost use Rattle.lookup.specs.Parts.{Indexed, Complete, UpTo};
+ghost use Rattle.rules.specs.Fit.{Known, fits, holds, unfit};
+ghost use Rattle.fit.specs.Looked.{tried, triedAs, fourthsEmpty, pointsFit, itemsFit, profilesFit, levelFits, proratedFit, pricedFit, allFit, notFit};
+use index::slots_empty;
+use records::Answer;
+
+// A record's length, and whether it fits.
+pub struct Tried {
+    pub len: usize,
+    pub fits: bool,
+}
+
+// Whether a technology holds a level.
+pub fn level_held(t: u8, level: u8) -> bool
+    ensures { λ r. ⌜ r ≡ holds t level ⌝ }
+{
+    (t == 1) & ((level == 1) | (level == 2) | (level == 3) | (level == 4))
+        | (t == 2) & (level == 1)
+        | ((t == 3) | (t == 4)) & ((level == 1) | (level == 4))
+}
+
+// A field that is used is above 0 where it must be; any other is 0.
+fn field_fits(used: bool, positive: bool, x: u32) -> bool
+    ensures { λ r. ⌜ r ≡ cond used (not positive || ltb 0 x) (eqb x 0) ⌝ }
+{
+    if used { !positive | (0 < x) } else { x == 0 }
+}
+
+// RS: what the technology uses is above 0, but for the heats, and the rest is 0.
+fn rs_fits(t: u8, s: &[u8]) -> bool
+    requires { ⌜ Known t ⌝ }
+    ensures { λ r. ⌜ r ≡ fits t 1 (now (s .entry)) ⌝ }
+{
+    field_fits((t == 1) | (t == 2), true, fields::u16_at(s, 9) as u32)
+        & field_fits(t == 1, false, fields::u32_at(s, 11))
+        & field_fits(t == 1, false, fields::u32_at(s, 15))
+        & field_fits(t == 2, true, fields::u32_at(s, 19))
+        & field_fits(t == 3, true, fields::u32_at(s, 23))
+        & field_fits(t == 3, true, fields::u16_at(s, 27) as u32)
+        & field_fits((t == 3) | (t == 4), true, fields::u16_at(s, 29) as u32)
+}
+
+// The same of a thermal station: the commonest one is told sooner by what it doesn't use.
+fn rs_thermal(s: &[u8]) -> bool
+    ensures { λ r. ⌜ r ≡ fits 1 1 (now (s .entry)) ⌝ }
+{
+    (0 < fields::u16_at(s, 9))
+        & (fields::u32_at(s, 19) == 0)
+        & (fields::u32_at(s, 23) == 0)
+        & (fields::u16_at(s, 27) == 0)
+        & (fields::u16_at(s, 29) == 0)
+}
+
+// The current RS.
+fn station_fits(t: u8, rs: &[u8]) -> bool
+    requires { ⌜ Known t ⌝ }
+    ensures { λ r. ⌜ r ≡ fits t 1 (now (rs .entry)) ⌝ }
+{
+    if t == 1 {
+        return rs_thermal(rs);
+    }
+    rs_fits(t, rs)
+}
+
+// FU: a hydroelectric station has no fuel, and emission is thermal.
+fn fu_fits(t: u8, s: &[u8]) -> bool
+    requires { ⌜ Known t ⌝ }
+    ensures { λ r. ⌜ r ≡ fits t 3 (now (s .entry)) ⌝ }
+{
+    ((t != 4) | (fields::u32_at(s, 7) == 0)) & ((t == 1) | (fields::u32_at(s, 11) == 0))
+}
+
+// AD: its level is held, and cost 5 is nuclear and level 1.
+fn ad_fits(t: u8, s: &[u8]) -> bool
+    requires { ⌜ Known t ⌝ }
+    ensures { λ r. ⌜ r ≡ fits t 4 (now (s .entry)) ⌝ }
+{
+    let level = fields::u8_at(s, 8);
+    level_held(t, level) & ((fields::u8_at(s, 7) != 5) | ((t == 2) & (level == 1)))
+}
+
+// MM: hours for each start are thermal.
+fn mm_fits(t: u8, s: &[u8]) -> bool
+    requires { ⌜ Known t ⌝ }
+    ensures { λ r. ⌜ r ≡ fits t 5 (now (s .entry)) ⌝ }
+{
+    (t == 1) | (fields::u16_at(s, 22) == 0)
+}
+
+// What comes of a trial.
+fn trial(len: usize, fits: bool) -> Tried
+    ensures { λ r. ⌜ r ≡ tried len fits ⌝ }
+{
+    Tried { len, fits }
+}
+
+// A record of kind k, whose mark has no key, tried against the technology.
+fn tried_keyless(t: u8, k: usize, s: &[u8]) -> Tried
+    requires { ⌜ Known t × (k < kinds) × (keyWidth k ≡ 0) ⌝ }
+    ensures { λ r. ⌜ r ≡ triedAs t k (now (s .entry)) ⌝ }
+{
+    if k == 1 {
+        return trial(records::RS.length, rs_fits(t, s));
+    }
+    if k == 11 {
+        return trial(records::LC.length, t == 3);
+    }
+    trial(records::UNKNOWN.length, true)
+}
+
+// The record at the front, tried against the technology.
+fn tried_at(t: u8, s: &[u8]) -> Tried
+    requires { ⌜ Known t ⌝ }
+    ensures { λ r. ⌜ r ≡ triedAs t (mark (now (s .entry))) (now (s .entry)) ⌝ }
+{
+    let k = records::kind_at(s);
+    if k == 4 {
+        return trial(records::AD.length, ad_fits(t, s));
+    }
+    if k == 5 {
+        return trial(records::MM.length, mm_fits(t, s));
+    }
+    if k == 2 {
+        return trial(records::HP.length, t == 1);
+    }
+    if k == 9 {
+        return trial(records::TH.length, level_held(t, fields::u8_at(s, 7)));
+    }
+    if k == 3 {
+        return trial(records::FU.length, fu_fits(t, s));
+    }
+    if k == 7 {
+        return trial(records::HR.length, t == 3);
+    }
+    if k == 8 {
+        return trial(records::CH.length, t == 3);
+    }
+    if k == 10 {
+        return trial(records::FP.length, t == 4);
+    }
+    if k == 6 {
+        return trial(records::RQ.length, true);
+    }
+    tried_keyless(t, k, s)
+}
+
+// Whether n slots are empty, every fourth from slot j on.
+fn fourths_empty(index: &[u16], j: usize, n: usize) -> bool
+    requires { ⌜ j + 4 * n ≤ length (now index) + 3 ⌝ }
+    ensures { λ r. ⌜ r ≡ fourthsEmpty (now (index .entry)) j n ⌝ }
+{
+    let mut any = 0;
+    let mut i = 0;
+    while i < n {
+        any = any | index[j + 4 * i];
+        i += 1;
+    }
+    any == 0
+}
+
+// Whether AD and TH of a level are there only where it is held.
+fn level_fits(index: &[u16], t: u8, v: u8) -> bool
+    requires { ⌜ (short ≤ length (now index)) × (v ≤ 4) ⌝ }
+    ensures { λ r. ⌜ r ≡ levelFits t (now (index .entry)) v ⌝ }
+{
+    if level_held(t, v) {
+        return true;
+    }
+    let j = v as usize;
+    fourths_empty(index, 25 + j, 20) & fourths_empty(index, 153 + j, 3)
+}
+
+// Whether AD of cost 5 is there at a nuclear station alone.
+fn prorated_fit(index: &[u16], t: u8) -> bool
+    requires { ⌜ short ≤ length (now index) ⌝ }
+    ensures { λ r. ⌜ r ≡ proratedFit t (now (index .entry)) ⌝ }
+{
+    if t == 2 {
+        return true;
+    }
+    slots_empty(index, 42, 4)
+        & slots_empty(index, 62, 4)
+        & slots_empty(index, 82, 4)
+        & slots_empty(index, 102, 4)
+}
+
+// Whether the items of a profile fit; empty slots tell at once that it has none.
+fn items_fit(d: &[u8], index: &[u16], t: u8, p: usize) -> bool
+    requires { ⌜ Indexed (now d) (now index) × Known t × (1 ≤ p) × (p ≤ 4) ⌝ }
+    ensures { λ r. ⌜ r ≡ itemsFit t (now (d .entry)) p ⌝ }
+{
+    if slots_empty(index, index::keys::slot_mm(p, 1), 8) {
+        return true;
+    }
+    let mut ok = true;
+    let mut j = 0;
+    while j < 8 {
+        ok = ok & mm_fits(t, lookup::mm(d, index, p, j + 1));
+        j += 1;
+    }
+    ok
+}
+
+// Whether FU and MM of every profile fit.
+fn profiles_fit(d: &[u8], index: &[u16], t: u8) -> bool
+    requires { ⌜ Indexed (now d) (now index) × Known t ⌝ }
+    ensures { λ r. ⌜ r ≡ profilesFit t (now (d .entry)) ⌝ }
+{
+    if t == 1 {
+        return true;
+    }
+    let mut ok = true;
+    let mut p = 0;
+    while p < 4 {
+        ok = ok & (fu_fits(t, lookup::fu(d, index, p + 1)) & items_fit(d, index, t, p + 1));
+        p += 1;
+    }
+    ok
+}
+
+// Whether HP is there at a thermal station alone.
+fn points_fit(index: &[u16], t: u8) -> bool
+    requires { ⌜ short ≤ length (now index) ⌝ }
+    ensures { λ r. ⌜ r ≡ pointsFit t (now (index .entry)) ⌝ }
+{
+    if t == 1 {
+        return true;
+    }
+    slots_empty(index, 1, 21)
+}
+
+// Whether HR, CH and LC are there at storage alone; the highest slot of a record tells at once that none is. A short index does not tell.
+fn priced_fit(index: &[u16], t: u8, top: usize) -> bool
+    ensures { λ r. ⌜ r ≡ pricedFit t (now (index .entry)) top ⌝ }
+{
+    if (top < 166) | (t == 3) {
+        return true;
+    }
+    if index.len() < index::NARROW {
+        return false;
+    }
+    slots_empty(index, 166, 2185)
+}
+
+// Whether every current record fits. An index has slots for FP where there is one, and only a hydroelectric station may have it.
+fn all_fit(d: &[u8], index: &[u16], rs: &[u8], t: u8, top: usize) -> bool
+    requires { ⌜ Indexed (now d) (now index) × Known t ⌝ }
+    ensures { λ r. ⌜ r ≡ allFit t (now (d .entry)) (now (index .entry)) (now (rs .entry)) top ⌝ }
+{
+    if (t != 4) & (index::NARROW < index.len()) {
+        return false;
+    }
+    station_fits(t, rs)
+        & points_fit(index, t)
+        & profiles_fit(d, index, t)
+        & (level_fits(index, t, 1)
+            & level_fits(index, t, 2)
+            & level_fits(index, t, 3)
+            & level_fits(index, t, 4))
+        & prorated_fit(index, t)
+        & priced_fit(index, t, top)
+}
+
+// The key of the record at the front of s, as a number.
+fn key_at(s: &[u8], width: usize) -> usize
+    requires { ⌜ width ≤ 3 ⌝ }
+    ensures { λ r. ⌜ (r ≡ number 6 width (now (s .entry))) × (r < 16777216) ⌝ }
+{
+    if width == 0 {
+        return 0;
+    }
+    if width == 1 {
+        return fields::u8_at(s, 6) as usize;
+    }
+    if width == 2 {
+        return fields::u16_at(s, 6) as usize;
+    }
+    (fields::u16_at(s, 6) as usize) * 256 + (fields::u8_at(s, 8) as usize)
+}
+
+// Whether the record at the front of s is current and does not fit. The search for twins keeps `entry_at` for itself, so that the compiler
+// puts it in line there.
+fn not_fit(d: &[u8], index: &[u16], s: &[u8], fits: bool) -> bool
+    requires { ⌜ (slotAt (mark (now s)) (now s) < length (now index)) × (size (mark (now s)) < 65536) ⌝ }
+    ensures { λ r. ⌜ r ≡ notFit (now (d .entry)) (now (index .entry)) (now (s .entry)) fits ⌝ }
+{
+    if fits {
+        return false;
+    }
+    let k = records::kind_at(s);
+    let m = records::mark_shape(k);
+    let j = lookup::slot_of(k, key_at(s, m.width));
+    let current = lookup::part_at(d, index, j, m.length);
+    fields::u32_at(s, 2) == fields::u32_at(current, 2)
+}
+
+// The first record that is current and does not fit.
+fn first_unfit(d: &[u8], index: &[u16], t: u8) -> Answer
+    requires { ⌜ Indexed (now d) (now index) × Complete (now d) (now index) × Known t ⌝ }
+    ensures { λ r. ⌜ r ≡ unfit t (records (now (d .entry))) ⌝ }
+{
+    let mut at = 0;
+    while at < d.len() {
+        let rest = &d[at..];
+        let f = tried_at(t, rest);
+        if not_fit(d, index, rest, f.fits) {
+            return Answer::Refused {
+                number: 6,
+                place: at,
+            };
+        }
+        at += f.len;
+    }
+    Answer::Accepted
+}
+
+// 6. Most dossiers have no unfit record, which the index tells; but for a thermal station, a short one is gone through sooner than the index.
+pub fn unfit_of(d: &[u8], index: &[u16], rs: &[u8], t: u8, top: usize) -> Answer
+    requires { ⌜ Indexed (now d) (now index) × Complete (now d) (now index) × (readable (now d) ≡ Accepted) × Known t × (t ≡ technology (parameters (records (now d)))) × (now rs ≡ current RS 0 (records (now d))) × UpTo (now d) top ⌝ }
+    ensures { λ r. ⌜ r ≡ unfit t (records (now (d .entry))) ⌝ }
+{
+    if ((t == 1) | (200 < d.len())) && all_fit(d, index, rs, t, top) {
+        return Answer::Accepted;
+    }
+    first_unfit(d, index, t)
+}
