@@ -8,10 +8,10 @@ ghost use Rattle.records.specs.Dossier.{records, scan};
 ghost use Rattle.station.specs.Current.{readable};
 ghost use Rattle.lookup.specs.Parts.{Empty, Indexed, Complete, UpTo};
 ghost use Rattle.rules.specs.Answer.{answer};
+use fit::unfit_of;
 use index::Passed;
 use records::Answer;
 use requirements::unsupported_of;
-use fit::unfit_of;
 
 // 5 to 9 and 17, of a dossier that draws none before them, given the highest slot of a record.
 fn beyond_reading(d: &[u8], index: &[u16], top: usize) -> Answer

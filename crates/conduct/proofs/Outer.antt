@@ -14,7 +14,7 @@ use Rattle.verdicts.specs.Refusals.{offerRefusal, priceRefusal}
 use Rattle.verdicts.specs.Verdict.{offerVerdict, priceVerdict}
 use Rattle.verdicts.proofs.Settled.{settle-accepted, price-accepted}
 use Rattle.limits.specs.declared.Threshold.{Threshold}
-use Rattle.limits.specs.Shapes.{thresholdOf, offerShown, singleShown}
+use Rattle.limits.specs.Thresholds.{thresholdOf, offerShown, singleShown}
 use Rattle.limits.proofs.Laminations.{told-by-arrays, offer-shown}
 use Rattle.limits.proofs.Single.{single-tested}
 

@@ -24,9 +24,9 @@ use Rattle.station.specs.Parameters.{Parameters, parameters, capacity, technolo
 use Rattle.rules.specs.Fit.{energy, holds}
 use Rattle.verdicts.specs.Test.{quantity, priceAt, before}
 use Rattle.verdicts.specs.Refusals.{levelRefusal, conditionRefusal, lengthRefusal, priceBefore, pairHolds, malformed, aboveCapacity, offerRefusal}
-use Rattle.limits.specs.Shapes.{LastHighest}
+use Rattle.limits.specs.Thresholds.{LastHighest}
 use Rattle.limits.proofs.Turns.{one-less}
-use Rattle.conduct.specs.Shapes.{pairTest}
+use Rattle.conduct.specs.Pairs.{pairTest}
 
 -- ---- chains of answers
 

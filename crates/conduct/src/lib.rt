@@ -8,7 +8,7 @@ ghost use Rattle.station.specs.Parameters.{parameters};
 ghost use Rattle.rules.specs.Answer.{IsAccepted};
 ghost use Rattle.formulas.specs.Levels.{levels};
 ghost use Rattle.lookup.specs.Parts.{Indexed, Empty};
-ghost use Rattle.limits.specs.Shapes.{thresholdOf};
+ghost use Rattle.limits.specs.Thresholds.{thresholdOf};
 ghost use Rattle.verdicts.specs.Verdict.{offerVerdict, priceVerdict, onOffer, onPrice};
 use crate::refusals::offer_refusal;
 use crate::refusals::price_refusal;

@@ -7,7 +7,7 @@ ghost use Rattle.records.specs.Dossier.{records};
 ghost use Rattle.station.specs.Parameters.{parameters};
 ghost use Rattle.lookup.specs.Parts.{Indexed};
 ghost use Rattle.verdicts.specs.Refusals.{malformed as malformedFrom, aboveCapacity, lengthRefusal, levelRefusal, conditionRefusal, offerRefusal, priceRefusal};
-ghost use Rattle.conduct.specs.Shapes.{pairTest};
+ghost use Rattle.conduct.specs.Pairs.{pairTest};
 use records::Answer;
 
 // Whether a pair holds beside the quantity and the price before it.

@@ -19,7 +19,7 @@ use Rattle.station.specs.Parameters.{chargePrice, chargeEnergy}
 use Rattle.station.proofs.Fields.{chargeEnergy-at, lastCost-at}
 use Rattle.index.specs.Slots.{slot, narrow, slotsEmpty}
 use Rattle.index.proofs.Slots.{slot-narrow}
-use Rattle.lookup.specs.Parts.{part, bytesOf, placeAt, partAt, plain, Indexed}
+use Rattle.lookup.specs.Parts.{part, partBytes, placeAt, partAt, plain, Indexed}
 use Rattle.lookup.proofs.Parts.{current-in-empty, slot-tells, part-current, interval-key}
 use Rattle.lookup.proofs.Guess.{plain-none}
 use Rattle.formulas.specs.Sums.{sumTo}
@@ -43,10 +43,10 @@ summed-more h p q a b =
 
 -- a part that is not empty lies within the dossier, where its slot says
 part-there : (d ix : List ℕ) (j n : ℕ) {c : List ℕ} → partAt d ix j n ≡ c → ltb 0 (length c) ≡ true → (getD ix j 0 - 1 + n ≤ length d) × (take n (drop (getD ix j 0 - 1) d) ≡ c)
-unfolding partAt placeAt bytesOf
+unfolding partAt placeAt partBytes
 part-there d ix j n {c} e t = go (eqb (getD ix j 0) 0 || ltb (length d) (getD ix j 0 - 1 + n)) refl e
   where
-    go : (b : Bool) → eqb (getD ix j 0) 0 || ltb (length d) (getD ix j 0 - 1 + n) ≡ b → bytesOf d (cond b (part 0 0) (part (getD ix j 0 - 1) n)) ≡ c
+    go : (b : Bool) → eqb (getD ix j 0) 0 || ltb (length d) (getD ix j 0 - 1 + n) ≡ b → partBytes d (cond b (part 0 0) (part (getD ix j 0 - 1) n)) ≡ c
         → (getD ix j 0 - 1 + n ≤ length d) × (take n (drop (getD ix j 0 - 1) d) ≡ c)
     go true x p = absurd (false≢true (rw (← p) at t))
     go false x p = (ltb-false (length d) (getD ix j 0 - 1 + n) (or-false-right (eqb (getD ix j 0) 0) (ltb (length d) (getD ix j 0 - 1 + n)) x), p)

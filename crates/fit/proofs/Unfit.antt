@@ -19,14 +19,14 @@ use Rattle.fields.proofs.Numbers.{number-join}
 use Rattle.records.specs.declared.Answer.the-variants.{Accepted, Refused}
 use Rattle.records.specs.Table.{table, rowOf, fieldOf, AD, TH}
 use Rattle.records.specs.declared.MarkShape.{MarkShape}
-use Rattle.records.specs.Shapes.{shape, shapeOf}
+use Rattle.records.specs.MarkShapes.{shape, shapeOf}
 use Rattle.records.specs.Record.{mark, size, issue, keyIn, keyWidth, keyOf, value, rangesHold, fault}
 use Rattle.records.specs.Answers.{orElse, refuseIf}
 use Rattle.records.specs.declared.Found.the-variants.{Record}
 use Rattle.records.specs.Walk.{found}
 use Rattle.records.specs.Dossier.{firstOf, restOf, recordsIn, records, firstDrawn, scan}
 use Rattle.records.proofs.Record.{mark-nil, size-ge, faultless}
-use Rattle.records.proofs.Shapes.{shape-width}
+use Rattle.records.proofs.MarkShapes.{shape-width}
 use Rattle.records.proofs.Answers.{orElse-parts}
 use Rattle.records.proofs.Dossier.{first-mark, first-length, records-step, scan-each}
 use Rattle.records.proofs.Read.{number-take, value-take}

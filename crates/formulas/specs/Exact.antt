@@ -9,7 +9,7 @@ infixl 60 _⊕_
 -- a sum of micro-dollars, as the paper's formulas build it
 pub data Sum : Type 0 where
   whole : ℕ → Sum  -- an amount as it stands
-  share : ℕ → ℕ → Sum  -- one whole number over another; 0 where the divisor is 0, as of a record that is not there
+  share : ℕ → ℕ → Sum  -- one whole number ratio another; 0 where the divisor is 0, as of a record that is not there
   _⊕_ : Sum → Sum → Sum  -- plus
   total : ℕ → (ℕ → Sum) → Sum  -- of items 1 to n
   perThousand : Sum → ℕ → Sum  -- "× 1,000 / efficiency"
@@ -17,7 +17,7 @@ pub data Sum : Type 0 where
 
 -- ---- the level: "Each division now goes to nearest, half up", in micro-dollars
 
--- n over d to the nearest: n / d and a half more, whose fraction is dropped; 0 where d is 0
+-- n ratio d to the nearest: n / d and a half more, whose fraction is dropped; 0 where d is 0
 unfoldable pub quotient : ℕ → ℕ → ℕ
 quotient n d = (2 * n + d) / (2 * d)
 
@@ -34,24 +34,24 @@ microDollars (greater a b) = max (microDollars a) (microDollars b)
 unfoldable pub cents : ℕ → ℕ
 cents s = quotient s 10000
 
--- ---- the exact level: "It is one whole number over another, and distances to it are compared by multiplying across."
+-- ---- the exact level: "It is one whole number ratio another, and distances to it are compared by multiplying across."
 
--- one whole number over another
+-- one whole number ratio another
 pub record Fraction : Type 0 where
   pub num : ℕ
   pub den : ℕ
 
--- n over d
-abbrev pub over : ℕ → ℕ → Fraction
-over n d = record { num = n; den = d }
+-- n ratio d
+abbrev pub ratio : ℕ → ℕ → Fraction
+ratio n d = record { num = n; den = d }
 
--- two fractions added, over the product of their divisors
+-- two fractions added, ratio the product of their divisors
 unfoldable pub plus : Fraction → Fraction → Fraction
-plus a b = over (a .num * b .den + b .num * a .den) (a .den * b .den)
+plus a b = ratio (a .num * b .den + b .num * a .den) (a .den * b .den)
 
 -- f 1 + … + f n
 unfoldable pub sumOver : ℕ → (ℕ → Fraction) → Fraction
-sumOver zero f = over 0 1
+sumOver zero f = ratio 0 1
 sumOver (suc n) f = plus (sumOver n f) (f (suc n))
 
 -- the greater of two, the second where they are equal
@@ -60,11 +60,11 @@ greaterOf a b = cond (leb (a .num * b .den) (b .num * a .den)) b a
 
 -- a sum "with no division dropped and no cent rounded"
 unfoldable pub exact : Sum → Fraction
-exact (whole n) = over n 1
-exact (share n d) = cond (eqb d 0) (over 0 1) (over n d)
+exact (whole n) = ratio n 1
+exact (share n d) = cond (eqb d 0) (ratio 0 1) (ratio n d)
 exact (a ⊕ b) = plus (exact a) (exact b)
 exact (total n f) = sumOver n (λ k. exact (f k))
-exact (perThousand a e) = over (exact a .num * 1000) (exact a .den * e)
+exact (perThousand a e) = ratio (exact a .num * 1000) (exact a .den * e)
 exact (greater a b) = greaterOf (exact a) (exact b)
 
 -- ---- "may then differ by at most 0.005006 dollar on either side"

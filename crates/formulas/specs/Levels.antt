@@ -182,12 +182,12 @@ pub record Shown : Type 0 where
   pub cents : ℕ
 
 -- these at once, in the order of `Shown`
-abbrev pub row : ℕ → ℕ → ℕ → ℕ → ℕ → Shown
-row v i a b x = record { level = v; lamination = i; from = a; to = b; cents = x }
+abbrev pub shownAs : ℕ → ℕ → ℕ → ℕ → ℕ → Shown
+shownAs v i a b x = record { level = v; lamination = i; from = a; to = b; cents = x }
 
 -- what a line shows
 abbrev pub shown : Line → Shown
-shown x = row (x .level) (x .lamination) (x .from) (x .to) (amount x)
+shown x = shownAs (x .level) (x .lamination) (x .from) (x .to) (amount x)
 
 -- ---- levels side by side
 

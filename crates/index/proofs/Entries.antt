@@ -13,7 +13,7 @@ use Rattle.records.specs.declared.Found.{Found}
 use Rattle.records.specs.declared.Found.the-variants.{Record, Faulty}
 use Rattle.records.specs.Table.{table}
 use Rattle.records.specs.Record.{markIn, mark, size, rangesHold}
-use Rattle.records.specs.Shapes.{begins}
+use Rattle.records.specs.MarkShapes.{begins}
 use Rattle.records.specs.Walk.{found}
 use Rattle.records.proofs.Read.{found-short, found-unknown, found-known, begun}
 use Rattle.index.specs.declared.Entry.{Entry}

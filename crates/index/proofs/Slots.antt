@@ -13,7 +13,7 @@ use Rattle.fields.specs.Numbers.{number}
 use Rattle.records.specs.declared.MarkShape.{MarkShape}
 use Rattle.records.specs.Table.{table, rowOf, fieldOf, CH, TH, FP, kinds}
 use Rattle.records.specs.Record.{mark, offsetIn, offset, read, value, keyIn, keyWidth, keyOf, inRange, rangesHold, fault}
-use Rattle.records.specs.Shapes.{shape, shapeOf, keyField, keyFits, keyTest}
+use Rattle.records.specs.MarkShapes.{shape, shapeOf, keyField, keyFits, keyTest}
 use Rattle.records.proofs.Record.{faultless, field-in}
 use Rattle.records.proofs.Marks.{mark-lt, by-mark}
 use Rattle.index.specs.Slots.{slot, short, narrow, wide, slotsEmpty}

@@ -13,7 +13,7 @@ use Rattle.records.specs.Table.{kinds}
 use Rattle.fields.specs.Numbers.{number}
 use Rattle.records.specs.declared.Found.the-variants.{Record}
 use Rattle.records.specs.Record.{mark, size, issue, keyWidth, keyOf, fault}
-use Rattle.records.specs.Shapes.{shortest}
+use Rattle.records.specs.MarkShapes.{shortest}
 use Rattle.records.specs.Dossier.{firstOf}
 use Rattle.records.specs.Walk.{found}
 use Rattle.records.proofs.Record.{mark-take, size-ge, key-ends, faultless}

@@ -3,7 +3,7 @@ ghost use mathlib.Core.Path.{_≡_};
 ghost use Prim.Native.Nat.{_≤_};
 ghost use lib.ListN.{length};
 ghost use Rattle.records.specs.Record.{mark, keyWidth};
-ghost use Rattle.records.specs.Shapes.{begins};
+ghost use Rattle.records.specs.MarkShapes.{begins};
 ghost use Rattle.index.specs.Entries.{entryAs, readingAs, readingOf};
 use crate::Entry;
 use crate::Reading;

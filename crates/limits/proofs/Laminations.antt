@@ -13,14 +13,14 @@ use borrow.Author.Tests.{eq-eqb, ne-eqb, le-leb, lt-ltb, leb-true, ltb-true}
 use Rattle.station.specs.Parameters.{Parameters}
 use Rattle.rules.specs.Fit.{energy, holds}
 use Rattle.reference.specs.declared.HourLevels.{HourLevels}
-use Rattle.formulas.specs.Levels.{Line, amount, Shown, row, shown}
+use Rattle.formulas.specs.Levels.{Line, amount, Shown, shownAs, shown}
 use Rattle.reference.specs.Packed.{laminationsFrom, singleOf, unpacked, inArrays}
 use Rattle.limits.specs.declared.Threshold.{Threshold}
 use Rattle.limits.specs.declared.Pair.{Pair}
 use Rattle.verdicts.specs.declared.Verdict.{Verdict}
 use Rattle.verdicts.specs.declared.Verdict.the-variants.{Passes, Fails}
 use Rattle.verdicts.specs.Test.{limit, fails, failsUnder, failing, quantity, priceAt, before, overlap, offerFrom}
-use Rattle.limits.specs.Shapes.{thresholdOf, failsAt, failingShown, offerShown, failsIn, firstFailing, leastOf, LastHighest}
+use Rattle.limits.specs.Thresholds.{thresholdOf, failsAt, failingShown, offerShown, failsIn, firstFailing, leastOf, LastHighest}
 use Rattle.verdicts.proofs.Stays.{pass-stays}
 use Rattle.limits.proofs.Turns.{one-less, all-left}
 
@@ -44,7 +44,7 @@ module _ (v : ℕ) (meets : ℕ → ℕ → Bool) (test : ℕ → Bool) (k : ℕ
   unfolding failingShown singleOf
   failing-single t u x rest = go (holds t u)
     where
-      go : (b : Bool) → failingShown v meets test k (cond b (row u 0 0 0 x ∷ []) []) rest ≡ cond (b && (eqb u v && meets 0 0 && test x)) (Fails k 0) rest
+      go : (b : Bool) → failingShown v meets test k (cond b (shownAs u 0 0 0 x ∷ []) []) rest ≡ cond (b && (eqb u v && meets 0 0 && test x)) (Fails k 0) rest
       go true = refl
       go false = refl
 

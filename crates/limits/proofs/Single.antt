@@ -14,7 +14,7 @@ use Rattle.reference.proofs.Packed.{others, amount-laminations}
 use Rattle.reference.proofs.Single.{by-kind, thermalLines, held-lines}
 use Rattle.verdicts.specs.declared.Verdict.the-variants.{Passes}
 use Rattle.verdicts.specs.Test.{failsUnder, failing, priceTest}
-use Rattle.limits.specs.Shapes.{thresholdOf, failsAt, singleShown}
+use Rattle.limits.specs.Thresholds.{thresholdOf, failsAt, singleShown}
 
 module _ (s : Parameters) (m : Amounts) (p c price : ℕ) where
   -- no lamination is of such a kind

@@ -6,7 +6,7 @@ ghost use lib.ListN.{length};
 ghost use Rattle.fields.specs.Numbers.{number, biasedOf};
 ghost use Rattle.reference.specs.Packed.{unpacked, inArrays};
 ghost use Rattle.verdicts.specs.Test.{limit as limitOf, overlap, quantity, priceAt};
-ghost use Rattle.limits.specs.Shapes.{failsAt, failsIn, firstFailing, leastOf, offerShown, singleShown, LastHighest};
+ghost use Rattle.limits.specs.Thresholds.{failsAt, failsIn, firstFailing, leastOf, offerShown, singleShown, LastHighest};
 use verdicts::Verdict;
 
 // What a TH says of a condition and level.

@@ -12,7 +12,7 @@ use Rattle.text.proofs.Decimal.{decimal-within}
 use Rattle.text.proofs.Over.{Wrote, then}
 use Rattle.rules.specs.Fit.{start, noLoad, reserve, holds}
 use Rattle.reference.specs.declared.HourLevels.{HourLevels}
-use Rattle.formulas.specs.Levels.{Shown, row}
+use Rattle.formulas.specs.Levels.{Shown, shownAs}
 use Rattle.reference.specs.Packed.{laminationAt, laminationsFrom, singleOf, unpacked, inArrays}
 use Rattle.lines.specs.Parts.{packedReport, laminationLines, heldLine, otherLines}
 use Rattle.layout.specs.Report.{profileLine, energyLine, amountLine, levelLine, levelLines, reportText}
@@ -71,7 +71,7 @@ pub turn : (r : HourLevels) (i : ℕ) (e : List ℕ) {at q : ℕ} {b b′ : List
 turn r i e p q = rw (next-line r i) (then (laminationLines r i) (lineAt r i) e p q)
 
 -- the line of a level without laminations, given its word
-single-line : (v x : ℕ) (word : List ℕ) (t : ℕ) (held : Bool) → levelLine (row v 0 0 0 x) ≡ amountLine word x → holds t v ≡ held
+single-line : (v x : ℕ) (word : List ℕ) (t : ℕ) (held : Bool) → levelLine (shownAs v 0 0 0 x) ≡ amountLine word x → holds t v ≡ held
     → levelLines (singleOf t v x) ≡ heldLine held word x
 unfolding levelLines singleOf
 single-line v x word t true e h = rw h (append-nil _ ∙ e)

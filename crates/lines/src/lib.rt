@@ -8,9 +8,9 @@ ghost use Rattle.rules.specs.Fit.{holds};
 ghost use Rattle.layout.specs.Report.{profileLine, energyLine, amountLine};
 ghost use Rattle.reference.specs.Packed.{hourOf, inArrays};
 ghost use Rattle.lines.specs.Parts.{laminationLines, heldLine, otherLines, writtenOf, bufferOf};
+use fit::level_held;
 use layout::Written;
 use reference::SingleLevels;
-use fit::level_held;
 
 // No report is longer.
 const LONGEST: usize = 2283;

@@ -20,7 +20,7 @@ use Rattle.records.specs.Dossier.{records}
 use Rattle.station.specs.Current.{current, readable, lookup, lookupBytes}
 use Rattle.index.specs.Slots.{wide}
 use Rattle.lookup.specs.declared.Part.{Part}
-use Rattle.lookup.specs.Parts.{part, bytesOf, currentPart, lookupPart, indexOf}
+use Rattle.lookup.specs.Parts.{part, partBytes, currentPart, lookupPart, indexOf}
 use Rattle.lookup.proofs.Parts.{current-bytes, current-ends}
 use Rattle.lookup.proofs.Opening.{accepted-indexed}
 
@@ -53,8 +53,8 @@ module _ (d : List ℕ) (k n : ℕ) (b : k < kinds) where
       go (Refused m p) e = unfold isAccepted in q
 
   -- its bytes are the part that the lookup hands back
-  pub lookup-bytes : bytesOf d (lookupPart d k n) ≡ lookup d k n
-  lookup-bytes = by-answer (λ p l. bytesOf d p ≡ l) (λ e. let a = accepted-indexed d e in current-bytes d (indexOf wide d) (a .0) k n b ((λ z. a .1), omega (arith, a .1))) (unfold bytesOf in refl)
+  pub lookup-bytes : partBytes d (lookupPart d k n) ≡ lookup d k n
+  lookup-bytes = by-answer (λ p l. partBytes d p ≡ l) (λ e. let a = accepted-indexed d e in current-bytes d (indexOf wide d) (a .0) k n b ((λ z. a .1), omega (arith, a .1))) (unfold partBytes in refl)
 
   pub lookup-ends : {p : Part} → p ≡ lookupPart d k n → p .start + p .length ≤ length d
   lookup-ends q = rw q (by-answer (λ p l. p .start + p .length ≤ length d) (λ e. let a = accepted-indexed d e in current-ends d (indexOf wide d) (a .0) k n b ((λ z. a .1), omega (arith, a .1)) refl) (omega arith))
@@ -69,10 +69,10 @@ part-refused d k n m p e = rw (← e) refl
 
 -- ---- by the bytes of mark and key
 
-pub looked : (d m key : List ℕ) {k n : ℕ} {p : Part} {l : List ℕ} → k < kinds → l ≡ bytesOf d p → p ≡ lookupPart d k n → k ≡ mark m → n ≡ number 0 (length key) key → length m ≡ 2 → length key ≡ keyWidth k → l ≡ lookupBytes d m key
+pub looked : (d m key : List ℕ) {k n : ℕ} {p : Part} {l : List ℕ} → k < kinds → l ≡ partBytes d p → p ≡ lookupPart d k n → k ≡ mark m → n ≡ number 0 (length key) key → length m ≡ 2 → length key ≡ keyWidth k → l ≡ lookupBytes d m key
 unfolding lookupBytes
 looked d m key {k} {n} b e q g i t w =
-    e ∙ ap (bytesOf d) q ∙ lookup-bytes d k n b ∙ rw (eq-eqb (length m) 2 t, eq-eqb (length key) (keyWidth (mark m)) (w ∙ ap keyWidth g), g, i) refl
+    e ∙ ap (partBytes d) q ∙ lookup-bytes d k n b ∙ rw (eq-eqb (length m) 2 t, eq-eqb (length key) (keyWidth (mark m)) (w ∙ ap keyWidth g), g, i) refl
 
 pub other-width : (d m key : List ℕ) → (length key ≡ keyWidth (mark m) → ⊥) → [] ≡ lookupBytes d m key
 unfolding lookupBytes

@@ -13,7 +13,7 @@ use Rattle.lists.proofs.Lists.{each-map}
 use Rattle.lists.proofs.Tests.{split, or-false-right}
 use Rattle.records.specs.Table.{table, rowOf, FP, kinds}
 use Rattle.records.specs.Record.{mark, size, keyOf, widths}
-use Rattle.records.specs.Shapes.{shape, shapeOf, keyTest}
+use Rattle.records.specs.MarkShapes.{shape, shapeOf, keyTest}
 use Rattle.records.specs.declared.Answer.the-variants.{Accepted}
 use Rattle.records.specs.Dossier.{records, scan}
 use Rattle.station.specs.Current.{matches, better, currentFrom, current, startFrom, startOf}
@@ -24,12 +24,12 @@ use Rattle.records.proofs.Marks.{by-mark}
 use Rattle.index.proofs.Slots.{Spans, InKey, at-mark, in-key, key-test, test-key, slot-lt, early, slot-short, slot-narrow, in-empty}
 use Rattle.index.proofs.Holds.{Holds, absent, there, Good, good-records, index-holds}
 use Rattle.lookup.specs.declared.Part.{Part}
-use Rattle.lookup.specs.Parts.{part, bytesOf, currentPart, indexOf, placeAt, partAt, Indexed, Complete, UpTo, Covers}
+use Rattle.lookup.specs.Parts.{part, partBytes, currentPart, indexOf, placeAt, partAt, Indexed, Complete, UpTo, Covers}
 
 -- ---- a part within the dossier
 
-pub cut : (d : List ℕ) (p : Part) → take (p .start + p .length - p .start) (drop (p .start) d) ≡ bytesOf d p
-unfolding bytesOf
+pub cut : (d : List ℕ) (p : Part) → take (p .start + p .length - p .start) (drop (p .start) d) ≡ partBytes d p
+unfolding partBytes
 cut d p = ap (λ (n : ℕ). take n (drop (p .start) d)) (add-sub-cancel-left (p .start) (p .length))
 
 pub place-ends : (e : ℕ) (ix : List ℕ) (j n : ℕ) {p : Part} → p ≡ placeAt e ix j n → p .start + p .length ≤ e
@@ -44,7 +44,7 @@ place-ends e ix j n q = rw q (go (eqb (getD ix j 0) 0 || ltb e (getD ix j 0 - 1 
 
 -- an empty slot has no part
 pub part-none : (d ix : List ℕ) (j n : ℕ) → getD ix j 0 ≡ 0 → partAt d ix j n ≡ []
-unfolding partAt placeAt bytesOf
+unfolding partAt placeAt partBytes
 part-none d ix j n e = rw e refl
 
 module _ (len : ℕ) (d : List ℕ) (v : ℕ) (c : List ℕ) (q : ℕ) where
@@ -55,8 +55,8 @@ module _ (len : ℕ) (d : List ℕ) (v : ℕ) (c : List ℕ) (q : ℕ) where
       let m : v - 1 ≡ q = omega (arith, e) in
       rw (i, m, ne-eqb v 0 (λ z. omega (arith, e, z)), le-ltb (length d) (q + len) (omega (arith, w, l)), l) refl
 
-  held-bytes : Holds len d (length d) v c q → bytesOf d (part q (length c)) ≡ c
-  unfolding bytesOf
+  held-bytes : Holds len d (length d) v c q → partBytes d (part q (length c)) ≡ c
+  unfolding partBytes
   held-bytes (absent e z y) = rw z refl
   held-bytes (there e w l g) = g
 
@@ -81,7 +81,7 @@ module _ (d ix : List ℕ) (h : Indexed d ix) where
 
     pub part-current : {j len : ℕ} → j ≡ slot k n → len ≡ size k → partAt d ix j len ≡ current k n (records d)
     unfolding partAt currentPart
-    part-current a b = ap (bytesOf d) (place-current a b) ∙ held-bytes (size k) d (getD ix (slot k n) 0) (current k n (records d)) (startOf k n (records d)) holds
+    part-current a b = ap (partBytes d) (place-current a b) ∙ held-bytes (size k) d (getD ix (slot k n) 0) (current k n (records d)) (startOf k n (records d)) holds
 
     pub current-none : getD ix (slot k n) 0 ≡ 0 → current k n (records d) ≡ []
     current-none e = sym (part-current refl refl) ∙ part-none d ix (slot k n) (size k) e
@@ -160,12 +160,12 @@ module _ (d ix : List ℕ) (h : Indexed d ix) where
     at-key : keyTest k n ≡ true → Holds (size k) d (length d) (getD ix (slot k n) 0) (current k n (records d)) (startOf k n (records d))
     at-key t = let i = test-key k n b t in holds k n i (covered k n i c)
 
-    pub current-bytes : bytesOf d (currentPart k n (records d)) ≡ current k n (records d)
-    unfolding bytesOf currentPart
+    pub current-bytes : partBytes d (currentPart k n (records d)) ≡ current k n (records d)
+    unfolding partBytes currentPart
     current-bytes =
         split (keyTest k n)
         (λ t. held-bytes (size k) d (getD ix (slot k n) 0) (current k n (records d)) (startOf k n (records d)) (at-key t))
-        (λ f. ap (bytesOf d) (sym (no-key k n f)) ∙ no-bytes k n f)
+        (λ f. ap (partBytes d) (sym (no-key k n f)) ∙ no-bytes k n f)
 
     pub current-ends : {p : Part} → p ≡ currentPart k n (records d) → p .start + p .length ≤ length d
     unfolding currentPart

@@ -11,7 +11,7 @@ use Rattle.fields.specs.Numbers.{number}
 use Rattle.records.specs.declared.Answer.the-variants.{Accepted}
 use Rattle.records.specs.Table.{FU, AD, MM, CH, FP, LC, thermal, nuclear}
 use Rattle.records.specs.Record.{mark, keyOf}
-use Rattle.records.specs.Shapes.{begins}
+use Rattle.records.specs.MarkShapes.{begins}
 use Rattle.records.specs.Answers.{isAccepted}
 use Rattle.records.specs.Dossier.{records, scan}
 use Rattle.records.specs.Walk.{folded, walk}
@@ -27,8 +27,8 @@ abbrev pub part : ℕ → ℕ → Part
 part a n = record { start = a; length = n }
 
 -- the bytes of a part of a dossier
-unfoldable pub bytesOf : List ℕ → Part → List ℕ
-bytesOf d p = take (p .length) (drop (p .start) d)
+unfoldable pub partBytes : List ℕ → Part → List ℕ
+partBytes d p = take (p .length) (drop (p .start) d)
 
 -- the current record of a mark and key by where it starts and how long it is, 0 and 0 where there is none
 unfoldable pub currentPart : ℕ → ℕ → List (List ℕ) → Part
@@ -61,16 +61,16 @@ abbrev pub lean : List ℕ → Bool
 lean d = not (ltb 600 (length d)) && (begins d 82 83 && (eqb (number 6 1 d) thermal || eqb (number 6 1 d) nuclear) || plain d)
 
 -- where the record of a slot of value v stands in a dossier of e bytes, n being its length; nowhere if there is none
-abbrev pub placeOf : ℕ → ℕ → ℕ → Part
-placeOf e v n = cond (eqb v 0 || ltb e (v - 1 + n)) (part 0 0) (part (v - 1) n)
+abbrev pub placeIn : ℕ → ℕ → ℕ → Part
+placeIn e v n = cond (eqb v 0 || ltb e (v - 1 + n)) (part 0 0) (part (v - 1) n)
 
 -- the same of slot j
 unfoldable pub placeAt : ℕ → List ℕ → ℕ → ℕ → Part
-placeAt e ix j n = placeOf e (getD ix j 0) n
+placeAt e ix j n = placeIn e (getD ix j 0) n
 
 -- the part of the dossier where it stands
 unfoldable pub partAt : List ℕ → List ℕ → ℕ → ℕ → List ℕ
-partAt d ix j n = bytesOf d (placeAt (length d) ix j n)
+partAt d ix j n = partBytes d (placeAt (length d) ix j n)
 
 -- a dossier that draws none of 1 to 3 and 13, with its index
 pub record Indexed (d ix : List ℕ) : Type 0 where

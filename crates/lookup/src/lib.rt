@@ -12,7 +12,7 @@ ghost use Rattle.records.specs.Dossier.{records, scan};
 ghost use Rattle.station.specs.Current.{current, readable, lookupBytes};
 ghost use Rattle.index.specs.declared.Passed.the-variants.{Ended};
 ghost use Rattle.index.specs.Slots.{slot, narrow};
-ghost use Rattle.lookup.specs.Parts.{held, scanned, plain, lean, placeOf, placeAt, bytesOf, partAt, currentPart, lookupPart, Empty, Indexed, Complete, UpTo, Covers};
+ghost use Rattle.lookup.specs.Parts.{held, scanned, plain, lean, placeIn, placeAt, partBytes, partAt, currentPart, lookupPart, Empty, Indexed, Complete, UpTo, Covers};
 use index::Passed;
 use records::Answer;
 
@@ -99,7 +99,7 @@ pub fn open(d: &[u8], index: &mut [u16]) -> Answer
 // Where the record of a slot of value v stands in a dossier of `end` bytes, nowhere if there is none.
 fn place_in(end: usize, v: u16, len: usize) -> Part
     requires { ⌜ len < 65536 ⌝ }
-    ensures { λ r. ⌜ r ≡ placeOf end v len ⌝ }
+    ensures { λ r. ⌜ r ≡ placeIn end v len ⌝ }
 {
     let none = Part {
         start: 0,
@@ -126,7 +126,7 @@ fn place_at(end: usize, index: &[u16], j: usize, len: usize) -> Part
 // The bytes of a part.
 fn bytes_of(d: &[u8], part: Part) -> &[u8]
     requires { ⌜ part .start + part .length ≤ length (now d) ⌝ }
-    ensures { λ r. ⌜ now r ≡ bytesOf (now (d .entry)) part ⌝ }
+    ensures { λ r. ⌜ now r ≡ partBytes (now (d .entry)) part ⌝ }
 {
     let start = part.start;
     let end = start + part.length;

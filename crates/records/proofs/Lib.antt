@@ -5,6 +5,6 @@ pub mod Dossier
 pub mod Raise
 pub mod RaiseTest
 pub mod Walk
-pub mod Shapes
+pub mod MarkShapes
 pub mod Read
 pub mod Over

@@ -10,7 +10,7 @@ use borrow.Author.Tests.{eqb-true, eqb-false}
 use Rattle.lists.proofs.Tests.{split, cond-holds}
 use Rattle.records.specs.Table.{Row, noRow, table, rowOf, kinds}
 use Rattle.records.specs.Record.{markIn, mark, widths, size, keyIn, keyWidth}
-use Rattle.records.specs.Shapes.{shortest, begins}
+use Rattle.records.specs.MarkShapes.{shortest, begins}
 
 -- ---- one of the table's
 

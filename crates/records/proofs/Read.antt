@@ -17,7 +17,7 @@ use Rattle.records.specs.Record.{markIn, mark, size, offset, read, value
 use Rattle.records.specs.Dossier.{firstOf}
 use Rattle.records.specs.Walk.{found}
 use Rattle.records.proofs.Record.{mark-take, size-ge, within-record, agrees-alike}
-use Rattle.records.specs.Shapes.{begins}
+use Rattle.records.specs.MarkShapes.{begins}
 
 -- ---- a record cut from the rest says what the rest says
 

@@ -1,6 +1,6 @@
 pub mod Table
 pub mod Record
-pub mod Shapes
+pub mod MarkShapes
 pub mod Answers
 pub mod Dossier
 pub mod Raise

@@ -5,7 +5,7 @@ use mathlib.Core.List.{List, [], _∷_}
 use Prim.Native.Nat.{ℕ}
 use lib.ListN.{getD}
 
--- the part that a field plays: it belongs to the key, it is a money amount, or neither
+-- the part that a field plays: it belongs to the key, it is a money moneyTo, or neither
 pub data Role : Type 0 where
   key plain money : Role
 
@@ -50,13 +50,13 @@ allTechnologies = thermal ∷ nuclear ∷ storage ∷ hydro ∷ []
 -- ---- kinds of field
 
 -- a field with all that is said of it, in the order of `Field`
-abbrev pub entry : ℕ → ℕ → ℕ → Bool → Bool → Role → List ℕ → Bool → Field
-entry w lo hi zero? signed? part techs above? =
+abbrev pub fieldAs : ℕ → ℕ → ℕ → Bool → Bool → Role → List ℕ → Bool → Field
+fieldAs w lo hi zero? signed? part techs above? =
     record { width = w; lowest = lo; highest = hi; orZero = zero?; isSigned = signed?; role = part; usedBy = techs; positive = above? }
 
 -- of a width, from lowest to highest
 abbrev pub field : ℕ → ℕ → ℕ → Field
-field w lo hi = entry w lo hi false false plain allTechnologies false
+field w lo hi = fieldAs w lo hi false false plain allTechnologies false
 
 -- "to" a highest value: from 0
 abbrev pub upTo : ℕ → ℕ → Field
@@ -68,27 +68,27 @@ any4 = upTo 4 4294967295
 
 -- "0 or" lowest to highest
 abbrev pub zeroOr : ℕ → ℕ → ℕ → Field
-zeroOr w lo hi = entry w lo hi true false plain allTechnologies false
+zeroOr w lo hi = fieldAs w lo hi true false plain allTechnologies false
 
 -- a field of the key
 abbrev pub keyed : ℕ → ℕ → ℕ → Field
-keyed w lo hi = entry w lo hi false false key allTechnologies false
+keyed w lo hi = fieldAs w lo hi false false key allTechnologies false
 
--- a money amount, from 0
-abbrev pub amount : ℕ → ℕ → Field
-amount w hi = entry w 0 hi false false money allTechnologies false
+-- a money moneyTo, from 0
+abbrev pub moneyTo : ℕ → ℕ → Field
+moneyTo w hi = fieldAs w 0 hi false false money allTechnologies false
 
--- a price: "-200,000 to 200,000 cents per MWh"; it is a money amount
+-- a price: "-200,000 to 200,000 cents per MWh"; it is a money moneyTo
 abbrev pub price : Field
-price = entry 4 2147283648 2147683648 false true money allTechnologies false
+price = fieldAs 4 2147283648 2147683648 false true money allTechnologies false
 
 -- a field that these technologies use; of any other it is 0
 abbrev pub only : List ℕ → Field → Field
-only techs f = entry (f .width) (f .lowest) (f .highest) (f .orZero) (f .isSigned) (f .role) techs false
+only techs f = fieldAs (f .width) (f .lowest) (f .highest) (f .orZero) (f .isSigned) (f .role) techs false
 
 -- the same, and where it is used it is above 0
 abbrev pub needed : List ℕ → Field → Field
-needed techs f = entry (f .width) (f .lowest) (f .highest) (f .orZero) (f .isSigned) (f .role) techs true
+needed techs f = fieldAs (f .width) (f .lowest) (f .highest) (f .orZero) (f .isSigned) (f .role) techs true
 
 -- stands for a field that is not there
 abbrev pub noField : Field
@@ -133,8 +133,8 @@ abbrev pub fu : Row
 fu =
     row 70 85 allTechnologies
     (keyed 1 1 4  -- 0 profile
-    ∷ only (thermal ∷ nuclear ∷ storage ∷ []) (amount 4 400000000)  -- 1 fuel, micro-dollars per GJ, per kg of uranium or, for storage, per MWh charged
-    ∷ only (thermal ∷ []) (amount 4 400000000)  -- 2 emission, micro-dollars per GJ
+    ∷ only (thermal ∷ nuclear ∷ storage ∷ []) (moneyTo 4 400000000)  -- 1 fuel, micro-dollars per GJ, per kg of uranium or, for storage, per MWh charged
+    ∷ only (thermal ∷ []) (moneyTo 4 400000000)  -- 2 emission, micro-dollars per GJ
     ∷ [])
 
 -- AD, 17
@@ -144,7 +144,7 @@ ad =
     (keyed 1 1 4  -- 0 profile
     ∷ keyed 1 1 5  -- 1 cost: 1 scheduled, 2 unscheduled, 3 consumables and operating, 4 third-party, 5 prorated start-up
     ∷ keyed 1 1 4  -- 2 level: 1 energy, 2 start, 3 no-load, 4 reserve
-    ∷ amount 8 1000000000000  -- 3 amount, micro-dollars
+    ∷ moneyTo 8 1000000000000  -- 3 moneyTo, micro-dollars
     ∷ [])
 
 -- MM, 24
@@ -153,7 +153,7 @@ mm =
     row 77 77 allTechnologies
     (keyed 1 1 4  -- 0 profile
     ∷ keyed 1 1 8  -- 1 item
-    ∷ amount 8 100000000000  -- 2 cost C, cents
+    ∷ moneyTo 8 100000000000  -- 2 cost C, cents
     ∷ field 2 1 20000  -- 3 output W, 0.1 MW
     ∷ field 4 1 1000000  -- 4 interval T, hours
     ∷ only (thermal ∷ []) (upTo 2 10000)  -- 5 hours per start S, 0.1 h
@@ -209,7 +209,7 @@ fp =
 abbrev pub lc : Row
 lc =
     row 76 67 (storage ∷ [])
-    (amount 4 2000000000  -- 0 cost, micro-dollars per MWh
+    (moneyTo 4 2000000000  -- 0 cost, micro-dollars per MWh
     ∷ [])
 
 -- all of them

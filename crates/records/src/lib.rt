@@ -8,7 +8,7 @@ ghost use Rattle.lists.specs.Tests.{between};
 ghost use Rattle.fields.specs.Numbers.{number, biased};
 ghost use Rattle.records.specs.Table.{kinds};
 ghost use Rattle.records.specs.Record.{mark, size, rangesHold};
-ghost use Rattle.records.specs.Shapes.{begins, shapeOf, keyField, keyFits, keyTest};
+ghost use Rattle.records.specs.MarkShapes.{begins, shapeOf, keyField, keyFits, keyTest};
 
 // What the reader finds at the front of the rest of a dossier: a whole record, or the fault that it draws.
 pub enum Found {

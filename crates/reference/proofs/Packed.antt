@@ -24,7 +24,7 @@ use Rattle.reference.specs.declared.SingleLevels.{SingleLevels}
 use Rattle.lookup.specs.Parts.{Indexed, parametersHeld, amountsHeld}
 use Rattle.lookup.proofs.Held.{parameters-held, amounts-held}
 use Rattle.formulas.specs.Exact.{Sum, quotient, microDollars, cents}
-use Rattle.formulas.specs.Levels.{parametersIn, amountsIn, Line, amount, adders, startCost, noLoadCost, nuclearEnergy, storageEnergy, hydroEnergy, lamination, laminations, oneLamination, single, profile, linesOf, lines, levels, Shown, row, shown}
+use Rattle.formulas.specs.Levels.{parametersIn, amountsIn, Line, amount, adders, startCost, noLoadCost, nuclearEnergy, storageEnergy, hydroEnergy, lamination, laminations, oneLamination, single, profile, linesOf, lines, levels, Shown, shownAs, shown}
 use Rattle.reference.specs.Packed.{laminationsFrom, singleOf, unpacked, energyLines, amountOf, padded, hourLevels, singleLevels, hourOf, packed, noLevels, levelsAnswer}
 
 -- ---- an array filled from the front
@@ -177,7 +177,7 @@ module _ (s : Parameters) (m : Amounts) (p n : ℕ) (fits : n ≤ 20) where
       let x = at (λ l. l .from) i (omega arith) a in
       let y = at (λ l. l .to) i (omega arith) b in
       let z = at (λ l. amount l) i (omega arith) c in
-      ap₂ (λ (u : Shown) (l : List Shown). u ∷ l) (λ j. row energy (suc i) (x j) (y j) (z j)) (rw (add-one (suc i)) (rows r a b c (suc i) k (omega arith)))
+      ap₂ (λ (u : Shown) (l : List Shown). u ∷ l) (λ j. shownAs energy (suc i) (x j) (y j) (z j)) (rw (add-one (suc i)) (rows r a b c (suc i) k (omega arith)))
 
 shown-others : (s : Parameters) (m : Amounts) (p k n : ℕ) (l : List Line) → map shown (laminations s m p k n l) ≡ map shown (laminations s m p k n []) ++ map shown l
 unfolding laminations

@@ -12,13 +12,13 @@ use Rattle.reference.specs.declared.HourLevels.{HourLevels}
 use Rattle.reference.specs.declared.SingleLevels.{SingleLevels}
 use Rattle.reference.specs.declared.LevelsAnswer.{LevelsAnswer}
 use Rattle.formulas.specs.Exact.{Sum}
-use Rattle.formulas.specs.Levels.{parametersIn, profile, Line, amount, adders, startCost, noLoadCost, Shown, row, levels}
+use Rattle.formulas.specs.Levels.{parametersIn, profile, Line, amount, adders, startCost, noLoadCost, Shown, shownAs, levels}
 
 -- ---- from the arrays to lines
 
 -- the lamination at place i of the arrays, from 0
 abbrev pub laminationAt : HourLevels → ℕ → Shown
-laminationAt r i = row energy (suc i) (getD (r .from) i 0) (getD (r .to) i 0) (getD (r .cents) i 0)
+laminationAt r i = shownAs energy (suc i) (getD (r .from) i 0) (getD (r .to) i 0) (getD (r .cents) i 0)
 
 -- n laminations from place i on
 unfoldable pub laminationsFrom : HourLevels → ℕ → ℕ → List Shown
@@ -27,7 +27,7 @@ laminationsFrom r i (suc n) = laminationAt r i ∷ laminationsFrom r (suc i) n
 
 -- a level without laminations, where the technology holds it
 unfoldable pub singleOf : ℕ → ℕ → ℕ → List Shown
-singleOf t v x = cond (holds t v) (row v 0 0 0 x ∷ []) []
+singleOf t v x = cond (holds t v) (shownAs v 0 0 0 x ∷ []) []
 
 -- all lines that an answer shows
 unfoldable pub unpacked : HourLevels → List Shown

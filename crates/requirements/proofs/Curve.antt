@@ -17,7 +17,7 @@ use Rattle.fields.specs.Numbers.{number}
 use Rattle.fields.proofs.Numbers.{number-nil}
 use Rattle.records.specs.Table.{table, rowOf, fieldOf, RS, HP, FU, RQ, HR, FP}
 use Rattle.records.specs.Record.{value, inRange, agrees}
-use Rattle.records.specs.Shapes.{shape, shapeOf}
+use Rattle.records.specs.MarkShapes.{shape, shapeOf}
 use Rattle.records.specs.Dossier.{records}
 use Rattle.records.proofs.Dossier.{scan-each}
 use Rattle.station.specs.Current.{current, present}

@@ -14,7 +14,7 @@ use Rattle.fields.specs.Numbers.{number}
 use Rattle.records.specs.declared.Found.the-variants.{Record}
 use Rattle.records.specs.declared.Answer.the-variants.{Accepted, Refused}
 use Rattle.records.specs.Record.{mark, size, issue, fault}
-use Rattle.records.specs.Shapes.{shortest}
+use Rattle.records.specs.MarkShapes.{shortest}
 use Rattle.records.specs.Answers.{orElse, refuseIf}
 use Rattle.records.specs.Dossier.{firstOf, restOf, recordsIn, records, scan}
 use Rattle.records.specs.Walk.{found}

@@ -9,7 +9,7 @@ use lib.Dec.{ltb}
 use lib.ListN.{length, getD, set, length-set, replicate, length-replicate, getD-replicate, List·getD-eq-default}
 use lib.Seq.{getD-set-same, getD-set-other}
 use borrow.Author.Tests.{ltb-true, ltb-false}
-use Rattle.records.specs.Shapes.{shortest}
+use Rattle.records.specs.MarkShapes.{shortest}
 use Rattle.twins.specs.Tree.{halves, place, node, Open, Shape, Fresh}
 use Rattle.twins.proofs.Root.{root-lt}
 

@@ -5,7 +5,7 @@ use mathlib.Core.Bool.{Bool, true, false}
 use mathlib.Core.List.{List}
 use Prim.Native.Nat.{ℕ, zero, suc, _+_, _*_, _/_, _%_, _≤_, _<_}
 use lib.ListN.{length, getD, set, replicate}
-use Rattle.records.specs.Shapes.{shortest}
+use Rattle.records.specs.MarkShapes.{shortest}
 
 -- the upper and the lower half of an id, mixed
 abbrev pub mixed : ℕ → ℕ

@@ -7,10 +7,10 @@ ghost use lib.ListN.{length, take, drop, replicate};
 ghost use Rattle.lookup.specs.Parts.{Empty};
 ghost use Rattle.reference.specs.Packed.{hourOf, inArrays};
 ghost use Rattle.words.specs.Words.{heldBits, Blank, wordsTo, wordsOf, wordsAnswer, wordsAfter};
+use fit::level_held;
 use lists::choose;
 use records::Answer;
 use reference::SingleLevels;
-use fit::level_held;
 
 // The levels that a technology holds, a bit each.
 fn held_bits(technology: u8) -> u64

@@ -2,7 +2,7 @@ use mathlib.Core.Path.{ap, _∙_}
 use native.Mathlib.Omega.{arith}
 use Rattle.records.specs.Record.{size}
 use Rattle.records.proofs.Marks.{mark-lt}
-use Rattle.records.proofs.Shapes.{shape-size, shape-width}
+use Rattle.records.proofs.MarkShapes.{shape-size, shape-width}
 use Rattle.lookup.proofs.Lookup.{width-le}
 use Rattle.fit.proofs.Unfit.{fit-passes, slot-here, unfit-current}
 use borrow.Author.Needs.{needs}

@@ -3,7 +3,7 @@ use borrow.Author.Tests.{not-true}
 use mathlib.Core.Path.{_≡_, sym, _∙_}
 use Prim.Native.Nat.{_-_, _≤_}
 use native.Mathlib.Omega.{arith}
-use Rattle.limits.specs.Shapes.{firstFailing}
+use Rattle.limits.specs.Thresholds.{firstFailing}
 use Rattle.limits.proofs.Turns.{all-left}
 use Rattle.limits.proofs.Laminations.{least-passes, lamination-stop, lamination-next, lamination-end}
 use Rattle.limits.proofs.failing_lamination.Statement.{statement}

@@ -1,6 +1,6 @@
 use borrow.Author.Needs.{needs}
 use Rattle.verdicts.proofs.Limits.{below-zero, below-level, in-cents}
-use Rattle.limits.specs.Shapes.{failsAt}
+use Rattle.limits.specs.Thresholds.{failsAt}
 use Rattle.limits.proofs.fails.Statement.{statement}
 use Rattle.limits.proofs.fails.Tie as tie
 

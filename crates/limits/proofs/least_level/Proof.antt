@@ -4,7 +4,7 @@ use Prim.Native.Nat.{ℕ, _-_, _≤_, min}
 use native.Mathlib.Nat.{le-antisymm}
 use native.Mathlib.Omega.{arith}
 use lib.ListN.{getD}
-use Rattle.limits.specs.Shapes.{leastOf}
+use Rattle.limits.specs.Thresholds.{leastOf}
 use Rattle.limits.proofs.Laminations.{least-next}
 use Rattle.limits.proofs.least_level.Statement.{statement}
 use Rattle.limits.proofs.least_level.Tie as tie

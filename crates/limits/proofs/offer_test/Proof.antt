@@ -6,7 +6,7 @@ use lib.ListN.{length}
 use Rattle.reference.specs.declared.HourLevels.{HourLevels}
 use Rattle.reference.specs.Packed.{unpacked, inArrays}
 use Rattle.verdicts.specs.Test.{before}
-use Rattle.limits.specs.Shapes.{offerShown}
+use Rattle.limits.specs.Thresholds.{offerShown}
 use Rattle.limits.proofs.Turns.{all-left, before-next}
 use Rattle.limits.proofs.Laminations.{pair-stop, pair-next, pair-end}
 use Rattle.limits.proofs.offer_test.Statement.{statement}

@@ -6,7 +6,7 @@ use native.Mathlib.Omega.{arith}
 use lib.ListN.{length}
 use Rattle.reference.specs.Packed.{unpacked, inArrays}
 use Rattle.verdicts.specs.Test.{priceAt}
-use Rattle.limits.specs.Shapes.{failsAt, offerShown, leastOf}
+use Rattle.limits.specs.Thresholds.{failsAt, offerShown, leastOf}
 use Rattle.limits.proofs.Turns.{all-left}
 use Rattle.limits.proofs.Laminations.{pair-end, all-pass}
 use Rattle.limits.proofs.rising_offer_test.Statement.{statement}

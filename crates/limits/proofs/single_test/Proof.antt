@@ -1,6 +1,6 @@
 use borrow.Author.Needs.{needs}
 use mathlib.Core.Path.{refl, sym, _∙_}
-use Rattle.limits.specs.Shapes.{singleShown}
+use Rattle.limits.specs.Thresholds.{singleShown}
 use Rattle.limits.proofs.single_test.Statement.{statement}
 use Rattle.limits.proofs.single_test.Tie as tie
 

@@ -2,7 +2,7 @@ use mathlib.Core.Path.{refl, _∙_}
 use Prim.Native.Nat.{ℕ, _+_, _*_, _≤_}
 use Rattle.records.specs.Table.{table, rowOf}
 use Rattle.records.specs.Record.{widths, size}
-use Rattle.records.specs.Shapes.{shape, shapeOf}
+use Rattle.records.specs.MarkShapes.{shape, shapeOf}
 use Rattle.index.proofs.Slots.{InKey}
 use Rattle.lookup.proofs.Parts.{three-field, slot-fits}
 use Rattle.lookup.proofs.Held.{held-found}

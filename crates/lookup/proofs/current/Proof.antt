@@ -1,7 +1,7 @@
 use mathlib.Core.Path.{ap, sym, _∙_}
 use native.Mathlib.Omega.{arith}
 use Rattle.records.specs.Record.{keyWidth}
-use Rattle.records.proofs.Shapes.{shape-width}
+use Rattle.records.proofs.MarkShapes.{shape-width}
 use Rattle.records.proofs.Marks.{mark-lt}
 use Rattle.lookup.proofs.Lookup.{width-le, lookup-ends, looked, other-width}
 use borrow.Author.Needs.{needs}

@@ -1,5 +1,5 @@
 use mathlib.Core.Path.{ap, _∙_}
-use Rattle.lookup.specs.Parts.{bytesOf, partAt}
+use Rattle.lookup.specs.Parts.{partBytes, partAt}
 use Rattle.lookup.proofs.Parts.{place-ends}
 use borrow.Author.Needs.{needs}
 use Rattle.lookup.proofs.part_at.Statement.{statement}
@@ -13,7 +13,7 @@ bytes-of-requires c κs = place-ends _ _ _ _ (c .place-at .ensures)
 
 returns : tie.Need-returns
 unfolding partAt
-returns c = c .bytes-of .ensures ∙ ap (bytesOf _) (c .before .place-at .ensures)
+returns c = c .bytes-of .ensures ∙ ap (partBytes _) (c .before .place-at .ensures)
 
 pub part-at-spec : {M : Type 1} → statement M
 part-at-spec = tie.close (tie.spec place-at-requires bytes-of-requires returns)

@@ -1,6 +1,6 @@
 use mathlib.Core.Path.{sym, _∙_}
 use native.Mathlib.Omega.{arith}
-use Rattle.records.proofs.Shapes.{shape-size}
+use Rattle.records.proofs.MarkShapes.{shape-size}
 use Rattle.index.proofs.Slots.{test-key}
 use Rattle.lookup.proofs.Parts.{covered, place-current, no-key, key-small, size-small}
 use borrow.Author.Needs.{needs}

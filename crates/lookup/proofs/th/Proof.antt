@@ -3,7 +3,7 @@ use Prim.Native.Nat.{ℕ, _+_, _*_, _≤_}
 use lib.Dec.{lit≤, lit<}
 use Rattle.records.specs.Table.{table, rowOf}
 use Rattle.records.specs.Record.{widths, size}
-use Rattle.records.specs.Shapes.{shape, shapeOf}
+use Rattle.records.specs.MarkShapes.{shape, shapeOf}
 use Rattle.index.proofs.Slots.{InKey}
 use Rattle.lookup.proofs.Parts.{two-field, slot-fits, part-found}
 use borrow.Author.Needs.{needs}

@@ -1,5 +1,5 @@
 use Rattle.lists.specs.Tests.{between}
-use Rattle.records.specs.Shapes.{keyField}
+use Rattle.records.specs.MarkShapes.{keyField}
 use borrow.Author.Needs.{needs}
 use Rattle.records.proofs.in_field.Statement.{statement}
 use Rattle.records.proofs.in_field.Tie as tie

@@ -1,6 +1,6 @@
 use mathlib.Core.Path.{refl}
 use borrow.Author.Tests.{eq-eqb, ne-eqb}
-use Rattle.records.specs.Shapes.{keyFits}
+use Rattle.records.specs.MarkShapes.{keyFits}
 use borrow.Author.Needs.{needs}
 use Rattle.records.proofs.in_fields.Statement.{statement}
 use Rattle.records.proofs.in_fields.Tie as tie

@@ -1,5 +1,5 @@
 use mathlib.Core.Path.{refl}
-use Rattle.records.specs.Shapes.{keyTest}
+use Rattle.records.specs.MarkShapes.{keyTest}
 use borrow.Author.Needs.{needs}
 use Rattle.records.proofs.in_key.Statement.{statement}
 use Rattle.records.proofs.in_key.Tie as tie

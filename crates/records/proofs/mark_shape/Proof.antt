@@ -1,7 +1,7 @@
 use Rattle.records.specs.Table.{table}
 use Rattle.records.specs.Record.{widths, keyIn}
-use Rattle.records.specs.Shapes.{shape, shapes}
-use Rattle.records.proofs.Shapes.{shape-at}
+use Rattle.records.specs.MarkShapes.{shape, shapes}
+use Rattle.records.proofs.MarkShapes.{shape-at}
 use borrow.Author.Needs.{needs}
 use Rattle.records.proofs.mark_shape.Statement.{statement}
 use Rattle.records.proofs.mark_shape.Tie as tie

@@ -7,7 +7,7 @@ use Prim.Native.Nat.{ℕ, _≤_, _<_, _-_, _+_, _*_}
 use lib.ListN.{length, drop, take}
 use Rattle.records.specs.declared.Found.the-variants.{Record}
 use Rattle.records.specs.Record.{mark}
-use Rattle.records.specs.Shapes.{shortest}
+use Rattle.records.specs.MarkShapes.{shortest}
 use Rattle.records.specs.Walk.{found}
 use Rattle.index.specs.Slots.{slotAt, wide}
 use Rattle.index.proofs.Turn.{bounds, below, long}

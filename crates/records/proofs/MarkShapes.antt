@@ -7,7 +7,7 @@ use lib.ListN.{length, getD}
 use Rattle.records.specs.declared.MarkShape.{MarkShape}
 use Rattle.records.specs.Table.{table, noRow, rowOf, kinds}
 use Rattle.records.specs.Record.{size, keyWidth}
-use Rattle.records.specs.Shapes.{shape, shapes, shapeOf}
+use Rattle.records.specs.MarkShapes.{shape, shapes, shapeOf}
 
 getD-map : {A B : Type 0} (f : A → B) (l : List A) (x : A) (y : B) (k : ℕ) → k < length l → getD (map f l) k y ≡ f (getD l k x)
 getD-map f [] x y k h = absurd (omega arith)
