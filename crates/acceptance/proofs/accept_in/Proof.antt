@@ -8,12 +8,6 @@ use Rattle.rules.proofs.Draws.{unreadable}
 use Rattle.acceptance.proofs.accept_in.Statement.{statement}
 use Rattle.acceptance.proofs.accept_in.Tie as tie
 
-scan-requires : tie.Need-scan-requires
-scan-requires c κs = search needs
-
-enum-known-rising : tie.Need-enum-known-rising
-enum-known-rising c = search needs
-
 indexed-answer-requires : tie.Need-indexed-answer-requires
 indexed-answer-requires c κs =
     let g = c .before .before .before .rising .given .1 in
@@ -27,23 +21,11 @@ judge-again-requires c κs =
     let i = c .before .before .before .before .before .before .scan .ensures .1 _ _ (c .before .before .rising .given .1) in
     (i .0 .clean, i .1)
 
-enum-known-number : tie.Need-enum-known-number
-enum-known-number c = search needs
-
-same-length : tie.Need-same-length
-same-length c = search needs
-
 returns : tie.Need-returns
 returns c = c .indexed-answer .ensures
 
-same-length-2 : tie.Need-same-length-2
-same-length-2 c = search needs
-
 returns-2 : tie.Need-returns-2
 returns-2 c = c .judge-again .ensures
-
-same-length-3 : tie.Need-same-length-3
-same-length-3 c = search needs
 
 returns-3 : tie.Need-returns-3
 returns-3 c = unreadable _ _ _ (scan-stopped _ _ (sym (c .before .number .given .1) ∙ c .before .before .before .before .before .scan .ensures .0))
@@ -52,14 +34,14 @@ pub accept-in-spec : {M : Type 1} → statement M
 accept-in-spec =
     tie.close
     (tie.spec
-    scan-requires
-    enum-known-rising
+    (λ c κs. search needs)
+    (λ c. search needs)
     indexed-answer-requires
     judge-again-requires
-    enum-known-number
-    same-length
+    (λ c. search needs)
+    (λ c. search needs)
     returns
-    same-length-2
+    (λ c. search needs)
     returns-2
-    same-length-3
+    (λ c. search needs)
     returns-3)

@@ -6,9 +6,6 @@ use borrow.Author.Needs.{needs}
 use Rattle.acceptance.proofs.answer_in.Statement.{statement}
 use Rattle.acceptance.proofs.answer_in.Tie as tie
 
-open-requires : tie.Need-open-requires
-open-requires c κs = search needs
-
 enum-told : tie.Need-enum-told
 enum-told c = search needs
 
@@ -20,18 +17,6 @@ beyond-reading-requires c κs =
     let p = c .before .before .before .before .before .before .before .before .before .pre in
     (i, up-to-complete i (p .1) (omega (arith, p .2, o .kept)), p .1, sym (o .ensures .0) ∙ a)
 
-enum-known-number : tie.Need-enum-known-number
-enum-known-number c = search needs
-
-same-length : tie.Need-same-length
-same-length c = search needs
-
-returns : tie.Need-returns
-returns c = search needs
-
-same-length-2 : tie.Need-same-length-2
-same-length-2 c = search needs
-
 returns-2 : tie.Need-returns-2
 returns-2 c = unreadable _ _ _ (sym (c .before .number .given .1) ∙ c .before .before .before .before .before .«open» .ensures .0)
 
@@ -39,11 +24,11 @@ pub answer-in-spec : {M : Type 1} → statement M
 answer-in-spec =
     tie.close
     (tie.spec
-    open-requires
+    (λ c κs. search needs)
     enum-told
     beyond-reading-requires
-    enum-known-number
-    same-length
-    returns
-    same-length-2
+    (λ c. search needs)
+    (λ c. search needs)
+    (λ c. search needs)
+    (λ c. search needs)
     returns-2)

@@ -11,14 +11,8 @@ use borrow.Author.Needs.{needs}
 use Rattle.acceptance.proofs.beyond_reading.Statement.{statement}
 use Rattle.acceptance.proofs.beyond_reading.Tie as tie
 
-rs-requires : tie.Need-rs-requires
-rs-requires c κs = search needs
-
 returns : tie.Need-returns
 returns c = no-station (c .before .before .before .before .args .d .now) (c .before .before .before .before .pre .3) (none-there (records (c .before .before .before .before .args .d .now)) RS 0 (c .before .rs .ensures) (c .if1 .taken))
-
-u8-at-requires : tie.Need-u8-at-requires
-u8-at-requires c κs = search needs
 
 unfit-of-requires : tie.Need-unfit-of-requires
 unfit-of-requires c κs = (c .before .before .before .before .before .pre .0, c .before .before .before .before .before .pre .1, c .before .before .before .before .before .pre .3, subst Known (sym (c .u8-at .ensures ∙ ap (number 6 1) (c .before .before .rs .ensures) ∙ sym (technology-at (records (c .before .before .before .before .before .args .d .now))))) (technology-known _ _ (c .before .before .before .before .before .pre .0) (one-there (records (c .before .before .before .before .before .args .d .now)) RS 0 (c .before .before .rs .ensures) (c .before .if1 .left))), (c .u8-at .ensures ∙ ap (number 6 1) (c .before .before .rs .ensures) ∙ sym (technology-at (records (c .before .before .before .before .before .args .d .now)))), c .before .before .rs .ensures, c .before .before .before .before .before .pre .2)
@@ -28,9 +22,6 @@ enum-told c = search needs
 
 unsupported-of-requires : tie.Need-unsupported-of-requires
 unsupported-of-requires c κs = (c .before .before .before .before .before .before .before .before .pre .0, c .before .before .before .before .before .before .before .before .pre .1)
-
-enum-known-number : tie.Need-enum-known-number
-enum-known-number c = search needs
 
 returns-2 : tie.Need-returns-2
 returns-2 c = the-rest (c .before .before .before .before .before .before .before .before .before .args .d .now) (c .before .before .before .before .before .before .before .before .before .pre .3) (one-there (records (c .before .before .before .before .before .before .before .before .before .args .d .now)) RS 0 (c .before .before .before .before .before .before .rs .ensures) (c .before .before .before .before .before .if1 .left)) (sym (c .before .enum-told .given .1) ∙ c .before .before .before .unfit-of .ensures ∙ ap (λ (t : ℕ). unfit t (records (c .before .before .before .before .before .before .before .before .before .args .d .now))) (c .before .before .before .before .u8-at .ensures ∙ ap (number 6 1) (c .before .before .before .before .before .before .rs .ensures) ∙ sym (technology-at (records (c .before .before .before .before .before .before .before .before .before .args .d .now))))) (c .unsupported-of .ensures)
@@ -42,12 +33,12 @@ pub beyond-reading-spec : {M : Type 1} → statement M
 beyond-reading-spec =
     tie.close
     (tie.spec
-    rs-requires
+    (λ c κs. search needs)
     returns
-    u8-at-requires
+    (λ c κs. search needs)
     unfit-of-requires
     enum-told
     unsupported-of-requires
-    enum-known-number
+    (λ c. search needs)
     returns-2
     returns-3)

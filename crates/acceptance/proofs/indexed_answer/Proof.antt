@@ -8,12 +8,6 @@ use Rattle.acceptance.proofs.indexed_answer.Tie as tie
 beyond-reading-requires : tie.Need-beyond-reading-requires
 beyond-reading-requires c κs = let p = c .before .before .before .pre in (p .0, p .1, p .2, p .3 (c .if1 .taken))
 
-returns : tie.Need-returns
-returns c = search needs
-
-first-twin-requires : tie.Need-first-twin-requires
-first-twin-requires c κs = search needs
-
 enum-told : tie.Need-enum-told
 enum-told c = search needs
 
@@ -21,12 +15,6 @@ beyond-reading-requires-2 : tie.Need-beyond-reading-requires-2
 beyond-reading-requires-2 c κs =
     let p = c .before .before .before .before .before .before .pre in
     (p .0, p .1, p .2, scan-twins _ (p .0) ∙ sym (c .before .before .first-twin .ensures) ∙ c .enum-told .given .1)
-
-enum-known-number : tie.Need-enum-known-number
-enum-known-number c = search needs
-
-returns-2 : tie.Need-returns-2
-returns-2 c = search needs
 
 returns-3 : tie.Need-returns-3
 returns-3 c = unreadable _ _ _ (sym (c .before .number .given .1) ∙ c .before .before .before .first-twin .ensures ∙ sym (scan-twins _ (c .before .before .before .before .before .before .before .pre .0)))
@@ -36,10 +24,10 @@ indexed-answer-spec =
     tie.close
     (tie.spec
     beyond-reading-requires
-    returns
-    first-twin-requires
+    (λ c. search needs)
+    (λ c κs. search needs)
     enum-told
     beyond-reading-requires-2
-    enum-known-number
-    returns-2
+    (λ c. search needs)
+    (λ c. search needs)
     returns-3)

@@ -13,14 +13,8 @@ mul-share c = omega (arith, mul-le-mul (c .pre .0) (c .pre .1))
 mul-share-2 : tie.Need-mul-share-2
 mul-share-2 c = omega (arith, mul-le-mul (mul-le-mul (c .pre .0) (c .pre .1)) (c .pre .3))
 
-share-requires : tie.Need-share-requires
-share-requires c κs = search needs
-
 mul-share-3 : tie.Need-mul-share-3
 mul-share-3 c = omega (arith, mul-le-mul (c .before .pre .0) (c .before .pre .2))
-
-share-requires-2 : tie.Need-share-requires-2
-share-requires-2 c κs = search needs
 
 -- both terms together
 within : (c : tie.After-share2) → c .before .share .result + c .share2 .result ≤ 24000000000000
@@ -42,4 +36,4 @@ returns c = (ap₂ (λ (x y : ℕ). x + y) (c .before .share .ensures .0) (c .sh
 
 pub heat-cost-spec : {M : Type 1} → statement M
 heat-cost-spec =
-    tie.close (tie.spec mul-share mul-share-2 share-requires mul-share-3 share-requires-2 add-result returns)
+    tie.close (tie.spec mul-share mul-share-2 (λ c κs. search needs) mul-share-3 (λ c κs. search needs) add-result returns)

@@ -12,20 +12,8 @@ mul-share c = omega (arith, mul-le-mul (c .pre .0) (c .pre .2))
 mul-share-2 : tie.Need-mul-share-2
 mul-share-2 c = omega (arith, mul-le-mul (mul-le-mul (c .pre .0) (c .pre .2)) (c .pre .4))
 
-mul-share-3 : tie.Need-mul-share-3
-mul-share-3 c = search needs
-
-share-requires : tie.Need-share-requires
-share-requires c κs = search needs
-
 mul-share-4 : tie.Need-mul-share-4
 mul-share-4 c = omega (arith, mul-le-mul (c .before .pre .0) (c .before .pre .3))
-
-mul-share-5 : tie.Need-mul-share-5
-mul-share-5 c = search needs
-
-share-requires-2 : tie.Need-share-requires-2
-share-requires-2 c κs = search needs
 
 add-result : tie.Need-add-result
 add-result c =
@@ -45,10 +33,10 @@ rise-cost-spec =
     (tie.spec
     mul-share
     mul-share-2
-    mul-share-3
-    share-requires
+    (λ c. search needs)
+    (λ c κs. search needs)
     mul-share-4
-    mul-share-5
-    share-requires-2
+    (λ c. search needs)
+    (λ c κs. search needs)
     add-result
     returns)

@@ -11,12 +11,6 @@ use Rattle.arithmetic.proofs.share.Tie as tie
 returns : tie.Need-returns
 returns c = (rw (c .if1 .taken) (sym (quotient-none _)), omega arith)
 
-div-whole : tie.Need-div-whole
-div-whole c = search needs
-
-rem-left : tie.Need-rem-left
-rem-left c = search needs
-
 some : (c : tie.Else1) → 0 < c .before .args .by
 some c = pos-of-ne-zero (c .if1 .left)
 
@@ -38,4 +32,4 @@ returns-3 c =
     (e, omega (arith, e, quotient-self (c .before .before .args .n) (c .before .before .args .by)))
 
 pub share-spec : {M : Type 1} → statement M
-share-spec = tie.close (tie.spec returns div-whole rem-left sub-if2 add-result returns-2 returns-3)
+share-spec = tie.close (tie.spec returns (λ c. search needs) (λ c. search needs) sub-if2 add-result returns-2 returns-3)

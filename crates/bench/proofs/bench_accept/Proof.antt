@@ -4,20 +4,8 @@ use borrow.Author.Needs.{needs}
 use Rattle.bench.proofs.bench_accept.Statement.{statement}
 use Rattle.bench.proofs.bench_accept.Tie as tie
 
-accept-requires : tie.Need-accept-requires
-accept-requires c κs = search needs
-
 enum-told : tie.Need-enum-told
 enum-told c = search needs
-
-enum-known-number : tie.Need-enum-known-number
-enum-known-number c = search needs
-
-cast-code : tie.Need-cast-code
-cast-code c = search needs
-
-code-requires : tie.Need-code-requires
-code-requires c κs = search needs
 
 returns : tie.Need-returns
 returns c = accepted-code (sym (c .before .before .accept .ensures) ∙ c .enum-told .given .1)
@@ -29,10 +17,10 @@ pub bench-accept-spec : {M : Type 1} → statement M
 bench-accept-spec =
     tie.close
     (tie.spec
-    accept-requires
+    (λ c κs. search needs)
     enum-told
-    enum-known-number
-    cast-code
-    code-requires
+    (λ c. search needs)
+    (λ c. search needs)
+    (λ c κs. search needs)
     returns
     returns-2)

@@ -6,26 +6,8 @@ use borrow.Author.Needs.{needs}
 use Rattle.bench.proofs.bench_price_test.Statement.{statement}
 use Rattle.bench.proofs.bench_price_test.Tie as tie
 
-price-test-requires : tie.Need-price-test-requires
-price-test-requires c κs = search needs
-
 enum-told : tie.Need-enum-told
 enum-told c = search needs
-
-enum-known-pair : tie.Need-enum-known-pair
-enum-known-pair c = search needs
-
-code-requires : tie.Need-code-requires
-code-requires c κs = search needs
-
-enum-known-number : tie.Need-enum-known-number
-enum-known-number c = search needs
-
-cast-code : tie.Need-cast-code
-cast-code c = search needs
-
-code-requires-2 : tie.Need-code-requires-2
-code-requires-2 c κs = search needs
 
 returns : tie.Need-returns
 returns c = passes-code (sym (c .before .before .price-test .ensures ∙ ap (onPrice _ _ _ _) (toZ-ofZ (c .before .before .before .before .fits .price))) ∙ c .enum-told .given .1)
@@ -40,13 +22,13 @@ pub bench-price-test-spec : {M : Type 1} → statement M
 bench-price-test-spec =
     tie.close
     (tie.spec
-    price-test-requires
+    (λ c κs. search needs)
     enum-told
-    enum-known-pair
-    code-requires
-    enum-known-number
-    cast-code
-    code-requires-2
+    (λ c. search needs)
+    (λ c κs. search needs)
+    (λ c. search needs)
+    (λ c. search needs)
+    (λ c κs. search needs)
     returns
     returns-2
     returns-3)

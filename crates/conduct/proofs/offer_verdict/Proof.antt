@@ -17,26 +17,8 @@ use Rattle.conduct.proofs.offer_verdict.Tie as tie
 no-refusal : (c : tie.After-enum-told) → offerRefusal (parameters (records (c .before .before .before .before .before .before .args .d .now))) (c .before .before .before .before .before .before .args .condition) (c .before .before .before .before .before .before .args .offer .now) ≡ Accepted
 no-refusal c = sym (c .before .before .offer-refusal .ensures) ∙ c .enum-told .given .1
 
-offer-refusal-requires : tie.Need-offer-refusal-requires
-offer-refusal-requires c κs = search needs
-
-enum-known-number : tie.Need-enum-known-number
-enum-known-number c = search needs
-
 enum-told : tie.Need-enum-told
 enum-told c = search needs
-
-slice-aggregate-hour-levels : tie.Need-slice-aggregate-hour-levels
-slice-aggregate-hour-levels c = search needs
-
-slice-aggregate-hour-levels-2 : tie.Need-slice-aggregate-hour-levels-2
-slice-aggregate-hour-levels-2 c = search needs
-
-slice-aggregate-hour-levels-3 : tie.Need-slice-aggregate-hour-levels-3
-slice-aggregate-hour-levels-3 c = search needs
-
-hour-levels-requires : tie.Need-hour-levels-requires
-hour-levels-requires c κs = search needs
 
 threshold-of-requires : tie.Need-threshold-of-requires
 threshold-of-requires c κs =
@@ -65,13 +47,13 @@ pub offer-verdict-spec : {M : Type 1} → statement M
 offer-verdict-spec =
     tie.close
     (tie.spec
-    offer-refusal-requires
-    enum-known-number
+    (λ c κs. search needs)
+    (λ c. search needs)
     enum-told
-    slice-aggregate-hour-levels
-    slice-aggregate-hour-levels-2
-    slice-aggregate-hour-levels-3
-    hour-levels-requires
+    (λ c. search needs)
+    (λ c. search needs)
+    (λ c. search needs)
+    (λ c κs. search needs)
     threshold-of-requires
     rising-offer-test-requires
     returns

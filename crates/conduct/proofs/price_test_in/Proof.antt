@@ -7,17 +7,8 @@ use borrow.Author.Needs.{needs}
 use Rattle.conduct.proofs.price_test_in.Statement.{statement}
 use Rattle.conduct.proofs.price_test_in.Tie as tie
 
-judge-requires : tie.Need-judge-requires
-judge-requires c κs = search needs
-
-enum-known-number : tie.Need-enum-known-number
-enum-known-number c = search needs
-
 enum-told : tie.Need-enum-told
 enum-told c = search needs
-
-biased-requires : tie.Need-biased-requires
-biased-requires c κs = search needs
 
 price-verdict-requires : tie.Need-price-verdict-requires
 price-verdict-requires c κs =
@@ -25,15 +16,9 @@ price-verdict-requires c κs =
     let j = c .before .before .before .before .before .before .judge .ensures in
     (j .1 e, record { clean = sym (j .0) ∙ e }, c .biased .ensures .1)
 
-same-length : tie.Need-same-length
-same-length c = search needs
-
 returns : tie.Need-returns
 unfolding onPrice
 returns c = settle-refused _ (sym (c .before .before .before .before .before .judge .ensures .0) ∙ c .before .number .given .1)
-
-same-length-2 : tie.Need-same-length-2
-same-length-2 c = search needs
 
 returns-2 : tie.Need-returns-2
 unfolding onPrice
@@ -43,12 +28,12 @@ pub price-test-in-spec : {M : Type 1} → statement M
 price-test-in-spec =
     tie.close
     (tie.spec
-    judge-requires
-    enum-known-number
+    (λ c κs. search needs)
+    (λ c. search needs)
     enum-told
-    biased-requires
+    (λ c κs. search needs)
     price-verdict-requires
-    same-length
+    (λ c. search needs)
     returns
-    same-length-2
+    (λ c. search needs)
     returns-2)

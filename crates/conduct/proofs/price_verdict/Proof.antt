@@ -14,12 +14,6 @@ use Rattle.conduct.proofs.price_verdict.Tie as tie
 no-refusal : (c : tie.After-enum-told) → priceRefusal (parameters (records (c .before .before .before .before .before .args .d .now))) (c .before .before .before .before .before .args .level) (c .before .before .before .before .before .args .condition) ≡ Accepted
 no-refusal c = sym (c .before .before .price-refusal .ensures) ∙ c .enum-told .given .1
 
-price-refusal-requires : tie.Need-price-refusal-requires
-price-refusal-requires c κs = search needs
-
-enum-known-number : tie.Need-enum-known-number
-enum-known-number c = search needs
-
 enum-told : tie.Need-enum-told
 enum-told c = search needs
 
@@ -32,9 +26,6 @@ threshold-of-requires : tie.Need-threshold-of-requires
 threshold-of-requires c κs =
     let q = price-accepted _ _ _ (no-refusal (c .before)) in
     (c .before .before .before .before .before .before .pre .0, q .3, q .4, omega (arith, q .1), q .2)
-
-single-test-requires : tie.Need-single-test-requires
-single-test-requires c κs = search needs
 
 returns : tie.Need-returns
 returns c =
@@ -51,11 +42,11 @@ pub price-verdict-spec : {M : Type 1} → statement M
 price-verdict-spec =
     tie.close
     (tie.spec
-    price-refusal-requires
-    enum-known-number
+    (λ c κs. search needs)
+    (λ c. search needs)
     enum-told
     single-level-requires
     threshold-of-requires
-    single-test-requires
+    (λ c κs. search needs)
     returns
     returns-2)

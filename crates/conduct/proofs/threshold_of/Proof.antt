@@ -11,18 +11,6 @@ use Rattle.conduct.proofs.threshold_of.Tie as tie
 threshold-is : {p m f q n g : ℕ} → p ≡ q → m ≡ n → f ≡ g → _≡_ {A = Threshold} (record { percent = p; margin = m; floor = f }) (record { percent = q; margin = n; floor = g })
 threshold-is x y z = rw (x, y, z) refl
 
-th-requires : tie.Need-th-requires
-th-requires c κs = search needs
-
-u16-at-requires : tie.Need-u16-at-requires
-u16-at-requires c κs = search needs
-
-u32-at-requires : tie.Need-u32-at-requires
-u32-at-requires c κs = search needs
-
-u32-at-requires-2 : tie.Need-u32-at-requires-2
-u32-at-requires-2 c κs = search needs
-
 returns : tie.Need-returns
 returns c =
     let a = c .before .before .before .before .before .before .args in
@@ -34,4 +22,4 @@ returns c =
 
 pub threshold-of-spec : {M : Type 1} → statement M
 threshold-of-spec =
-    tie.close (tie.spec th-requires u16-at-requires u32-at-requires u32-at-requires-2 returns)
+    tie.close (tie.spec (λ c κs. search needs) (λ c κs. search needs) (λ c κs. search needs) (λ c κs. search needs) returns)

@@ -8,33 +8,6 @@ use Rattle.fit.proofs.all_fit.Tie as tie
 returns : tie.Need-returns
 returns c = let a = c .before .before .before .before .args in other-wide (a .t) (a .d .now) (a .index .now) (a .rs .now) (a .top) (c .if1 .taken)
 
-station-fits-requires : tie.Need-station-fits-requires
-station-fits-requires c κs = search needs
-
-points-fit-requires : tie.Need-points-fit-requires
-points-fit-requires c κs = search needs
-
-profiles-fit-requires : tie.Need-profiles-fit-requires
-profiles-fit-requires c κs = search needs
-
-level-fits-requires : tie.Need-level-fits-requires
-level-fits-requires c κs = search needs
-
-level-fits-requires-2 : tie.Need-level-fits-requires-2
-level-fits-requires-2 c κs = search needs
-
-level-fits-requires-3 : tie.Need-level-fits-requires-3
-level-fits-requires-3 c κs = search needs
-
-level-fits-requires-4 : tie.Need-level-fits-requires-4
-level-fits-requires-4 c κs = search needs
-
-prorated-fit-requires : tie.Need-prorated-fit-requires
-prorated-fit-requires c κs = search needs
-
-priced-fit-requires : tie.Need-priced-fit-requires
-priced-fit-requires c κs = search needs
-
 returns-2 : tie.Need-returns-2
 unfolding allTo
 returns-2 c =
@@ -47,13 +20,13 @@ all-fit-spec =
     tie.close
     (tie.spec
     returns
-    station-fits-requires
-    points-fit-requires
-    profiles-fit-requires
-    level-fits-requires
-    level-fits-requires-2
-    level-fits-requires-3
-    level-fits-requires-4
-    prorated-fit-requires
-    priced-fit-requires
+    (λ c κs. search needs)
+    (λ c κs. search needs)
+    (λ c κs. search needs)
+    (λ c κs. search needs)
+    (λ c κs. search needs)
+    (λ c κs. search needs)
+    (λ c κs. search needs)
+    (λ c κs. search needs)
+    (λ c κs. search needs)
     returns-2)

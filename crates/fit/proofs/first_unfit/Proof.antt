@@ -17,15 +17,6 @@ abbrev μ-loop : tie.MeasureT-loop
 loop-holds : tie.Need-loop-holds Inv-loop μ-loop
 loop-holds c = (omega arith, begin (c .before .before .args .t) (c .before .before .args .d .now) (c .before .before .args .index .now) (c .before .before .pre .0) (c .before .before .pre .1))
 
-sub-rest : tie.Need-sub-rest Inv-loop μ-loop
-sub-rest c = search needs
-
-part-rest-start : tie.Need-part-rest-start Inv-loop μ-loop
-part-rest-start c = search needs
-
-part-rest-end : tie.Need-part-rest-end Inv-loop μ-loop
-part-rest-end c = search needs
-
 tried-at-requires : tie.Need-tried-at-requires Inv-loop μ-loop
 tried-at-requires c κs = c .before .before .before .before .before .pre .2
 
@@ -54,9 +45,9 @@ first-unfit-spec =
     Inv-loop
     μ-loop
     loop-holds
-    sub-rest
-    part-rest-start
-    part-rest-end
+    (λ c. search needs)
+    (λ c. search needs)
+    (λ c. search needs)
     tried-at-requires
     not-fit-requires
     returns

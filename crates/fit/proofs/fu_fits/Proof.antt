@@ -3,14 +3,8 @@ use borrow.Author.Needs.{needs}
 use Rattle.fit.proofs.fu_fits.Statement.{statement}
 use Rattle.fit.proofs.fu_fits.Tie as tie
 
-u32-at-requires : tie.Need-u32-at-requires
-u32-at-requires c κs = search needs
-
-u32-at-requires-2 : tie.Need-u32-at-requires-2
-u32-at-requires-2 c κs = search needs
-
 returns : tie.Need-returns
 returns c = simp (c .u32-at2 .ensures, c .before .u32-at .ensures) (fits-fu _ _ (c .before .before .before .pre))
 
 pub fu-fits-spec : {M : Type 1} → statement M
-fu-fits-spec = tie.close (tie.spec u32-at-requires u32-at-requires-2 returns)
+fu-fits-spec = tie.close (tie.spec (λ c κs. search needs) (λ c κs. search needs) returns)

@@ -20,9 +20,6 @@ Inv-loop d index t p ok₀ j₀ ok j = (j ≤ 8) × (ok ≡ allTo j (λ i. fits 
 abbrev μ-loop : tie.MeasureT-loop
 μ-loop d index t p ok₀ j₀ ok j = 8 - j
 
-slot-mm-requires : tie.Need-slot-mm-requires Inv-loop μ-loop
-slot-mm-requires c κs = search needs
-
 slots-empty-requires : tie.Need-slots-empty-requires Inv-loop μ-loop
 unfolding slot
 slots-empty-requires c κs = let q = c .before .before .before .pre in omega (arith, c .slot-mm .ensures, q .0 .roomy, q .2, q .3)
@@ -36,20 +33,11 @@ returns c =
 loop-holds : tie.Need-loop-holds Inv-loop μ-loop
 loop-holds c = (omega arith, unfold allTo in refl)
 
-add-mm : tie.Need-add-mm Inv-loop μ-loop
-add-mm c = omega arith
-
 mm-requires : tie.Need-mm-requires Inv-loop μ-loop
 mm-requires c κs = let q = c .before .before .before .before .before .before .before .pre in (q .0, q .2, q .3, omega arith, omega arith)
 
 mm-fits-requires : tie.Need-mm-fits-requires Inv-loop μ-loop
 mm-fits-requires c κs = c .before .before .before .before .before .before .before .before .pre .1
-
-add-j : tie.Need-add-j Inv-loop μ-loop
-add-j c = omega arith
-
-loop-less : tie.Need-loop-less Inv-loop μ-loop
-loop-less c = omega arith
 
 loop-again : tie.Need-loop-again Inv-loop μ-loop
 loop-again c =
@@ -70,14 +58,14 @@ items-fit-spec =
     (tie.spec
     Inv-loop
     μ-loop
-    slot-mm-requires
+    (λ c κs. search needs)
     slots-empty-requires
     returns
     loop-holds
-    add-mm
+    (λ c. omega arith)
     mm-requires
     mm-fits-requires
-    add-j
-    loop-less
+    (λ c. omega arith)
+    (λ c. omega arith)
     loop-again
     returns-2)

@@ -4,24 +4,9 @@ use borrow.Author.Needs.{needs}
 use Rattle.fit.proofs.level_fits.Statement.{statement}
 use Rattle.fit.proofs.level_fits.Tie as tie
 
-level-held-requires : tie.Need-level-held-requires
-level-held-requires c κs = search needs
-
 returns : tie.Need-returns
 unfolding levelFits
 returns c = rw (sym (c .before .level-held .ensures) ∙ c .if1 .taken) refl
-
-add-fourths-empty : tie.Need-add-fourths-empty
-add-fourths-empty c = search needs
-
-fourths-empty-requires : tie.Need-fourths-empty-requires
-fourths-empty-requires c κs = search needs
-
-add-fourths-empty-2 : tie.Need-add-fourths-empty-2
-add-fourths-empty-2 c = search needs
-
-fourths-empty-requires-2 : tie.Need-fourths-empty-requires-2
-fourths-empty-requires-2 c κs = search needs
 
 returns-2 : tie.Need-returns-2
 unfolding levelFits
@@ -31,10 +16,10 @@ pub level-fits-spec : {M : Type 1} → statement M
 level-fits-spec =
     tie.close
     (tie.spec
-    level-held-requires
+    (λ c κs. search needs)
     returns
-    add-fourths-empty
-    fourths-empty-requires
-    add-fourths-empty-2
-    fourths-empty-requires-2
+    (λ c. search needs)
+    (λ c κs. search needs)
+    (λ c. search needs)
+    (λ c κs. search needs)
     returns-2)

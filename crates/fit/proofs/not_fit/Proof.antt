@@ -12,9 +12,6 @@ use Rattle.fit.proofs.not_fit.Tie as tie
 returns : tie.Need-returns
 returns c = let a = c .before .before .before .before .args in fit-passes (a .d .now) (a .index .now) (a .s .now) (a .fits) (c .if1 .taken)
 
-kind-at-requires : tie.Need-kind-at-requires
-kind-at-requires c κs = search needs
-
 mark-shape-requires : tie.Need-mark-shape-requires
 mark-shape-requires c κs = rw (c .kind-at .ensures) (mark-lt _)
 
@@ -31,12 +28,6 @@ part-at-requires c κs =
     let m = c .before .before .mark-shape .ensures in
     (rw (slot-here _ k m (c .before .key-at .ensures .0) (c .slot-of .ensures)) (p .0), omega (arith, shape-size _ m, ap size k, p .1))
 
-u32-at-requires : tie.Need-u32-at-requires
-u32-at-requires c κs = search needs
-
-u32-at-requires-2 : tie.Need-u32-at-requires-2
-u32-at-requires-2 c κs = search needs
-
 returns-2 : tie.Need-returns-2
 returns-2 c =
     let a = c .before .before .before .before .before .before .before .before .before .before .before .args in
@@ -49,11 +40,11 @@ not-fit-spec =
     tie.close
     (tie.spec
     returns
-    kind-at-requires
+    (λ c κs. search needs)
     mark-shape-requires
     key-at-requires
     slot-of-requires
     part-at-requires
-    u32-at-requires
-    u32-at-requires-2
+    (λ c κs. search needs)
+    (λ c κs. search needs)
     returns-2)

@@ -7,11 +7,8 @@ use Rattle.fit.proofs.points_fit.Tie as tie
 returns : tie.Need-returns
 returns c = rw (eq-eqb _ 1 (c .if1 .taken)) refl
 
-slots-empty-requires : tie.Need-slots-empty-requires
-slots-empty-requires c κs = search needs
-
 returns-2 : tie.Need-returns-2
 returns-2 c = rw (ne-eqb _ 1 (c .before .if1 .left)) (c .slots-empty .ensures)
 
 pub points-fit-spec : {M : Type 1} → statement M
-points-fit-spec = tie.close (tie.spec returns slots-empty-requires returns-2)
+points-fit-spec = tie.close (tie.spec returns (λ c κs. search needs) returns-2)

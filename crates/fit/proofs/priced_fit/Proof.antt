@@ -10,11 +10,8 @@ returns c = rw (c .if1 .taken) refl
 returns-2 : tie.Need-returns-2
 returns-2 c = rw (c .before .if1 .left, lt-ltb _ _ (c .if2 .taken)) refl
 
-slots-empty-requires : tie.Need-slots-empty-requires
-slots-empty-requires c κs = search needs
-
 returns-3 : tie.Need-returns-3
 returns-3 c = rw (c .before .before .if1 .left, le-ltb _ _ (c .before .if2 .left)) (c .slots-empty .ensures)
 
 pub priced-fit-spec : {M : Type 1} → statement M
-priced-fit-spec = tie.close (tie.spec returns returns-2 slots-empty-requires returns-3)
+priced-fit-spec = tie.close (tie.spec returns returns-2 (λ c κs. search needs) returns-3)

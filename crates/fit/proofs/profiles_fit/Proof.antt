@@ -26,26 +26,14 @@ returns c = rw (eq-eqb _ 1 (c .if1 .taken)) refl
 loop-holds : tie.Need-loop-holds Inv-loop μ-loop
 loop-holds c = (omega arith, unfold allTo in refl)
 
-add-fu : tie.Need-add-fu Inv-loop μ-loop
-add-fu c = omega arith
-
 fu-requires : tie.Need-fu-requires Inv-loop μ-loop
 fu-requires c κs = (c .before .before .before .before .before .pre .0, omega arith, omega arith)
 
 fu-fits-requires : tie.Need-fu-fits-requires Inv-loop μ-loop
 fu-fits-requires c κs = c .before .before .before .before .before .before .pre .1
 
-add-items-fit : tie.Need-add-items-fit Inv-loop μ-loop
-add-items-fit c = omega arith
-
 items-fit-requires : tie.Need-items-fit-requires Inv-loop μ-loop
 items-fit-requires c κs = let q = c .before .before .before .before .before .before .before .pre in (q .0, q .1, omega arith, omega arith)
-
-add-p : tie.Need-add-p Inv-loop μ-loop
-add-p c = omega arith
-
-loop-less : tie.Need-loop-less Inv-loop μ-loop
-loop-less c = omega arith
 
 loop-again : tie.Need-loop-again Inv-loop μ-loop
 loop-again c =
@@ -71,12 +59,12 @@ profiles-fit-spec =
     μ-loop
     returns
     loop-holds
-    add-fu
+    (λ c. omega arith)
     fu-requires
     fu-fits-requires
-    add-items-fit
+    (λ c. omega arith)
     items-fit-requires
-    add-p
-    loop-less
+    (λ c. omega arith)
+    (λ c. omega arith)
     loop-again
     returns-2)

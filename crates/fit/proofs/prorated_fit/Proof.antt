@@ -8,18 +8,6 @@ use Rattle.fit.proofs.prorated_fit.Tie as tie
 returns : tie.Need-returns
 returns c = rw (eq-eqb _ 2 (c .if1 .taken)) refl
 
-slots-empty-requires : tie.Need-slots-empty-requires
-slots-empty-requires c κs = search needs
-
-slots-empty-requires-2 : tie.Need-slots-empty-requires-2
-slots-empty-requires-2 c κs = search needs
-
-slots-empty-requires-3 : tie.Need-slots-empty-requires-3
-slots-empty-requires-3 c κs = search needs
-
-slots-empty-requires-4 : tie.Need-slots-empty-requires-4
-slots-empty-requires-4 c κs = search needs
-
 returns-2 : tie.Need-returns-2
 unfolding allBelow
 returns-2 c = rw (ne-eqb _ 2 (c .before .before .before .before .if1 .left), c .slots-empty4 .ensures, c .before .slots-empty3 .ensures, c .before .before .slots-empty2 .ensures, c .before .before .before .slots-empty .ensures) refl
@@ -29,8 +17,8 @@ prorated-fit-spec =
     tie.close
     (tie.spec
     returns
-    slots-empty-requires
-    slots-empty-requires-2
-    slots-empty-requires-3
-    slots-empty-requires-4
+    (λ c κs. search needs)
+    (λ c κs. search needs)
+    (λ c κs. search needs)
+    (λ c κs. search needs)
     returns-2)

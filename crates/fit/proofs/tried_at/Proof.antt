@@ -10,74 +10,29 @@ use borrow.Author.Needs.{needs}
 use Rattle.fit.proofs.tried_at.Statement.{statement}
 use Rattle.fit.proofs.tried_at.Tie as tie
 
-kind-at-requires : tie.Need-kind-at-requires
-kind-at-requires c κs = search needs
-
-ad-fits-requires : tie.Need-ad-fits-requires
-ad-fits-requires c κs = search needs
-
-trial-requires : tie.Need-trial-requires
-trial-requires c κs = search needs
-
 returns : tie.Need-returns
 returns c = c .trial .ensures ∙ at-mark _ _ 4 _ _ ad-size (c .before .ad-fits .ensures) (c .before .before .before .kind-at .ensures) (c .before .before .if1 .taken)
-
-mm-fits-requires : tie.Need-mm-fits-requires
-mm-fits-requires c κs = search needs
-
-trial-requires-2 : tie.Need-trial-requires-2
-trial-requires-2 c κs = search needs
 
 returns-2 : tie.Need-returns-2
 returns-2 c = c .trial2 .ensures ∙ at-mark _ _ 5 _ _ mm-size (c .before .mm-fits .ensures) (c .before .before .before .before .kind-at .ensures) (c .before .before .if2 .taken)
 
-trial-requires-3 : tie.Need-trial-requires-3
-trial-requires-3 c κs = search needs
-
 returns-3 : tie.Need-returns-3
 returns-3 c = c .trial3 .ensures ∙ at-mark _ _ 2 _ _ hp-size (fits-hp _ _ (c .before .before .before .before .before .before .pre)) (c .before .before .before .before .kind-at .ensures) (c .before .if3 .taken)
-
-u8-at-requires : tie.Need-u8-at-requires
-u8-at-requires c κs = search needs
-
-level-held-requires : tie.Need-level-held-requires
-level-held-requires c κs = search needs
-
-trial-requires-4 : tie.Need-trial-requires-4
-trial-requires-4 c κs = search needs
 
 returns-4 : tie.Need-returns-4
 returns-4 c = c .trial4 .ensures ∙ at-mark _ _ 9 _ _ th-size (c .before .level-held .ensures ∙ ap (holds _) (c .before .before .u8-at .ensures) ∙ fits-th _ _ (c .before .before .before .before .before .before .before .before .before .pre)) (c .before .before .before .before .before .before .before .kind-at .ensures) (c .before .before .before .if4 .taken)
 
-fu-fits-requires : tie.Need-fu-fits-requires
-fu-fits-requires c κs = search needs
-
-trial-requires-5 : tie.Need-trial-requires-5
-trial-requires-5 c κs = search needs
-
 returns-5 : tie.Need-returns-5
 returns-5 c = c .trial5 .ensures ∙ at-mark _ _ 3 _ _ fu-size (c .before .fu-fits .ensures) (c .before .before .before .before .before .before .before .kind-at .ensures) (c .before .before .if5 .taken)
-
-trial-requires-6 : tie.Need-trial-requires-6
-trial-requires-6 c κs = search needs
 
 returns-6 : tie.Need-returns-6
 returns-6 c = c .trial6 .ensures ∙ at-mark _ _ 7 _ _ hr-size (fits-hr _ _ (c .before .before .before .before .before .before .before .before .before .pre)) (c .before .before .before .before .before .before .before .kind-at .ensures) (c .before .if6 .taken)
 
-trial-requires-7 : tie.Need-trial-requires-7
-trial-requires-7 c κs = search needs
-
 returns-7 : tie.Need-returns-7
 returns-7 c = c .trial7 .ensures ∙ at-mark _ _ 8 _ _ ch-size (fits-ch _ _ (c .before .before .before .before .before .before .before .before .before .before .pre)) (c .before .before .before .before .before .before .before .before .kind-at .ensures) (c .before .if7 .taken)
 
-trial-requires-8 : tie.Need-trial-requires-8
-trial-requires-8 c κs = search needs
-
 returns-8 : tie.Need-returns-8
 returns-8 c = c .trial8 .ensures ∙ at-mark _ _ 10 _ _ fp-size (fits-fp _ _ (c .before .before .before .before .before .before .before .before .before .before .before .pre)) (c .before .before .before .before .before .before .before .before .before .kind-at .ensures) (c .before .if8 .taken)
-
-trial-requires-9 : tie.Need-trial-requires-9
-trial-requires-9 c κs = search needs
 
 returns-9 : tie.Need-returns-9
 returns-9 c = c .trial9 .ensures ∙ at-mark _ _ 6 _ _ rq-size (fits-rq _ _ (c .before .before .before .before .before .before .before .before .before .before .before .before .pre)) (c .before .before .before .before .before .before .before .before .before .before .kind-at .ensures) (c .before .if9 .taken)
@@ -94,29 +49,29 @@ pub tried-at-spec : {M : Type 1} → statement M
 tried-at-spec =
     tie.close
     (tie.spec
-    kind-at-requires
-    ad-fits-requires
-    trial-requires
+    (λ c κs. search needs)
+    (λ c κs. search needs)
+    (λ c κs. search needs)
     returns
-    mm-fits-requires
-    trial-requires-2
+    (λ c κs. search needs)
+    (λ c κs. search needs)
     returns-2
-    trial-requires-3
+    (λ c κs. search needs)
     returns-3
-    u8-at-requires
-    level-held-requires
-    trial-requires-4
+    (λ c κs. search needs)
+    (λ c κs. search needs)
+    (λ c κs. search needs)
     returns-4
-    fu-fits-requires
-    trial-requires-5
+    (λ c κs. search needs)
+    (λ c κs. search needs)
     returns-5
-    trial-requires-6
+    (λ c κs. search needs)
     returns-6
-    trial-requires-7
+    (λ c κs. search needs)
     returns-7
-    trial-requires-8
+    (λ c κs. search needs)
     returns-8
-    trial-requires-9
+    (λ c κs. search needs)
     returns-9
     tried-keyless-requires
     returns-10)

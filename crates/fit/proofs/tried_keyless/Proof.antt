@@ -7,23 +7,11 @@ use borrow.Author.Needs.{needs}
 use Rattle.fit.proofs.tried_keyless.Statement.{statement}
 use Rattle.fit.proofs.tried_keyless.Tie as tie
 
-rs-fits-requires : tie.Need-rs-fits-requires
-rs-fits-requires c κs = search needs
-
-trial-requires : tie.Need-trial-requires
-trial-requires c κs = search needs
-
 returns : tie.Need-returns
 returns c = c .trial .ensures ∙ at-kind _ _ 1 _ _ rs-size (c .before .rs-fits .ensures) (c .before .before .if1 .taken)
 
-trial-requires-2 : tie.Need-trial-requires-2
-trial-requires-2 c κs = search needs
-
 returns-2 : tie.Need-returns-2
 returns-2 c = c .trial2 .ensures ∙ at-kind _ _ 11 _ _ lc-size (fits-lc _ _ (c .before .before .before .before .pre .0)) (c .before .if2 .taken)
-
-trial-requires-3 : tie.Need-trial-requires-3
-trial-requires-3 c κs = search needs
 
 returns-3 : tie.Need-returns-3
 returns-3 c =
@@ -34,10 +22,10 @@ pub tried-keyless-spec : {M : Type 1} → statement M
 tried-keyless-spec =
     tie.close
     (tie.spec
-    rs-fits-requires
-    trial-requires
+    (λ c κs. search needs)
+    (λ c κs. search needs)
     returns
-    trial-requires-2
+    (λ c κs. search needs)
     returns-2
-    trial-requires-3
+    (λ c κs. search needs)
     returns-3)

@@ -13,11 +13,5 @@ returns c =
     let p = c .before .before .before .before .before .before .pre in
     slots-accepted (a .t) (a .d .now) (a .index .now) (a .rs .now) (a .top) (p .3) (p .5) (sym (c .before .all-fit .ensures) ∙ c .if2 .taken) (p .0) (p .1) (p .6) (readable-distinct _ (p .2)) (p .4)
 
-first-unfit-requires : tie.Need-first-unfit-requires
-first-unfit-requires c κs = search needs
-
-returns-2 : tie.Need-returns-2
-returns-2 c = search needs
-
 pub unfit-of-spec : {M : Type 1} → statement M
-unfit-of-spec = tie.close (tie.spec all-fit-requires returns first-unfit-requires returns-2)
+unfit-of-spec = tie.close (tie.spec all-fit-requires returns (λ c κs. search needs) (λ c. search needs))

@@ -27,21 +27,6 @@ abbrev μ-loop : tie.MeasureT-loop
 loop-holds : tie.Need-loop-holds Inv-loop μ-loop
 loop-holds c = (search needs, refl, start _ _ _)
 
-sub-rest : tie.Need-sub-rest Inv-loop μ-loop
-sub-rest c = search needs
-
-part-rest-start : tie.Need-part-rest-start Inv-loop μ-loop
-part-rest-start c = search needs
-
-part-rest-end : tie.Need-part-rest-end Inv-loop μ-loop
-part-rest-end c = search needs
-
-read-requires : tie.Need-read-requires Inv-loop μ-loop
-read-requires c κs = search needs
-
-enum-known-entry : tie.Need-enum-known-entry Inv-loop μ-loop
-enum-known-entry c = search needs
-
 abbrev d-of : tie.In-loop Inv-loop μ-loop → List ℕ
 d-of i = i .before .before .before .before .args .d .now
 
@@ -69,47 +54,8 @@ its-found c =
 its : (c : tie.After-known-told Inv-loop μ-loop) → (1 ≤ len-of c) × (len-of c ≤ length (d-of (In c)) - at-of (In c)) × (its-found c .0 < kinds)
 its c = bounds (d-of (In c)) (at-of (In c)) _ _ (its-found c .1)
 
-same-length : tie.Need-same-length Inv-loop μ-loop
-same-length c = search needs
-
 returns : tie.Need-returns Inv-loop μ-loop
 returns c = let k = c .before in absurd (omega (arith, its k, long _ _ _ (its-found k .1), c .if1 .taken))
-
-higher-of-requires : tie.Need-higher-of-requires Inv-loop μ-loop
-higher-of-requires c κs = search needs
-
-u32-at-requires : tie.Need-u32-at-requires Inv-loop μ-loop
-u32-at-requires c κs = search needs
-
-cast-issue : tie.Need-cast-issue Inv-loop μ-loop
-cast-issue c = search needs
-
-add-issue : tie.Need-add-issue Inv-loop μ-loop
-add-issue c = search needs
-
-mul-v : tie.Need-mul-v Inv-loop μ-loop
-mul-v c = search needs
-
-slice-read-v : tie.Need-slice-read-v Inv-loop μ-loop
-slice-read-v c = search needs
-
-issue-held-requires : tie.Need-issue-held-requires Inv-loop μ-loop
-issue-held-requires c κs = search needs
-
-cast-newer-of : tie.Need-cast-newer-of Inv-loop μ-loop
-cast-newer-of c = search needs
-
-add-newer-of : tie.Need-add-newer-of Inv-loop μ-loop
-add-newer-of c = search needs
-
-newer-of-requires : tie.Need-newer-of-requires Inv-loop μ-loop
-newer-of-requires c κs = search needs
-
-mul-index : tie.Need-mul-index Inv-loop μ-loop
-mul-index c = search needs
-
-slice-write-index : tie.Need-slice-write-index Inv-loop μ-loop
-slice-write-index c = search needs
 
 add-at : tie.Need-add-at Inv-loop μ-loop
 add-at c = omega (arith, its (c .before .before .before .before))
@@ -129,12 +75,6 @@ loop-again c =
       | inr x ↦ (omega (arith, its k), rw (x .1) (l .inv .1), rw (x .1, x .2) (turn-beyond (d-of i) _ (l .index) (l .at) (its-found k .0) (len-of k) (l .rising) (l .top) (i .loop-test .taken) (l .inv .2) (its-found k .1) (its-found k .2) (x .0 .left) m))
     ]
 
-enum-known-number : tie.Need-enum-known-number Inv-loop μ-loop
-enum-known-number c = search needs
-
-same-length-2 : tie.Need-same-length-2 Inv-loop μ-loop
-same-length-2 c = search needs
-
 returns-2 : tie.Need-returns-2 Inv-loop μ-loop
 unfolding passOf slotsOf
 returns-2 c =
@@ -142,9 +82,6 @@ returns-2 c =
     let i = r .before .before in
     let e = stop (keepStep (d-of i)) (kept (i .before .before .before .before .args .index .now) true 0) (d-of i) (at-of i) _ _ (i .loop-test .taken) (i .before .loop .inv .2) (fault-found (drop (at-of i) (d-of i)) _ (read-of r (c .before .number .given .1))) in
     (sym (ap passOf e), sym (ap (slotsOf (i .before .loop .index)) e))
-
-same-length-3 : tie.Need-same-length-3 Inv-loop μ-loop
-same-length-3 c = search needs
 
 returns-3 : tie.Need-returns-3 Inv-loop μ-loop
 unfolding passOf slotsOf
@@ -161,30 +98,30 @@ pass-spec =
     Inv-loop
     μ-loop
     loop-holds
-    sub-rest
-    part-rest-start
-    part-rest-end
-    read-requires
-    enum-known-entry
-    same-length
+    (λ c. search needs)
+    (λ c. search needs)
+    (λ c. search needs)
+    (λ c κs. search needs)
+    (λ c. search needs)
+    (λ c. search needs)
     returns
-    higher-of-requires
-    u32-at-requires
-    cast-issue
-    add-issue
-    mul-v
-    slice-read-v
-    issue-held-requires
-    cast-newer-of
-    add-newer-of
-    newer-of-requires
-    mul-index
-    slice-write-index
+    (λ c κs. search needs)
+    (λ c κs. search needs)
+    (λ c. search needs)
+    (λ c. search needs)
+    (λ c. search needs)
+    (λ c. search needs)
+    (λ c κs. search needs)
+    (λ c. search needs)
+    (λ c. search needs)
+    (λ c κs. search needs)
+    (λ c. search needs)
+    (λ c. search needs)
     add-at
     loop-less
     loop-again
-    enum-known-number
-    same-length-2
+    (λ c. search needs)
+    (λ c. search needs)
     returns-2
-    same-length-3
+    (λ c. search needs)
     returns-3)

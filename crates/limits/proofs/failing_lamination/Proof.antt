@@ -16,9 +16,6 @@ Inv-loop from to cents count least t pair i₀ i =
 abbrev μ-loop : tie.MeasureT-loop
 μ-loop from to cents count least t pair i₀ i = count - i
 
-fails-requires : tie.Need-fails-requires Inv-loop μ-loop
-fails-requires c κs = search needs
-
 returns : tie.Need-returns Inv-loop μ-loop
 returns c =
     let a = c .before .before .args in
@@ -27,42 +24,12 @@ returns c =
 loop-holds : tie.Need-loop-holds Inv-loop μ-loop
 loop-holds c = (omega arith, all-left (firstFailing _ _ _ _ _ 0) _)
 
-mul-fails-in : tie.Need-mul-fails-in Inv-loop μ-loop
-mul-fails-in c = search needs
-
-element-copy-out-fails-in : tie.Need-element-copy-out-fails-in Inv-loop μ-loop
-element-copy-out-fails-in c = search needs
-
-mul-fails-in-2 : tie.Need-mul-fails-in-2 Inv-loop μ-loop
-mul-fails-in-2 c = search needs
-
-element-copy-out-fails-in-2 : tie.Need-element-copy-out-fails-in-2 Inv-loop μ-loop
-element-copy-out-fails-in-2 c = search needs
-
-mul-fails-in-3 : tie.Need-mul-fails-in-3 Inv-loop μ-loop
-mul-fails-in-3 c = search needs
-
-element-copy-out-fails-in-3 : tie.Need-element-copy-out-fails-in-3 Inv-loop μ-loop
-element-copy-out-fails-in-3 c = search needs
-
-fails-in-requires : tie.Need-fails-in-requires Inv-loop μ-loop
-fails-in-requires c κs = search needs
-
-add-result : tie.Need-add-result Inv-loop μ-loop
-add-result c = search needs
-
 returns-2 : tie.Need-returns-2 Inv-loop μ-loop
 returns-2 c =
     let i = c .before .before .before .before .before .before .loop in
     let a = c .before .before .before .before .before .before .before .before .before .args in
     lamination-stop (a .t) (a .pair) (a .from .now) (a .to .now) (a .cents .now) (a .count) (i .i) (c .before .before .before .before .before .loop-test .taken) (sym (c .before .fails-in .ensures) ∙ c .if2 .taken)
     ∙ i .inv .1
-
-add-i : tie.Need-add-i Inv-loop μ-loop
-add-i c = search needs
-
-loop-less : tie.Need-loop-less Inv-loop μ-loop
-loop-less c = search needs
 
 loop-again : tie.Need-loop-again Inv-loop μ-loop
 loop-again c =
@@ -85,19 +52,19 @@ failing-lamination-spec =
     (tie.spec
     Inv-loop
     μ-loop
-    fails-requires
+    (λ c κs. search needs)
     returns
     loop-holds
-    mul-fails-in
-    element-copy-out-fails-in
-    mul-fails-in-2
-    element-copy-out-fails-in-2
-    mul-fails-in-3
-    element-copy-out-fails-in-3
-    fails-in-requires
-    add-result
+    (λ c. search needs)
+    (λ c. search needs)
+    (λ c. search needs)
+    (λ c. search needs)
+    (λ c. search needs)
+    (λ c. search needs)
+    (λ c κs. search needs)
+    (λ c. search needs)
     returns-2
-    add-i
-    loop-less
+    (λ c. search needs)
+    (λ c. search needs)
     loop-again
     returns-3)

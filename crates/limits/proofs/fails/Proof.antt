@@ -12,12 +12,6 @@ returns-2 : tie.Need-returns-2
 unfolding failsAt
 returns-2 c = below-level _ _ _ _ (c .before .before .args .price) (c .if2 .taken)
 
-cast-result : tie.Need-cast-result
-cast-result c = search needs
-
-limit-requires : tie.Need-limit-requires
-limit-requires c κs = search needs
-
 returns-3 : tie.Need-returns-3
 unfolding failsAt
 returns-3 c =
@@ -25,4 +19,4 @@ returns-3 c =
     rw (c .limit .ensures) (in-cents (a .level) (a .t .percent) (a .t .margin) (a .t .floor) (a .price) (c .before .before .before .if1 .left))
 
 pub fails-spec : {M : Type 1} → statement M
-fails-spec = tie.close (tie.spec returns returns-2 cast-result limit-requires returns-3)
+fails-spec = tie.close (tie.spec returns returns-2 (λ c. search needs) (λ c κs. search needs) returns-3)

@@ -4,12 +4,6 @@ use borrow.Author.Needs.{needs}
 use Rattle.limits.proofs.fails_in.Statement.{statement}
 use Rattle.limits.proofs.fails_in.Tie as tie
 
-overlaps-requires : tie.Need-overlaps-requires
-overlaps-requires c κs = search needs
-
-fails-requires : tie.Need-fails-requires
-fails-requires c κs = search needs
-
 returns : tie.Need-returns
 returns c =
     let a = c .before .before .before .args in
@@ -21,4 +15,4 @@ returns-2 c =
     untouched (a .t) (a .pair) (a .from) (a .to) (a .level) (sym (c .before .overlaps .ensures) ∙ c .if1 .left)
 
 pub fails-in-spec : {M : Type 1} → statement M
-fails-in-spec = tie.close (tie.spec overlaps-requires fails-requires returns returns-2)
+fails-in-spec = tie.close (tie.spec (λ c κs. search needs) (λ c κs. search needs) returns returns-2)

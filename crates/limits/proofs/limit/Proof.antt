@@ -19,9 +19,6 @@ mul-by-percent c = record { fits = omega (arith, product c) }
 add-by-percent : tie.Need-add-by-percent
 add-by-percent c = omega (arith, product c)
 
-add-by-margin : tie.Need-add-by-margin
-add-by-margin c = search needs
-
 returns : tie.Need-returns
 returns c = limit-percent _ _ _ (c .if1 .taken)
 
@@ -29,4 +26,4 @@ returns-2 : tie.Need-returns-2
 returns-2 c = limit-margin _ _ _ (c .if1 .left)
 
 pub limit-spec : {M : Type 1} → statement M
-limit-spec = tie.close (tie.spec mul-by-percent add-by-percent add-by-margin returns returns-2)
+limit-spec = tie.close (tie.spec mul-by-percent add-by-percent (λ c. search needs) returns returns-2)

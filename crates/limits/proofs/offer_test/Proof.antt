@@ -24,24 +24,9 @@ abbrev μ-loop : tie.MeasureT-loop
 abbrev lv-of : tie.Start Inv-loop μ-loop → HourLevels
 lv-of c = inArrays (c .args .from .now) (c .args .to .now) (c .args .cents .now) 0 (c .args .count)
 
-least-level-requires : tie.Need-least-level-requires Inv-loop μ-loop
-least-level-requires c κs = search needs
-
 loop-holds : tie.Need-loop-holds Inv-loop μ-loop
 unfolding before
 loop-holds c = (omega arith, omega (arith, c .before .before .pre .1), refl, all-left (offerShown _ _ _ 0) _)
-
-quantity-at-requires : tie.Need-quantity-at-requires Inv-loop μ-loop
-quantity-at-requires c κs = search needs
-
-price-at-requires : tie.Need-price-at-requires Inv-loop μ-loop
-price-at-requires c κs = search needs
-
-failing-lamination-requires : tie.Need-failing-lamination-requires Inv-loop μ-loop
-failing-lamination-requires c κs = search needs
-
-add-t17 : tie.Need-add-t17 Inv-loop μ-loop
-add-t17 c = search needs
 
 returns : tie.Need-returns Inv-loop μ-loop
 returns c =
@@ -50,12 +35,6 @@ returns c =
     let o = s .args .offer .now in
     pair-stop (s .args .t) (lv-of s) o (length o / 6) (i .k) _ _ (c .before .before .before .before .loop-test .taken) (i .inv .2) (c .before .before .before .quantity-at .ensures) (c .before .before .price-at .ensures .0) (c .before .failing-lamination .ensures) (c .if1 .taken)
     ∙ i .inv .3
-
-add-k : tie.Need-add-k Inv-loop μ-loop
-add-k c = search needs
-
-loop-less : tie.Need-loop-less Inv-loop μ-loop
-loop-less c = search needs
 
 loop-again : tie.Need-loop-again Inv-loop μ-loop
 loop-again c =
@@ -82,14 +61,14 @@ offer-test-spec =
     (tie.spec
     Inv-loop
     μ-loop
-    least-level-requires
+    (λ c κs. search needs)
     loop-holds
-    quantity-at-requires
-    price-at-requires
-    failing-lamination-requires
-    add-t17
+    (λ c κs. search needs)
+    (λ c κs. search needs)
+    (λ c κs. search needs)
+    (λ c. search needs)
     returns
-    add-k
-    loop-less
+    (λ c. search needs)
+    (λ c. search needs)
     loop-again
     returns-2)

@@ -19,24 +19,6 @@ returns c =
     let l = unpacked (inArrays (a .from .now) (a .to .now) (a .cents .now) 0 (a .count)) in
     pair-end (a .t) l (a .offer .now) n 0 (omega (arith, c .if1 .taken)) ∙ all-left (offerShown (a .t) l (a .offer .now) 0) n
 
-least-level-requires : tie.Need-least-level-requires
-least-level-requires c κs = search needs
-
-sub-price-at : tie.Need-sub-price-at
-sub-price-at c = search needs
-
-price-at-requires : tie.Need-price-at-requires
-price-at-requires c κs = search needs
-
-fails-requires : tie.Need-fails-requires
-fails-requires c κs = search needs
-
-offer-test-requires : tie.Need-offer-test-requires
-offer-test-requires c κs = search needs
-
-returns-2 : tie.Need-returns-2
-returns-2 c = search needs
-
 returns-3 : tie.Need-returns-3
 returns-3 c =
     let b = c .before .before .before .before .before .before in
@@ -52,10 +34,10 @@ rising-offer-test-spec =
     tie.close
     (tie.spec
     returns
-    least-level-requires
-    sub-price-at
-    price-at-requires
-    fails-requires
-    offer-test-requires
-    returns-2
+    (λ c κs. search needs)
+    (λ c. search needs)
+    (λ c κs. search needs)
+    (λ c κs. search needs)
+    (λ c κs. search needs)
+    (λ c. search needs)
     returns-3)

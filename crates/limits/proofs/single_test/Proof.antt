@@ -4,9 +4,6 @@ use Rattle.limits.specs.Thresholds.{singleShown}
 use Rattle.limits.proofs.single_test.Statement.{statement}
 use Rattle.limits.proofs.single_test.Tie as tie
 
-fails-requires : tie.Need-fails-requires
-fails-requires c κs = search needs
-
 returns : tie.Need-returns
 unfolding singleShown
 returns c = rw (sym (c .before .fails .ensures) ∙ c .if1 .taken) refl
@@ -16,4 +13,4 @@ unfolding singleShown
 returns-2 c = rw (sym (c .before .fails .ensures) ∙ c .if1 .left) refl
 
 pub single-test-spec : {M : Type 1} → statement M
-single-test-spec = tie.close (tie.spec fails-requires returns returns-2)
+single-test-spec = tie.close (tie.spec (λ c κs. search needs) returns returns-2)

@@ -5,9 +5,6 @@ use Rattle.layout.proofs.Lines.{amount-length, hundredths-within}
 use Rattle.lines.proofs.amount_line_len.Statement.{statement}
 use Rattle.lines.proofs.amount_line_len.Tie as tie
 
-hundredths-len-requires : tie.Need-hundredths-len-requires
-hundredths-len-requires c κs = search needs
-
 add-result : tie.Need-add-result
 add-result c = omega (arith, hundredths-within (c .before .before .args .cents))
 
@@ -21,7 +18,7 @@ pub amount-line-len-spec : {M : Type 1} → statement M
 amount-line-len-spec =
     tie.close
     (tie.spec
-    hundredths-len-requires
+    (λ c κs. search needs)
     add-result
     add-result-2
     returns)

@@ -6,26 +6,14 @@ use Rattle.layout.proofs.Lines.{energy-length, tenths-within, hundredths-within
 use Rattle.lines.proofs.energy_line_len.Statement.{statement}
 use Rattle.lines.proofs.energy_line_len.Tie as tie
 
-decimal-len-requires : tie.Need-decimal-len-requires
-decimal-len-requires c κs = search needs
-
-tenths-len-requires : tie.Need-tenths-len-requires
-tenths-len-requires c κs = search needs
-
 add-result : tie.Need-add-result
 add-result c =
     let args = c .before .before .args in omega (arith, decimal-within (args .lamination), tenths-within (args .from))
-
-tenths-len-requires-2 : tie.Need-tenths-len-requires-2
-tenths-len-requires-2 c κs = search needs
 
 add-result-2 : tie.Need-add-result-2
 add-result-2 c =
     let args = c .before .before .before .args in
     omega (arith, decimal-within (args .lamination), tenths-within (args .from), tenths-within (args .to))
-
-hundredths-len-requires : tie.Need-hundredths-len-requires
-hundredths-len-requires c κs = search needs
 
 add-result-3 : tie.Need-add-result-3
 add-result-3 c =
@@ -46,12 +34,12 @@ pub energy-line-len-spec : {M : Type 1} → statement M
 energy-line-len-spec =
     tie.close
     (tie.spec
-    decimal-len-requires
-    tenths-len-requires
+    (λ c κs. search needs)
+    (λ c κs. search needs)
     add-result
-    tenths-len-requires-2
+    (λ c κs. search needs)
     add-result-2
-    hundredths-len-requires
+    (λ c κs. search needs)
     add-result-3
     add-result-4
     returns)

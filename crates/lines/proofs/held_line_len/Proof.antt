@@ -4,12 +4,6 @@ use borrow.Author.Needs.{needs}
 use Rattle.lines.proofs.held_line_len.Statement.{statement}
 use Rattle.lines.proofs.held_line_len.Tie as tie
 
-level-held-requires : tie.Need-level-held-requires
-level-held-requires c κs = search needs
-
-amount-line-len-requires : tie.Need-amount-line-len-requires
-amount-line-len-requires c κs = search needs
-
 returns : tie.Need-returns
 returns c = rw (sym (c .before .before .level-held .ensures) ∙ c .before .if1 .taken) (c .amount-line-len .ensures)
 
@@ -18,4 +12,4 @@ returns-2 c = rw (sym (c .before .level-held .ensures) ∙ c .if1 .left)
 
 pub held-line-len-spec : {M : Type 1} → statement M
 held-line-len-spec =
-    tie.close (tie.spec level-held-requires amount-line-len-requires returns returns-2)
+    tie.close (tie.spec (λ c κs. search needs) (λ c κs. search needs) returns returns-2)

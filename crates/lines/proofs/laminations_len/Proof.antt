@@ -25,40 +25,10 @@ lv-of c = inArrays (c .args .from .now) (c .args .to .now) (c .args .cents .now)
 loop-holds : tie.Need-loop-holds Inv-loop μ-loop
 loop-holds c = (omega arith, ap length (sym (no-line (lv-of c))))
 
-add-energy-line-len : tie.Need-add-energy-line-len Inv-loop μ-loop
-add-energy-line-len c = search needs
-
-mul-energy-line-len : tie.Need-mul-energy-line-len Inv-loop μ-loop
-mul-energy-line-len c = search needs
-
-element-copy-out-energy-line-len : tie.Need-element-copy-out-energy-line-len Inv-loop μ-loop
-element-copy-out-energy-line-len c = search needs
-
-mul-energy-line-len-2 : tie.Need-mul-energy-line-len-2 Inv-loop μ-loop
-mul-energy-line-len-2 c = search needs
-
-element-copy-out-energy-line-len-2 : tie.Need-element-copy-out-energy-line-len-2 Inv-loop μ-loop
-element-copy-out-energy-line-len-2 c = search needs
-
-mul-energy-line-len-3 : tie.Need-mul-energy-line-len-3 Inv-loop μ-loop
-mul-energy-line-len-3 c = search needs
-
-element-copy-out-energy-line-len-3 : tie.Need-element-copy-out-energy-line-len-3 Inv-loop μ-loop
-element-copy-out-energy-line-len-3 c = search needs
-
-energy-line-len-requires : tie.Need-energy-line-len-requires Inv-loop μ-loop
-energy-line-len-requires c κs = search needs
-
 add-len : tie.Need-add-len Inv-loop μ-loop
 add-len c =
     let l = c .before .before .before .before .before in
     omega (arith, line-fits (lv-of (l .before)) (l .loop .i) (l .before .args .count) (omega arith), laminations-within (lv-of (l .before)) (l .before .args .count))
-
-add-i : tie.Need-add-i Inv-loop μ-loop
-add-i c = search needs
-
-loop-less : tie.Need-loop-less Inv-loop μ-loop
-loop-less c = search needs
 
 loop-again : tie.Need-loop-again Inv-loop μ-loop
 loop-again c =
@@ -77,16 +47,16 @@ laminations-len-spec =
     Inv-loop
     μ-loop
     loop-holds
-    add-energy-line-len
-    mul-energy-line-len
-    element-copy-out-energy-line-len
-    mul-energy-line-len-2
-    element-copy-out-energy-line-len-2
-    mul-energy-line-len-3
-    element-copy-out-energy-line-len-3
-    energy-line-len-requires
+    (λ c. search needs)
+    (λ c. search needs)
+    (λ c. search needs)
+    (λ c. search needs)
+    (λ c. search needs)
+    (λ c. search needs)
+    (λ c. search needs)
+    (λ c κs. search needs)
     add-len
-    add-i
-    loop-less
+    (λ c. search needs)
+    (λ c. search needs)
     loop-again
     returns)

@@ -6,9 +6,6 @@ use Rattle.layout.proofs.Lines.{profile-length}
 use Rattle.lines.proofs.profile_line_len.Statement.{statement}
 use Rattle.lines.proofs.profile_line_len.Tie as tie
 
-decimal-len-requires : tie.Need-decimal-len-requires
-decimal-len-requires c κs = search needs
-
 add-result : tie.Need-add-result
 add-result c = omega (arith, decimal-within (c .before .args .profile))
 
@@ -16,4 +13,4 @@ returns : tie.Need-returns
 returns c = omega (arith, profile-length (c .before .args .profile))
 
 pub profile-line-len-spec : {M : Type 1} → statement M
-profile-line-len-spec = tie.close (tie.spec decimal-len-requires add-result returns)
+profile-line-len-spec = tie.close (tie.spec (λ c κs. search needs) add-result returns)

@@ -33,9 +33,6 @@ sub-put-hundredths c = omega (arith, room (word c))
 part-put-hundredths-start : tie.Need-part-put-hundredths-start
 part-put-hundredths-start c = omega (arith, room (word c))
 
-part-put-hundredths-end : tie.Need-part-put-hundredths-end
-part-put-hundredths-end c = search needs
-
 put-hundredths-requires : tie.Need-put-hundredths-requires
 put-hundredths-requires c κs = omega (arith, room (word (c .before)))
 
@@ -48,20 +45,11 @@ sub-put c = omega (arith, room (level c))
 part-put-start : tie.Need-part-put-start
 part-put-start c = omega (arith, room (level c))
 
-part-put-end : tie.Need-part-put-end
-part-put-end c = search needs
-
-slice-aggregate-put : tie.Need-slice-aggregate-put
-slice-aggregate-put c = search needs
-
 put-requires-2 : tie.Need-put-requires-2
 put-requires-2 c κs = omega (arith, room (level (c .before .before)))
 
 add-result : tie.Need-add-result
 add-result c = omega (arith, room (end c))
-
-same-length : tie.Need-same-length
-same-length c = search needs
 
 returns : tie.Need-returns
 unfolding amountLine
@@ -81,14 +69,14 @@ put-amount-line-spec =
     put-requires
     sub-put-hundredths
     part-put-hundredths-start
-    part-put-hundredths-end
+    (λ c. search needs)
     put-hundredths-requires
     add-b
     sub-put
     part-put-start
-    part-put-end
-    slice-aggregate-put
+    (λ c. search needs)
+    (λ c. search needs)
     put-requires-2
     add-result
-    same-length
+    (λ c. search needs)
     returns)

@@ -27,9 +27,6 @@ to c = from (c .before .before .before .before)
 abbrev end : tie.After-slice-known5 → tie.Start
 end c = to (c .before .before .before .before .before)
 
-slice-aggregate-put-numbered : tie.Need-slice-aggregate-put-numbered
-slice-aggregate-put-numbered c = search needs
-
 put-numbered-requires : tie.Need-put-numbered-requires
 put-numbered-requires c κs = omega (arith, room (c .before .before .before))
 
@@ -38,9 +35,6 @@ sub-put-output c = omega (arith, room (lamination c))
 
 part-put-output-start : tie.Need-part-put-output-start
 part-put-output-start c = omega (arith, room (lamination c))
-
-part-put-output-end : tie.Need-part-put-output-end
-part-put-output-end c = search needs
 
 put-output-requires : tie.Need-put-output-requires
 put-output-requires c κs = omega (arith, room (lamination (c .before)))
@@ -54,9 +48,6 @@ sub-put-output-2 c = omega (arith, room (from c))
 part-put-output-start-2 : tie.Need-part-put-output-start-2
 part-put-output-start-2 c = omega (arith, room (from c))
 
-part-put-output-end-2 : tie.Need-part-put-output-end-2
-part-put-output-end-2 c = search needs
-
 put-output-requires-2 : tie.Need-put-output-requires-2
 put-output-requires-2 c κs = omega (arith, room (from (c .before)))
 
@@ -69,21 +60,12 @@ sub-put-amount-line c = omega (arith, room (to c))
 part-put-amount-line-start : tie.Need-part-put-amount-line-start
 part-put-amount-line-start c = omega (arith, room (to c))
 
-part-put-amount-line-end : tie.Need-part-put-amount-line-end
-part-put-amount-line-end c = search needs
-
-slice-aggregate-put-amount-line : tie.Need-slice-aggregate-put-amount-line
-slice-aggregate-put-amount-line c = search needs
-
 put-amount-line-requires : tie.Need-put-amount-line-requires
 put-amount-line-requires c κs =
     let start = to (c .before .before) in omega (arith, room start, amount-length space (start .args .cents))
 
 add-result : tie.Need-add-result
 add-result c = omega (arith, room (end c), amount-length space (end c .args .cents))
-
-same-length : tie.Need-same-length
-same-length c = search needs
 
 returns : tie.Need-returns
 unfolding energyLine
@@ -103,23 +85,23 @@ pub put-energy-line-spec : {M : Type 1} → statement M
 put-energy-line-spec =
     tie.close
     (tie.spec
-    slice-aggregate-put-numbered
+    (λ c. search needs)
     put-numbered-requires
     sub-put-output
     part-put-output-start
-    part-put-output-end
+    (λ c. search needs)
     put-output-requires
     add-b
     sub-put-output-2
     part-put-output-start-2
-    part-put-output-end-2
+    (λ c. search needs)
     put-output-requires-2
     add-c
     sub-put-amount-line
     part-put-amount-line-start
-    part-put-amount-line-end
-    slice-aggregate-put-amount-line
+    (λ c. search needs)
+    (λ c. search needs)
     put-amount-line-requires
     add-result
-    same-length
+    (λ c. search needs)
     returns)

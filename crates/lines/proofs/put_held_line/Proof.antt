@@ -4,14 +4,8 @@ use borrow.Author.Needs.{needs}
 use Rattle.lines.proofs.put_held_line.Statement.{statement}
 use Rattle.lines.proofs.put_held_line.Tie as tie
 
-level-held-requires : tie.Need-level-held-requires
-level-held-requires c κs = search needs
-
 put-amount-line-requires : tie.Need-put-amount-line-requires
 put-amount-line-requires c κs = rw (sym (c .before .before .level-held .ensures) ∙ c .before .if1 .taken) at (c .before .before .before .before .before .pre)
-
-same-length : tie.Need-same-length
-same-length c = search needs
 
 returns : tie.Need-returns
 returns c = rw (sym (c .before .before .before .before .before .level-held .ensures) ∙ c .before .before .before .before .if1 .taken) (c .before .before .put-amount-line .ensures)
@@ -21,4 +15,4 @@ returns-2 c = rw (sym (c .before .level-held .ensures) ∙ c .if1 .left) (refl, 
 
 pub put-held-line-spec : {M : Type 1} → statement M
 put-held-line-spec =
-    tie.close (tie.spec level-held-requires put-amount-line-requires same-length returns returns-2)
+    tie.close (tie.spec (λ c κs. search needs) put-amount-line-requires (λ c. search needs) returns returns-2)

@@ -44,50 +44,17 @@ sub-put-energy-line c = omega (arith, room c)
 part-put-energy-line-start : tie.Need-part-put-energy-line-start Inv-loop μ-loop
 part-put-energy-line-start c = omega (arith, room c)
 
-part-put-energy-line-end : tie.Need-part-put-energy-line-end Inv-loop μ-loop
-part-put-energy-line-end c = search needs
-
-add-put-energy-line : tie.Need-add-put-energy-line Inv-loop μ-loop
-add-put-energy-line c = search needs
-
-mul-put-energy-line : tie.Need-mul-put-energy-line Inv-loop μ-loop
-mul-put-energy-line c = search needs
-
-element-copy-out-put-energy-line : tie.Need-element-copy-out-put-energy-line Inv-loop μ-loop
-element-copy-out-put-energy-line c = search needs
-
-mul-put-energy-line-2 : tie.Need-mul-put-energy-line-2 Inv-loop μ-loop
-mul-put-energy-line-2 c = search needs
-
-element-copy-out-put-energy-line-2 : tie.Need-element-copy-out-put-energy-line-2 Inv-loop μ-loop
-element-copy-out-put-energy-line-2 c = search needs
-
-mul-put-energy-line-3 : tie.Need-mul-put-energy-line-3 Inv-loop μ-loop
-mul-put-energy-line-3 c = search needs
-
-element-copy-out-put-energy-line-3 : tie.Need-element-copy-out-put-energy-line-3 Inv-loop μ-loop
-element-copy-out-put-energy-line-3 c = search needs
-
 put-energy-line-requires : tie.Need-put-energy-line-requires Inv-loop μ-loop
 put-energy-line-requires c κs = omega (arith, room (c .before .before .before .before))
 
 add-at : tie.Need-add-at Inv-loop μ-loop
 add-at c = omega (arith, room (c .before .before .before .before .before .before .before))
 
-add-i : tie.Need-add-i Inv-loop μ-loop
-add-i c = search needs
-
-loop-less : tie.Need-loop-less Inv-loop μ-loop
-loop-less c = search needs
-
 loop-again : tie.Need-loop-again Inv-loop μ-loop
 loop-again c =
     let l = c .before .before .before .before .before .before .before .before in
     let s = l .before .before in
     (omega arith, search needs, turn (told s) (l .loop .i) (s .args .buf .now) (l .loop .inv .2) (c .before .before .put-energy-line .ensures))
-
-same-length : tie.Need-same-length Inv-loop μ-loop
-same-length c = search needs
 
 returns : tie.Need-returns Inv-loop μ-loop
 returns c =
@@ -105,18 +72,18 @@ put-laminations-spec =
     loop-holds
     sub-put-energy-line
     part-put-energy-line-start
-    part-put-energy-line-end
-    add-put-energy-line
-    mul-put-energy-line
-    element-copy-out-put-energy-line
-    mul-put-energy-line-2
-    element-copy-out-put-energy-line-2
-    mul-put-energy-line-3
-    element-copy-out-put-energy-line-3
+    (λ c. search needs)
+    (λ c. search needs)
+    (λ c. search needs)
+    (λ c. search needs)
+    (λ c. search needs)
+    (λ c. search needs)
+    (λ c. search needs)
+    (λ c. search needs)
     put-energy-line-requires
     add-at
-    add-i
-    loop-less
+    (λ c. search needs)
+    (λ c. search needs)
     loop-again
-    same-length
+    (λ c. search needs)
     returns)

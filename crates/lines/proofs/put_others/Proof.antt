@@ -35,9 +35,6 @@ no-load c = start (c .before .before .before .before .before)
 abbrev reserve : tie.After-slice-known4 → tie.Start
 reserve c = no-load (c .before .before .before .before .before)
 
-slice-aggregate-put-held-line : tie.Need-slice-aggregate-put-held-line
-slice-aggregate-put-held-line c = search needs
-
 put-held-line-requires : tie.Need-put-held-line-requires
 put-held-line-requires c κs = omega (arith, room (c .before .before .before))
 
@@ -46,12 +43,6 @@ sub-put-held-line c = omega (arith, room (start c))
 
 part-put-held-line-start : tie.Need-part-put-held-line-start
 part-put-held-line-start c = omega (arith, room (start c))
-
-part-put-held-line-end : tie.Need-part-put-held-line-end
-part-put-held-line-end c = search needs
-
-slice-aggregate-put-held-line-2 : tie.Need-slice-aggregate-put-held-line-2
-slice-aggregate-put-held-line-2 c = search needs
 
 put-held-line-requires-2 : tie.Need-put-held-line-requires-2
 put-held-line-requires-2 c κs = omega (arith, room (start (c .before .before)))
@@ -65,20 +56,11 @@ sub-put-held-line-2 c = omega (arith, room (no-load c))
 part-put-held-line-start-2 : tie.Need-part-put-held-line-start-2
 part-put-held-line-start-2 c = omega (arith, room (no-load c))
 
-part-put-held-line-end-2 : tie.Need-part-put-held-line-end-2
-part-put-held-line-end-2 c = search needs
-
-slice-aggregate-put-held-line-3 : tie.Need-slice-aggregate-put-held-line-3
-slice-aggregate-put-held-line-3 c = search needs
-
 put-held-line-requires-3 : tie.Need-put-held-line-requires-3
 put-held-line-requires-3 c κs = omega (arith, room (no-load (c .before .before)))
 
 add-result : tie.Need-add-result
 add-result c = omega (arith, room (reserve c))
-
-same-length : tie.Need-same-length
-same-length c = search needs
 
 returns : tie.Need-returns
 returns c =
@@ -94,19 +76,19 @@ pub put-others-spec : {M : Type 1} → statement M
 put-others-spec =
     tie.close
     (tie.spec
-    slice-aggregate-put-held-line
+    (λ c. search needs)
     put-held-line-requires
     sub-put-held-line
     part-put-held-line-start
-    part-put-held-line-end
-    slice-aggregate-put-held-line-2
+    (λ c. search needs)
+    (λ c. search needs)
     put-held-line-requires-2
     add-b
     sub-put-held-line-2
     part-put-held-line-start-2
-    part-put-held-line-end-2
-    slice-aggregate-put-held-line-3
+    (λ c. search needs)
+    (λ c. search needs)
     put-held-line-requires-3
     add-result
-    same-length
+    (λ c. search needs)
     returns)

@@ -5,30 +5,6 @@ use Rattle.text.proofs.Over.{then}
 use Rattle.lines.proofs.put_output.Statement.{statement}
 use Rattle.lines.proofs.put_output.Tie as tie
 
-slice-aggregate-put : tie.Need-slice-aggregate-put
-slice-aggregate-put c = search needs
-
-put-requires : tie.Need-put-requires
-put-requires c κs = search needs
-
-sub-put-tenths : tie.Need-sub-put-tenths
-sub-put-tenths c = search needs
-
-part-put-tenths-start : tie.Need-part-put-tenths-start
-part-put-tenths-start c = search needs
-
-part-put-tenths-end : tie.Need-part-put-tenths-end
-part-put-tenths-end c = search needs
-
-put-tenths-requires : tie.Need-put-tenths-requires
-put-tenths-requires c κs = search needs
-
-add-result : tie.Need-add-result
-add-result c = search needs
-
-same-length : tie.Need-same-length
-same-length c = search needs
-
 returns : tie.Need-returns
 returns c =
     let c₁ = c .before .before .before .before in
@@ -39,12 +15,12 @@ pub put-output-spec : {M : Type 1} → statement M
 put-output-spec =
     tie.close
     (tie.spec
-    slice-aggregate-put
-    put-requires
-    sub-put-tenths
-    part-put-tenths-start
-    part-put-tenths-end
-    put-tenths-requires
-    add-result
-    same-length
+    (λ c. search needs)
+    (λ c κs. search needs)
+    (λ c. search needs)
+    (λ c. search needs)
+    (λ c. search needs)
+    (λ c κs. search needs)
+    (λ c. search needs)
+    (λ c. search needs)
     returns)

@@ -21,9 +21,6 @@ profile c = c .before .before .before .before .before .before
 abbrev end : tie.After-slice-known3 → tie.Start
 end c = profile (c .before .before .before .before .before)
 
-slice-aggregate-put-numbered : tie.Need-slice-aggregate-put-numbered
-slice-aggregate-put-numbered c = search needs
-
 put-numbered-requires : tie.Need-put-numbered-requires
 put-numbered-requires c κs = omega (arith, room (c .before .before .before))
 
@@ -33,20 +30,11 @@ sub-put c = omega (arith, room (profile c))
 part-put-start : tie.Need-part-put-start
 part-put-start c = omega (arith, room (profile c))
 
-part-put-end : tie.Need-part-put-end
-part-put-end c = search needs
-
-slice-aggregate-put : tie.Need-slice-aggregate-put
-slice-aggregate-put c = search needs
-
 put-requires : tie.Need-put-requires
 put-requires c κs = omega (arith, room (profile (c .before .before)))
 
 add-result : tie.Need-add-result
 add-result c = omega (arith, room (end c))
-
-same-length : tie.Need-same-length
-same-length c = search needs
 
 returns : tie.Need-returns
 unfolding profileLine
@@ -59,13 +47,13 @@ pub put-profile-line-spec : {M : Type 1} → statement M
 put-profile-line-spec =
     tie.close
     (tie.spec
-    slice-aggregate-put-numbered
+    (λ c. search needs)
     put-numbered-requires
     sub-put
     part-put-start
-    part-put-end
-    slice-aggregate-put
+    (λ c. search needs)
+    (λ c. search needs)
     put-requires
     add-result
-    same-length
+    (λ c. search needs)
     returns)

@@ -33,17 +33,8 @@ other-lines c = otherLines (c .args .lv .technology) (c .args .lv .start) (c .ar
 parts : (c : tie.Start) → (length (packedReport (lv-of c)) ≡ length (first-line c) + length (energy-lines c) + length (other-lines c)) × (length (packedReport (lv-of c)) ≤ 2283)
 parts c = (report-length (lv-of c), report-within (lv-of c) (c .pre))
 
-profile-line-len-requires : tie.Need-profile-line-len-requires
-profile-line-len-requires c κs = search needs
-
-laminations-len-requires : tie.Need-laminations-len-requires
-laminations-len-requires c κs = search needs
-
 add-if2 : tie.Need-add-if2
 add-if2 c = omega (arith, parts (c .before .before .before .before))
-
-others-len-requires : tie.Need-others-len-requires
-others-len-requires c κs = search needs
 
 add-if2-2 : tie.Need-add-if2-2
 add-if2-2 c = omega (arith, parts (c .before .before .before .before .before))
@@ -82,9 +73,6 @@ sub-put-laminations c = omega (arith, fits (first c))
 part-put-laminations-start : tie.Need-part-put-laminations-start
 part-put-laminations-start c = omega (arith, fits (first c))
 
-part-put-laminations-end : tie.Need-part-put-laminations-end
-part-put-laminations-end c = search needs
-
 put-laminations-requires : tie.Need-put-laminations-requires
 put-laminations-requires c κs =
     let c₁ = c .before in (entry (first c₁) .pre, omega (arith, fits (first c₁)))
@@ -98,17 +86,11 @@ sub-put-others c = omega (arith, fits (energy c))
 part-put-others-start : tie.Need-part-put-others-start
 part-put-others-start c = omega (arith, fits (energy c))
 
-part-put-others-end : tie.Need-part-put-others-end
-part-put-others-end c = search needs
-
 put-others-requires : tie.Need-put-others-requires
 put-others-requires c κs = omega (arith, fits (energy (c .before)))
 
 add-t28 : tie.Need-add-t28
 add-t28 c = omega (arith, fits (others c))
-
-same-length : tie.Need-same-length
-same-length c = search needs
 
 returns-2 : tie.Need-returns-2
 returns-2 c =
@@ -124,22 +106,22 @@ pub put-report-spec : {M : Type 1} → statement M
 put-report-spec =
     tie.close
     (tie.spec
-    profile-line-len-requires
-    laminations-len-requires
+    (λ c κs. search needs)
+    (λ c κs. search needs)
     add-if2
-    others-len-requires
+    (λ c κs. search needs)
     add-if2-2
     returns
     put-profile-line-requires
     sub-put-laminations
     part-put-laminations-start
-    part-put-laminations-end
+    (λ c. search needs)
     put-laminations-requires
     add-b
     sub-put-others
     part-put-others-start
-    part-put-others-end
+    (λ c. search needs)
     put-others-requires
     add-t28
-    same-length
+    (λ c. search needs)
     returns-2)

@@ -14,9 +14,6 @@ key : (p q j : ℕ) → 1 ≤ p → p ≤ 4 → 1 ≤ q → q ≤ 5 → 1 ≤ j 
 unfolding shapeOf shape rowOf table
 key p q j a b x y z w = three-field p q j a b x y z w
 
-slot-ad-requires : tie.Need-slot-ad-requires
-slot-ad-requires c κs = search needs
-
 part-at-requires : tie.Need-part-at-requires
 part-at-requires c κs = (slot-fits _ _ (c .before .before .before .pre .0) 4 _ refl (key _ _ _ (c .before .before .before .pre .1) (c .before .before .before .pre .2) (c .before .before .before .pre .3) (c .before .before .before .pre .4) (c .before .before .before .pre .5) (c .before .before .before .pre .6)) (c .slot-ad .ensures), search needs)
 
@@ -25,4 +22,4 @@ unfolding size widths rowOf table
 returns c = c .part-at .ensures ∙ held-found (c .before .before .before .before .pre .0) 4 _ refl (key _ _ _ (c .before .before .before .before .pre .1) (c .before .before .before .before .pre .2) (c .before .before .before .before .pre .3) (c .before .before .before .before .pre .4) (c .before .before .before .before .pre .5) (c .before .before .before .before .pre .6)) (c .before .slot-ad .ensures) refl
 
 pub ad-spec : {M : Type 1} → statement M
-ad-spec = tie.close (tie.spec slot-ad-requires part-at-requires returns)
+ad-spec = tie.close (tie.spec (λ c κs. search needs) part-at-requires returns)

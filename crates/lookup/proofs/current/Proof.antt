@@ -8,9 +8,6 @@ use borrow.Author.Needs.{needs}
 use Rattle.lookup.proofs.current.Statement.{statement}
 use Rattle.lookup.proofs.current.Tie as tie
 
-kind-at-requires : tie.Need-kind-at-requires
-kind-at-requires c κs = search needs
-
 mark-shape-requires : tie.Need-mark-shape-requires
 mark-shape-requires c κs = rw (c .kind-at .ensures) (mark-lt _)
 
@@ -26,9 +23,6 @@ bytes-of-requires c κs = lookup-ends _ _ _ (rw (c .before .before .before .befo
 returns : tie.Need-returns
 returns c = looked (c .before .before .before .before .before .before .before .before .before .before .args .d .now) (c .before .before .before .before .before .before .before .before .before .before .args .letters .now) (c .before .before .before .before .before .before .before .before .before .before .args .key .now) (rw (c .before .before .before .before .before .before .kind-at .ensures) (mark-lt _)) (c .bytes-of .ensures) (c .before .lookup-part .ensures) (c .before .before .before .before .before .before .kind-at .ensures) (c .before .before .key-number .ensures) (search needs) (c .before .before .before .if1 .taken ∙ shape-width _ (c .before .before .before .before .before .mark-shape .ensures))
 
-slice-aggregate-result : tie.Need-slice-aggregate-result
-slice-aggregate-result c = search needs
-
 returns-2 : tie.Need-returns-2
 returns-2 c = other-width _ _ (c .before .before .before .before .before .before .before .before .args .key .now) (λ e. c .before .if1 .left (e ∙ sym (shape-width _ (c .before .before .before .mark-shape .ensures) ∙ ap keyWidth (c .before .before .before .before .kind-at .ensures))))
 
@@ -36,11 +30,11 @@ pub current-spec : {M : Type 1} → statement M
 current-spec =
     tie.close
     (tie.spec
-    kind-at-requires
+    (λ c κs. search needs)
     mark-shape-requires
     key-number-requires
     lookup-part-requires
     bytes-of-requires
     returns
-    slice-aggregate-result
+    (λ c. search needs)
     returns-2)

@@ -15,9 +15,6 @@ key : (n : ℕ) → 1 ≤ n → n ≤ 4 → InKey 3 n
 unfolding shapeOf shape rowOf table
 key n a b = one-field 3 n (lit≤ tt) (lit< tt) refl a b
 
-slot-fu-requires : tie.Need-slot-fu-requires
-slot-fu-requires c κs = search needs
-
 part-at-requires : tie.Need-part-at-requires
 part-at-requires c κs = (slot-fits _ _ (c .before .before .before .pre .0) 3 _ refl (key _ (c .before .before .before .pre .1) (c .before .before .before .pre .2)) (c .slot-fu .ensures), search needs)
 
@@ -26,4 +23,4 @@ unfolding size widths rowOf table
 returns c = c .part-at .ensures ∙ held-found (c .before .before .before .before .pre .0) 3 _ refl (key _ (c .before .before .before .before .pre .1) (c .before .before .before .before .pre .2)) (c .before .slot-fu .ensures) refl
 
 pub fu-spec : {M : Type 1} → statement M
-fu-spec = tie.close (tie.spec slot-fu-requires part-at-requires returns)
+fu-spec = tie.close (tie.spec (λ c κs. search needs) part-at-requires returns)

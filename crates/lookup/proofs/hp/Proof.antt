@@ -6,9 +6,6 @@ use borrow.Author.Needs.{needs}
 use Rattle.lookup.proofs.hp.Statement.{statement}
 use Rattle.lookup.proofs.hp.Tie as tie
 
-slot-hp-requires : tie.Need-slot-hp-requires
-slot-hp-requires c κs = search needs
-
 part-at-requires : tie.Need-part-at-requires
 part-at-requires c κs = (slot-fits _ _ (c .before .before .before .pre .0) 2 _ refl (point-key _ (c .before .before .before .pre .1) (c .before .before .before .pre .2)) (c .slot-hp .ensures), search needs)
 
@@ -17,4 +14,4 @@ unfolding size widths rowOf table
 returns c = c .part-at .ensures ∙ part-found _ _ (c .before .before .before .before .pre .0) 2 _ refl (point-key _ (c .before .before .before .before .pre .1) (c .before .before .before .before .pre .2)) (c .before .slot-hp .ensures) refl
 
 pub hp-spec : {M : Type 1} → statement M
-hp-spec = tie.close (tie.spec slot-hp-requires part-at-requires returns)
+hp-spec = tie.close (tie.spec (λ c κs. search needs) part-at-requires returns)

@@ -14,9 +14,6 @@ key : (n : ℕ) → 1 ≤ n → n ≤ 168 → InKey 7 n
 unfolding shapeOf shape rowOf table
 key n a b = one-field 7 n (lit≤ tt) (lit< tt) refl a b
 
-slot-hr-requires : tie.Need-slot-hr-requires
-slot-hr-requires c κs = search needs
-
 part-at-requires : tie.Need-part-at-requires
 part-at-requires c κs =
     let p = c .before .before .before .pre in
@@ -29,4 +26,4 @@ returns c =
     c .part-at .ensures ∙ part-found _ _ (p .0) 7 _ refl (key _ (p .1) (p .2)) (c .before .slot-hr .ensures) refl
 
 pub hr-spec : {M : Type 1} → statement M
-hr-spec = tie.close (tie.spec slot-hr-requires part-at-requires returns)
+hr-spec = tie.close (tie.spec (λ c κs. search needs) part-at-requires returns)

@@ -13,9 +13,6 @@ key : InKey 11 0
 unfolding shapeOf shape rowOf table
 key = one-field 11 0 (lit≤ tt) (lit< tt) refl (lit≤ tt) (lit≤ tt)
 
-slot-lc-requires : tie.Need-slot-lc-requires
-slot-lc-requires c κs = search needs
-
 part-at-requires : tie.Need-part-at-requires
 part-at-requires c κs =
     let p = c .before .before .before .pre in
@@ -28,4 +25,4 @@ returns c =
     c .part-at .ensures ∙ part-current _ _ (p .0) 11 _ key (narrow-fits _ _ (p .0) (p .1) 11 _ key refl) (c .before .slot-lc .ensures) refl
 
 pub lc-spec : {M : Type 1} → statement M
-lc-spec = tie.close (tie.spec slot-lc-requires part-at-requires returns)
+lc-spec = tie.close (tie.spec (λ c κs. search needs) part-at-requires returns)

@@ -7,9 +7,6 @@ use borrow.Author.Needs.{needs}
 use Rattle.lookup.proofs.mm.Statement.{statement}
 use Rattle.lookup.proofs.mm.Tie as tie
 
-slot-mm-requires : tie.Need-slot-mm-requires
-slot-mm-requires c κs = search needs
-
 part-at-requires : tie.Need-part-at-requires
 part-at-requires c κs = (slot-fits _ _ (c .before .before .before .pre .0) 5 _ refl (item-key _ _ (c .before .before .before .pre .1) (c .before .before .before .pre .2) (c .before .before .before .pre .3) (c .before .before .before .pre .4)) (c .slot-mm .ensures), search needs)
 
@@ -18,4 +15,4 @@ unfolding size widths rowOf table
 returns c = c .part-at .ensures ∙ held-found (c .before .before .before .before .pre .0) 5 _ refl (item-key _ _ (c .before .before .before .before .pre .1) (c .before .before .before .before .pre .2) (c .before .before .before .before .pre .3) (c .before .before .before .before .pre .4)) (c .before .slot-mm .ensures) refl
 
 pub mm-spec : {M : Type 1} → statement M
-mm-spec = tie.close (tie.spec slot-mm-requires part-at-requires returns)
+mm-spec = tie.close (tie.spec (λ c κs. search needs) part-at-requires returns)

@@ -10,20 +10,8 @@ use Rattle.lookup.proofs.Opening.{scan-stopped, scan-rising, scan-twins
 use Rattle.lookup.proofs.open.Statement.{statement}
 use Rattle.lookup.proofs.open.Tie as tie
 
-scan-requires : tie.Need-scan-requires
-scan-requires c κs = search needs
-
-enum-known-rising : tie.Need-enum-known-rising
-enum-known-rising c = search needs
-
 first-twin-requires : tie.Need-first-twin-requires
 first-twin-requires c κs = let i = c .before .before .before .before .before .before .scan .ensures .1 _ _ (c .before .before .rising .given .1) .0 in (i .short, i .clean)
-
-enum-known-number : tie.Need-enum-known-number
-enum-known-number c = search needs
-
-same-length : tie.Need-same-length
-same-length c = search needs
 
 returns : tie.Need-returns
 returns c =
@@ -34,17 +22,11 @@ returns c =
     let z = ltb-true (g .0 .1 .0) _ (and-right (g .0 .0) _ t) in
     (scan-rising _ _ (ap (λ (b : Bool). Ended b (g .0 .1 .0)) (sym (and-left (g .0 .0) _ t)) ∙ sym (g .1) ∙ s .ensures .0) (omega (arith, z, s .kept)) i, λ _. i)
 
-same-length-2 : tie.Need-same-length-2
-same-length-2 c = search needs
-
 returns-2 : tie.Need-returns-2
 returns-2 c =
     let s = c .before .before .before .before .before .before .before .scan in
     let i = s .ensures .1 _ _ (c .before .before .before .rising .given .1) .0 in
     (c .first-twin .ensures ∙ sym (scan-twins _ i), λ _. i)
-
-same-length-3 : tie.Need-same-length-3
-same-length-3 c = search needs
 
 returns-3 : tie.Need-returns-3
 returns-3 c = (scan-stopped _ _ (sym (c .before .number .given .1) ∙ c .before .before .before .before .before .scan .ensures .0), λ e. absurd (not-refused _ _ e))
@@ -53,13 +35,13 @@ pub open-spec : {M : Type 1} → statement M
 open-spec =
     tie.close
     (tie.spec
-    scan-requires
-    enum-known-rising
+    (λ c κs. search needs)
+    (λ c. search needs)
     first-twin-requires
-    enum-known-number
-    same-length
+    (λ c. search needs)
+    (λ c. search needs)
     returns
-    same-length-2
+    (λ c. search needs)
     returns-2
-    same-length-3
+    (λ c. search needs)
     returns-3)

@@ -5,9 +5,6 @@ use borrow.Author.Needs.{needs}
 use Rattle.lookup.proofs.part_at.Statement.{statement}
 use Rattle.lookup.proofs.part_at.Tie as tie
 
-place-at-requires : tie.Need-place-at-requires
-place-at-requires c κs = search needs
-
 bytes-of-requires : tie.Need-bytes-of-requires
 bytes-of-requires c κs = place-ends _ _ _ _ (c .place-at .ensures)
 
@@ -16,4 +13,4 @@ unfolding partAt
 returns c = c .bytes-of .ensures ∙ ap (partBytes _) (c .before .place-at .ensures)
 
 pub part-at-spec : {M : Type 1} → statement M
-part-at-spec = tie.close (tie.spec place-at-requires bytes-of-requires returns)
+part-at-spec = tie.close (tie.spec (λ c κs. search needs) bytes-of-requires returns)

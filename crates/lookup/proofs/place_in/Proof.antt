@@ -7,12 +7,6 @@ use Rattle.lookup.proofs.place_in.Tie as tie
 returns : tie.Need-returns
 returns c = simp (eq-eqb _ _ (c .if1 .taken))
 
-sub-start : tie.Need-sub-start
-sub-start c = search needs
-
-add-if2 : tie.Need-add-if2
-add-if2 c = search needs
-
 returns-2 : tie.Need-returns-2
 returns-2 c = rw (ne-eqb _ _ (c .before .if1 .left), lt-ltb _ _ (c .if2 .taken)) refl
 
@@ -20,4 +14,4 @@ returns-3 : tie.Need-returns-3
 returns-3 c = rw (ne-eqb _ _ (c .before .if1 .left), le-ltb _ _ (c .if2 .left)) refl
 
 pub place-in-spec : {M : Type 1} → statement M
-place-in-spec = tie.close (tie.spec returns sub-start add-if2 returns-2 returns-3)
+place-in-spec = tie.close (tie.spec returns (λ c. search needs) (λ c. search needs) returns-2 returns-3)

@@ -7,12 +7,6 @@ use borrow.Author.Needs.{needs}
 use Rattle.lookup.proofs.place_of.Statement.{statement}
 use Rattle.lookup.proofs.place_of.Tie as tie
 
-in-key-requires : tie.Need-in-key-requires
-in-key-requires c κs = search needs
-
-mark-shape-requires : tie.Need-mark-shape-requires
-mark-shape-requires c κs = search needs
-
 slot-of-requires : tie.Need-slot-of-requires
 slot-of-requires c κs = (key-small _ _ (test-key _ _ (c .before .before .before .before .before .pre .1) (sym (c .before .before .in-key .ensures) ∙ c .before .if1 .taken)), c .before .before .before .before .before .pre .1)
 
@@ -35,8 +29,8 @@ pub place-of-spec : {M : Type 1} → statement M
 place-of-spec =
     tie.close
     (tie.spec
-    in-key-requires
-    mark-shape-requires
+    (λ c κs. search needs)
+    (λ c κs. search needs)
     slot-of-requires
     place-at-requires
     returns

@@ -17,18 +17,6 @@ abbrev μ-loop : tie.MeasureT-loop
 loop-holds : tie.Need-loop-holds Inv-loop μ-loop
 loop-holds c = all-left _
 
-sub-kind-at : tie.Need-sub-kind-at Inv-loop μ-loop
-sub-kind-at c = search needs
-
-part-kind-at-start : tie.Need-part-kind-at-start Inv-loop μ-loop
-part-kind-at-start c = search needs
-
-part-kind-at-end : tie.Need-part-kind-at-end Inv-loop μ-loop
-part-kind-at-end c = search needs
-
-kind-at-requires : tie.Need-kind-at-requires Inv-loop μ-loop
-kind-at-requires c κs = search needs
-
 returns : tie.Need-returns Inv-loop μ-loop
 returns c = let l = c .before .before .before .before .loop in at-late _ (l .at) (c .before .before .before .loop-test .taken) (l .inv) (c .before .kind-at .ensures) (c .if1 .taken)
 
@@ -54,10 +42,10 @@ plain-spec =
     Inv-loop
     μ-loop
     loop-holds
-    sub-kind-at
-    part-kind-at-start
-    part-kind-at-end
-    kind-at-requires
+    (λ c. search needs)
+    (λ c. search needs)
+    (λ c. search needs)
+    (λ c κs. search needs)
     returns
     length-of-requires
     add-at

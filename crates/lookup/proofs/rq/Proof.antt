@@ -6,9 +6,6 @@ use borrow.Author.Needs.{needs}
 use Rattle.lookup.proofs.rq.Statement.{statement}
 use Rattle.lookup.proofs.rq.Tie as tie
 
-slot-rq-requires : tie.Need-slot-rq-requires
-slot-rq-requires c κs = search needs
-
 part-at-requires : tie.Need-part-at-requires
 part-at-requires c κs = (slot-fits _ _ (c .before .before .before .pre .0) 6 _ refl (request-key _ (c .before .before .before .pre .1) (c .before .before .before .pre .2)) (c .slot-rq .ensures), search needs)
 
@@ -17,4 +14,4 @@ unfolding size widths rowOf table
 returns c = c .part-at .ensures ∙ part-found _ _ (c .before .before .before .before .pre .0) 6 _ refl (request-key _ (c .before .before .before .before .pre .1) (c .before .before .before .before .pre .2)) (c .before .slot-rq .ensures) refl
 
 pub rq-spec : {M : Type 1} → statement M
-rq-spec = tie.close (tie.spec slot-rq-requires part-at-requires returns)
+rq-spec = tie.close (tie.spec (λ c κs. search needs) part-at-requires returns)

@@ -7,12 +7,6 @@ use Rattle.lookup.proofs.scan.Tie as tie
 returns : tie.Need-returns
 returns c = (scan-long _ _ (c .if1 .taken), λ b a e. absurd (not-ended e))
 
-pass-requires : tie.Need-pass-requires
-pass-requires c κs = search needs
-
-same-length : tie.Need-same-length
-same-length c = search needs
-
 returns-2 : tie.Need-returns-2
 returns-2 c =
     let p = c .before .before .before .before .before .before .before .pre in
@@ -21,4 +15,4 @@ returns-2 c =
     (scan-short _ _ (p .1) h (e .0), λ b m w. pass-indexed _ _ (p .1) (p .0) h (sym w ∙ e .0) (e .1))
 
 pub scan-spec : {M : Type 1} → statement M
-scan-spec = tie.close (tie.spec returns pass-requires same-length returns-2)
+scan-spec = tie.close (tie.spec returns (λ c κs. search needs) (λ c. search needs) returns-2)

@@ -6,62 +6,32 @@ use borrow.Author.Needs.{needs}
 use Rattle.lookup.proofs.slot_of.Statement.{statement}
 use Rattle.lookup.proofs.slot_of.Tie as tie
 
-slot-hp-requires : tie.Need-slot-hp-requires
-slot-hp-requires c κs = search needs
-
 returns : tie.Need-returns
 returns c = slot-kind (c .slot-hp .ensures) refl (c .before .if1 .taken)
-
-slot-fu-requires : tie.Need-slot-fu-requires
-slot-fu-requires c κs = search needs
 
 returns-2 : tie.Need-returns-2
 returns-2 c = slot-kind (c .slot-fu .ensures) refl (c .before .if2 .taken)
 
-slot-ad-requires : tie.Need-slot-ad-requires
-slot-ad-requires c κs = search needs
-
 returns-3 : tie.Need-returns-3
 returns-3 c = slot-kind (c .slot-ad .ensures) (omega arith) (c .before .if3 .taken)
-
-slot-mm-requires : tie.Need-slot-mm-requires
-slot-mm-requires c κs = search needs
 
 returns-4 : tie.Need-returns-4
 returns-4 c = slot-kind (c .slot-mm .ensures) (omega arith) (c .before .if4 .taken)
 
-slot-rq-requires : tie.Need-slot-rq-requires
-slot-rq-requires c κs = search needs
-
 returns-5 : tie.Need-returns-5
 returns-5 c = slot-kind (c .slot-rq .ensures) refl (c .before .if5 .taken)
-
-slot-hr-requires : tie.Need-slot-hr-requires
-slot-hr-requires c κs = search needs
 
 returns-6 : tie.Need-returns-6
 returns-6 c = slot-kind (c .slot-hr .ensures) refl (c .before .if6 .taken)
 
-slot-ch-requires : tie.Need-slot-ch-requires
-slot-ch-requires c κs = search needs
-
 returns-7 : tie.Need-returns-7
 returns-7 c = slot-kind (c .slot-ch .ensures) refl (c .before .if7 .taken)
-
-slot-th-requires : tie.Need-slot-th-requires
-slot-th-requires c κs = search needs
 
 returns-8 : tie.Need-returns-8
 returns-8 c = slot-kind (c .slot-th .ensures) (omega arith) (c .before .if8 .taken)
 
-slot-fp-requires : tie.Need-slot-fp-requires
-slot-fp-requires c κs = search needs
-
 returns-9 : tie.Need-returns-9
 returns-9 c = slot-kind (c .slot-fp .ensures) refl (c .before .if9 .taken)
-
-slot-lc-requires : tie.Need-slot-lc-requires
-slot-lc-requires c κs = search needs
 
 returns-10 : tie.Need-returns-10
 unfolding slot
@@ -74,24 +44,24 @@ pub slot-of-spec : {M : Type 1} → statement M
 slot-of-spec =
     tie.close
     (tie.spec
-    slot-hp-requires
+    (λ c κs. search needs)
     returns
-    slot-fu-requires
+    (λ c κs. search needs)
     returns-2
-    slot-ad-requires
+    (λ c κs. search needs)
     returns-3
-    slot-mm-requires
+    (λ c κs. search needs)
     returns-4
-    slot-rq-requires
+    (λ c κs. search needs)
     returns-5
-    slot-hr-requires
+    (λ c κs. search needs)
     returns-6
-    slot-ch-requires
+    (λ c κs. search needs)
     returns-7
-    slot-th-requires
+    (λ c κs. search needs)
     returns-8
-    slot-fp-requires
+    (λ c κs. search needs)
     returns-9
-    slot-lc-requires
+    (λ c κs. search needs)
     returns-10
     returns-11)

@@ -14,9 +14,6 @@ key : (p j : ℕ) → 1 ≤ p → p ≤ 3 → 1 ≤ j → j ≤ 4 → InKey 9 (p
 unfolding shapeOf shape rowOf table
 key p j a b x y = two-field 9 p j (lit≤ tt) (lit< tt) refl refl a b x y (lit< tt)
 
-slot-th-requires : tie.Need-slot-th-requires
-slot-th-requires c κs = search needs
-
 part-at-requires : tie.Need-part-at-requires
 part-at-requires c κs = (slot-fits _ _ (c .before .before .before .pre .0) 9 _ refl (key _ _ (c .before .before .before .pre .1) (c .before .before .before .pre .2) (c .before .before .before .pre .3) (c .before .before .before .pre .4)) (c .slot-th .ensures), search needs)
 
@@ -25,4 +22,4 @@ unfolding size widths rowOf table
 returns c = c .part-at .ensures ∙ part-found _ _ (c .before .before .before .before .pre .0) 9 _ refl (key _ _ (c .before .before .before .before .pre .1) (c .before .before .before .before .pre .2) (c .before .before .before .before .pre .3) (c .before .before .before .before .pre .4)) (c .before .slot-th .ensures) refl
 
 pub th-spec : {M : Type 1} → statement M
-th-spec = tie.close (tie.spec slot-th-requires part-at-requires returns)
+th-spec = tie.close (tie.spec (λ c κs. search needs) part-at-requires returns)

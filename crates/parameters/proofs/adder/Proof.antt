@@ -7,12 +7,6 @@ use Rattle.parameters.proofs.Bounds.{amount-read}
 use Rattle.parameters.proofs.adder.Statement.{statement}
 use Rattle.parameters.proofs.adder.Tie as tie
 
-ad-requires : tie.Need-ad-requires
-ad-requires c κs = search needs
-
-u64-at-requires : tie.Need-u64-at-requires
-u64-at-requires c κs = search needs
-
 returns : tie.Need-returns
 unfolding fieldOf rowOf table
 returns c =
@@ -20,4 +14,4 @@ returns c =
     amount-read (held-clean (a .pre .0)) AD (a .args .p * 65536 + a .args .c * 256 + a .args .v) 3 9 8 (adder-at _ (a .args .p) (a .args .c) (a .args .v)) (c .u64-at .ensures) (c .before .ad .ensures)
 
 pub adder-spec : {M : Type 1} → statement M
-adder-spec = tie.close (tie.spec ad-requires u64-at-requires returns)
+adder-spec = tie.close (tie.spec (λ c κs. search needs) (λ c κs. search needs) returns)

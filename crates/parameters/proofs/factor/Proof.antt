@@ -7,15 +7,6 @@ use Rattle.parameters.proofs.Bounds.{says-read}
 use Rattle.parameters.proofs.factor.Statement.{statement}
 use Rattle.parameters.proofs.factor.Tie as tie
 
-rs-requires : tie.Need-rs-requires
-rs-requires c κs = search needs
-
-u16-at-requires : tie.Need-u16-at-requires
-u16-at-requires c κs = search needs
-
-cast-result : tie.Need-cast-result
-cast-result c = search needs
-
 returns : tie.Need-returns
 unfolding fieldOf rowOf table
 returns c =
@@ -23,4 +14,4 @@ returns c =
     says-read (held-clean (a .pre)) RS 0 2 9 2 (factor-at _) (c .u16-at .ensures) (c .before .rs .ensures ∙ sym (held-always (a .pre) RS 0 refl))
 
 pub factor-spec : {M : Type 1} → statement M
-factor-spec = tie.close (tie.spec rs-requires u16-at-requires cast-result returns)
+factor-spec = tie.close (tie.spec (λ c κs. search needs) (λ c κs. search needs) (λ c. search needs) returns)

@@ -6,15 +6,6 @@ use Rattle.parameters.proofs.Bounds.{amount-read}
 use Rattle.parameters.proofs.fuel.Statement.{statement}
 use Rattle.parameters.proofs.fuel.Tie as tie
 
-fu-requires : tie.Need-fu-requires
-fu-requires c κs = search needs
-
-u32-at-requires : tie.Need-u32-at-requires
-u32-at-requires c κs = search needs
-
-cast-result : tie.Need-cast-result
-cast-result c = search needs
-
 returns : tie.Need-returns
 unfolding fieldOf rowOf table
 returns c =
@@ -22,4 +13,4 @@ returns c =
     amount-read (held-clean (a .pre .0)) FU (a .args .p) 1 7 4 (fuel-at _ (a .args .p)) (c .u32-at .ensures) (c .before .fu .ensures)
 
 pub fuel-spec : {M : Type 1} → statement M
-fuel-spec = tie.close (tie.spec fu-requires u32-at-requires cast-result returns)
+fuel-spec = tie.close (tie.spec (λ c κs. search needs) (λ c κs. search needs) (λ c. search needs) returns)

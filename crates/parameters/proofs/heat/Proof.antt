@@ -7,15 +7,6 @@ use Rattle.parameters.proofs.Bounds.{says-read}
 use Rattle.parameters.proofs.heat.Statement.{statement}
 use Rattle.parameters.proofs.heat.Tie as tie
 
-hp-requires : tie.Need-hp-requires
-hp-requires c κs = search needs
-
-u32-at-requires : tie.Need-u32-at-requires
-u32-at-requires c κs = search needs
-
-cast-result : tie.Need-cast-result
-cast-result c = search needs
-
 returns : tie.Need-returns
 unfolding fieldOf rowOf table
 returns c =
@@ -23,4 +14,4 @@ returns c =
     says-read (held-clean (a .pre .0)) HP (a .args .i) 2 9 4 (heat-at _ (a .args .i)) (c .u32-at .ensures) (c .before .hp .ensures ∙ sym (held-always (a .pre .0) HP (a .args .i) refl))
 
 pub heat-spec : {M : Type 1} → statement M
-heat-spec = tie.close (tie.spec hp-requires u32-at-requires cast-result returns)
+heat-spec = tie.close (tie.spec (λ c κs. search needs) (λ c κs. search needs) (λ c. search needs) returns)

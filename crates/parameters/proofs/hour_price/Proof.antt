@@ -7,19 +7,10 @@ use Rattle.parameters.proofs.Bounds.{price-read}
 use Rattle.parameters.proofs.hour_price.Statement.{statement}
 use Rattle.parameters.proofs.hour_price.Tie as tie
 
-hr-requires : tie.Need-hr-requires
-hr-requires c κs = search needs
-
-u32-at-requires : tie.Need-u32-at-requires
-u32-at-requires c κs = search needs
-
-biased-requires : tie.Need-biased-requires
-biased-requires c κs = search needs
-
 returns : tie.Need-returns
 returns c =
     let a = c .before .before .before .before .before in
     price-read (held-clean (a .pre .0)) HR (a .args .n) 1 7 (hourPrice-at _ (a .args .n)) (c .biased .ensures) (c .before .u32-at .ensures) (c .before .before .hr .ensures ∙ sym (held-always (a .pre .0) HR (a .args .n) refl)) .0
 
 pub hour-price-spec : {M : Type 1} → statement M
-hour-price-spec = tie.close (tie.spec hr-requires u32-at-requires biased-requires returns)
+hour-price-spec = tie.close (tie.spec (λ c κs. search needs) (λ c κs. search needs) (λ c κs. search needs) returns)

@@ -5,19 +5,10 @@ use Rattle.parameters.proofs.Bounds.{clean, price-read}
 use Rattle.parameters.proofs.place_price.Statement.{statement}
 use Rattle.parameters.proofs.place_price.Tie as tie
 
-fp-requires : tie.Need-fp-requires
-fp-requires c κs = search needs
-
-u32-at-requires : tie.Need-u32-at-requires
-u32-at-requires c κs = search needs
-
-biased-requires : tie.Need-biased-requires
-biased-requires c κs = search needs
-
 returns : tie.Need-returns
 returns c =
     let a = c .before .before .before .before .before in
     price-read (clean (a .pre .0)) FP (a .args .n) 1 8 (placePrice-at _ (a .args .n)) (c .biased .ensures) (c .before .u32-at .ensures) (c .before .before .fp .ensures) .0
 
 pub place-price-spec : {M : Type 1} → statement M
-place-price-spec = tie.close (tie.spec fp-requires u32-at-requires biased-requires returns)
+place-price-spec = tie.close (tie.spec (λ c κs. search needs) (λ c κs. search needs) (λ c κs. search needs) returns)

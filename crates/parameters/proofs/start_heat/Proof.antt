@@ -7,15 +7,6 @@ use Rattle.parameters.proofs.Bounds.{says-read}
 use Rattle.parameters.proofs.start_heat.Statement.{statement}
 use Rattle.parameters.proofs.start_heat.Tie as tie
 
-rs-requires : tie.Need-rs-requires
-rs-requires c κs = search needs
-
-u32-at-requires : tie.Need-u32-at-requires
-u32-at-requires c κs = search needs
-
-cast-result : tie.Need-cast-result
-cast-result c = search needs
-
 returns : tie.Need-returns
 unfolding fieldOf rowOf table
 returns c =
@@ -23,4 +14,4 @@ returns c =
     says-read (held-clean (a .pre)) RS 0 3 11 4 (startHeat-at _) (c .u32-at .ensures) (c .before .rs .ensures ∙ sym (held-always (a .pre) RS 0 refl))
 
 pub start-heat-spec : {M : Type 1} → statement M
-start-heat-spec = tie.close (tie.spec rs-requires u32-at-requires cast-result returns)
+start-heat-spec = tie.close (tie.spec (λ c κs. search needs) (λ c κs. search needs) (λ c. search needs) returns)

@@ -7,12 +7,6 @@ use Rattle.parameters.proofs.Bounds.{says-read}
 use Rattle.parameters.proofs.technology.Statement.{statement}
 use Rattle.parameters.proofs.technology.Tie as tie
 
-rs-requires : tie.Need-rs-requires
-rs-requires c κs = search needs
-
-u8-at-requires : tie.Need-u8-at-requires
-u8-at-requires c κs = search needs
-
 returns : tie.Need-returns
 unfolding fieldOf rowOf table
 returns c =
@@ -20,4 +14,4 @@ returns c =
     says-read (held-clean (a .pre)) RS 0 0 6 1 (technology-at _) (c .u8-at .ensures) (c .before .rs .ensures ∙ sym (held-always (a .pre) RS 0 refl))
 
 pub technology-spec : {M : Type 1} → statement M
-technology-spec = tie.close (tie.spec rs-requires u8-at-requires returns)
+technology-spec = tie.close (tie.spec (λ c κs. search needs) (λ c κs. search needs) returns)

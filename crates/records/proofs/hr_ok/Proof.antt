@@ -7,18 +7,6 @@ use borrow.Author.Needs.{needs}
 use Rattle.records.proofs.hr_ok.Statement.{statement}
 use Rattle.records.proofs.hr_ok.Tie as tie
 
-element-copy-out-in1 : tie.Need-element-copy-out-in1
-element-copy-out-in1 c = search needs
-
-element-copy-out-in1-2 : tie.Need-element-copy-out-in1-2
-element-copy-out-in1-2 c = search needs
-
-in1-requires : tie.Need-in1-requires
-in1-requires c κs = search needs
-
-price-requires : tie.Need-price-requires
-price-requires c κs = search needs
-
 returns : tie.Need-returns
 unfolding rangesHold allBelow inRange agrees value read offset offsetIn fieldOf rowOf table
 returns c = rw (c .before .in1 .ensures, c .price .ensures) (sym (and-true _))
@@ -27,8 +15,8 @@ pub hr-ok-spec : {M : Type 1} → statement M
 hr-ok-spec =
     tie.close
     (tie.spec
-    element-copy-out-in1
-    element-copy-out-in1-2
-    in1-requires
-    price-requires
+    (λ c. search needs)
+    (λ c. search needs)
+    (λ c κs. search needs)
+    (λ c κs. search needs)
     returns)

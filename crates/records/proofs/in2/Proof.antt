@@ -3,12 +3,9 @@ use borrow.Author.Needs.{needs}
 use Rattle.records.proofs.in2.Statement.{statement}
 use Rattle.records.proofs.in2.Tie as tie
 
-u16-at-requires : tie.Need-u16-at-requires
-u16-at-requires c κs = search needs
-
 returns : tie.Need-returns
 unfolding between
 returns c = simp (c .u16-at .ensures)
 
 pub in2-spec : {M : Type 1} → statement M
-in2-spec = tie.close (tie.spec u16-at-requires returns)
+in2-spec = tie.close (tie.spec (λ c κs. search needs) returns)

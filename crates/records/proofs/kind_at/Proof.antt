@@ -7,78 +7,45 @@ use Rattle.records.proofs.Marks.{letters-no-key, letters-keyless}
 use Rattle.records.proofs.kind_at.Statement.{statement}
 use Rattle.records.proofs.kind_at.Tie as tie
 
-is-mark-requires : tie.Need-is-mark-requires
-is-mark-requires c κs = search needs
-
 returns : tie.Need-returns
 unfolding markIn table
 returns c = sym (begun 67 72 _ (sym (c .before .is-mark .ensures) ∙ c .if1 .taken))
-
-is-mark-requires-2 : tie.Need-is-mark-requires-2
-is-mark-requires-2 c κs = search needs
 
 returns-2 : tie.Need-returns-2
 unfolding markIn table
 returns-2 c = sym (begun 72 80 _ (sym (c .before .is-mark2 .ensures) ∙ c .if2 .taken))
 
-is-mark-requires-3 : tie.Need-is-mark-requires-3
-is-mark-requires-3 c κs = search needs
-
 returns-3 : tie.Need-returns-3
 unfolding markIn table
 returns-3 c = sym (begun 84 72 _ (sym (c .before .is-mark3 .ensures) ∙ c .if3 .taken))
-
-is-mark-requires-4 : tie.Need-is-mark-requires-4
-is-mark-requires-4 c κs = search needs
 
 returns-4 : tie.Need-returns-4
 unfolding markIn table
 returns-4 c = sym (begun 72 82 _ (sym (c .before .is-mark4 .ensures) ∙ c .if4 .taken))
 
-is-mark-requires-5 : tie.Need-is-mark-requires-5
-is-mark-requires-5 c κs = search needs
-
 returns-5 : tie.Need-returns-5
 unfolding markIn table
 returns-5 c = sym (begun 70 80 _ (sym (c .before .is-mark5 .ensures) ∙ c .if5 .taken))
-
-is-mark-requires-6 : tie.Need-is-mark-requires-6
-is-mark-requires-6 c κs = search needs
 
 returns-6 : tie.Need-returns-6
 unfolding markIn table
 returns-6 c = sym (begun 70 85 _ (sym (c .before .is-mark6 .ensures) ∙ c .if6 .taken))
 
-is-mark-requires-7 : tie.Need-is-mark-requires-7
-is-mark-requires-7 c κs = search needs
-
 returns-7 : tie.Need-returns-7
 unfolding markIn table
 returns-7 c = sym (begun 65 68 _ (sym (c .before .is-mark7 .ensures) ∙ c .if7 .taken))
-
-is-mark-requires-8 : tie.Need-is-mark-requires-8
-is-mark-requires-8 c κs = search needs
 
 returns-8 : tie.Need-returns-8
 unfolding markIn table
 returns-8 c = sym (begun 77 77 _ (sym (c .before .is-mark8 .ensures) ∙ c .if8 .taken))
 
-is-mark-requires-9 : tie.Need-is-mark-requires-9
-is-mark-requires-9 c κs = search needs
-
 returns-9 : tie.Need-returns-9
 unfolding markIn table
 returns-9 c = sym (begun 82 81 _ (sym (c .before .is-mark9 .ensures) ∙ c .if9 .taken))
 
-is-mark-requires-10 : tie.Need-is-mark-requires-10
-is-mark-requires-10 c κs = search needs
-
 returns-10 : tie.Need-returns-10
 unfolding markIn table
 returns-10 c = sym (begun 82 83 _ (sym (c .before .is-mark10 .ensures) ∙ c .if10 .taken))
-
-is-mark-requires-11 : tie.Need-is-mark-requires-11
-is-mark-requires-11 c κs = search needs
 
 returns-11 : tie.Need-returns-11
 unfolding markIn table
@@ -102,26 +69,26 @@ pub kind-at-spec : {M : Type 1} → statement M
 kind-at-spec =
     tie.close
     (tie.spec
-    is-mark-requires
+    (λ c κs. search needs)
     returns
-    is-mark-requires-2
+    (λ c κs. search needs)
     returns-2
-    is-mark-requires-3
+    (λ c κs. search needs)
     returns-3
-    is-mark-requires-4
+    (λ c κs. search needs)
     returns-4
-    is-mark-requires-5
+    (λ c κs. search needs)
     returns-5
-    is-mark-requires-6
+    (λ c κs. search needs)
     returns-6
-    is-mark-requires-7
+    (λ c κs. search needs)
     returns-7
-    is-mark-requires-8
+    (λ c κs. search needs)
     returns-8
-    is-mark-requires-9
+    (λ c κs. search needs)
     returns-9
-    is-mark-requires-10
+    (λ c κs. search needs)
     returns-10
-    is-mark-requires-11
+    (λ c κs. search needs)
     returns-11
     returns-12)

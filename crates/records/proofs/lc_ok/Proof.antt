@@ -7,9 +7,6 @@ use borrow.Author.Needs.{needs}
 use Rattle.records.proofs.lc_ok.Statement.{statement}
 use Rattle.records.proofs.lc_ok.Tie as tie
 
-in4-requires : tie.Need-in4-requires
-in4-requires c κs = search needs
-
 returns : tie.Need-returns
 unfolding rangesHold allBelow inRange agrees value read offset offsetIn fieldOf rowOf table
 returns c = c .in4 .ensures ∙ sym (and-true _)
@@ -18,5 +15,5 @@ pub lc-ok-spec : {M : Type 1} → statement M
 lc-ok-spec =
     tie.close
     (tie.spec
-    in4-requires
+    (λ c κs. search needs)
     returns)

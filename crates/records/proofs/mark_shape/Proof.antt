@@ -6,15 +6,9 @@ use borrow.Author.Needs.{needs}
 use Rattle.records.proofs.mark_shape.Statement.{statement}
 use Rattle.records.proofs.mark_shape.Tie as tie
 
-mul-result : tie.Need-mul-result
-mul-result c = search needs
-
-array-copy-out-result : tie.Need-array-copy-out-result
-array-copy-out-result c = search needs
-
 returns : tie.Need-returns
 unfolding shapes shape widths keyIn table
 returns c = shape-at _ _ (c .before .pre)
 
 pub mark-shape-spec : {M : Type 1} → statement M
-mark-shape-spec = tie.close (tie.spec mul-result array-copy-out-result returns)
+mark-shape-spec = tie.close (tie.spec (λ c. search needs) (λ c. search needs) returns)

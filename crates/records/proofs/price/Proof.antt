@@ -4,18 +4,9 @@ use borrow.Author.Needs.{needs}
 use Rattle.records.proofs.price.Statement.{statement}
 use Rattle.records.proofs.price.Tie as tie
 
-u32-at-requires : tie.Need-u32-at-requires
-u32-at-requires c κs = search needs
-
-cast-x : tie.Need-cast-x
-cast-x c = search needs
-
-add-x : tie.Need-add-x
-add-x c = search needs
-
 returns : tie.Need-returns
 unfolding between biased
 returns c = simp (c .u32-at .ensures)
 
 pub price-spec : {M : Type 1} → statement M
-price-spec = tie.close (tie.spec u32-at-requires cast-x add-x returns)
+price-spec = tie.close (tie.spec (λ c κs. search needs) (λ c. search needs) (λ c. search needs) returns)

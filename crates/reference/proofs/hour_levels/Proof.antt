@@ -21,38 +21,8 @@ is-hydro c =
     let a = t .before .before .before .before .before .before .before in
     omega (arith, technology-low (accepted-sound (a .args .d .now) (a .pre .0) .1), says-always (a .pre .1) RS 0 refl 0, t .technology .ensures .0, t .technology .ensures .1, c .if3 .left, c .before .before .if2 .left, c .before .before .before .if1 .left)
 
-profile-requires : tie.Need-profile-requires
-profile-requires c κs = search needs
-
-technology-requires : tie.Need-technology-requires
-technology-requires c κs = search needs
-
-thermal-levels-requires : tie.Need-thermal-levels-requires
-thermal-levels-requires c κs = search needs
-
-same-length : tie.Need-same-length
-same-length c = search needs
-
-same-length-2 : tie.Need-same-length-2
-same-length-2 c = search needs
-
-same-length-3 : tie.Need-same-length-3
-same-length-3 c = search needs
-
 returns : tie.Need-returns
 returns c = levels-packed (c .before .before .before .before .before .before .before .before .before .before .before .before .before .before .before .before .before .before .pre .1) _ (c .before .before .before .before .before .before .before .before .before .before .before .before .profile .ensures .0) (c .before .before .before .before .before .before .thermal-levels .ensures)
-
-nuclear-energy-requires : tie.Need-nuclear-energy-requires
-nuclear-energy-requires c κs = search needs
-
-one-lamination-requires : tie.Need-one-lamination-requires
-one-lamination-requires c κs = search needs
-
-same-length-4 : tie.Need-same-length-4
-same-length-4 c = search needs
-
-same-length-5 : tie.Need-same-length-5
-same-length-5 c = search needs
 
 returns-2 : tie.Need-returns-2
 returns-2 c =
@@ -64,9 +34,6 @@ returns-2 c =
     (one-handed (l .one-lamination .ensures .0) (a .2) (l .one-lamination .ensures .1) (l .one-lamination .ensures .2)
     (nuclear-packed _ _ _ (sym (t .technology .ensures .0) ∙ n .before .if2 .taken) (n .nuclear-energy .ensures)))
 
-adders-requires : tie.Need-adders-requires
-adders-requires c κs = search needs
-
 storage-energy-requires : tie.Need-storage-energy-requires
 storage-energy-requires c κs =
     let p = c .before .before .before .before .before in
@@ -75,15 +42,6 @@ storage-energy-requires c κs =
     let e : technology (parametersIn (a .args .d .now)) ≡ 3 = sym (c .before .before .before .before .technology .ensures .0 ∙ says-always i RS 0 refl 0) ∙ c .if3 .taken in
     let w = says-always i RS 0 refl 8 in
     (i, p .profile .ensures .1, p .profile .ensures .2, omega (arith, hours-fit (accepted-sound (a .args .d .now) (a .pre .0) .1) e, full-hours-always i, w), omega (arith, storage-window _ _ i e, w))
-
-one-lamination-requires-2 : tie.Need-one-lamination-requires-2
-one-lamination-requires-2 c κs = search needs
-
-same-length-6 : tie.Need-same-length-6
-same-length-6 c = search needs
-
-same-length-7 : tie.Need-same-length-7
-same-length-7 c = search needs
 
 returns-3 : tie.Need-returns-3
 returns-3 c =
@@ -102,15 +60,6 @@ hydro-energy-requires c κs =
     let i = a .pre .1 in
     (i, p .profile .ensures .1, p .profile .ensures .2, omega (arith, places-fit (accepted-sound (a .args .d .now) (a .pre .0) .1) (sym (says-always i RS 0 refl 0) ∙ is-hydro c), says-always i RS 0 refl 8))
 
-one-lamination-requires-3 : tie.Need-one-lamination-requires-3
-one-lamination-requires-3 c κs = search needs
-
-same-length-8 : tie.Need-same-length-8
-same-length-8 c = search needs
-
-same-length-9 : tie.Need-same-length-9
-same-length-9 c = search needs
-
 returns-4 : tie.Need-returns-4
 returns-4 c =
     let l = c .before .before .before .before in
@@ -125,26 +74,26 @@ pub hour-levels-spec : {M : Type 1} → statement M
 hour-levels-spec =
     tie.close
     (tie.spec
-    profile-requires
-    technology-requires
-    thermal-levels-requires
-    same-length
-    same-length-2
-    same-length-3
+    (λ c κs. search needs)
+    (λ c κs. search needs)
+    (λ c κs. search needs)
+    (λ c. search needs)
+    (λ c. search needs)
+    (λ c. search needs)
     returns
-    nuclear-energy-requires
-    one-lamination-requires
-    same-length-4
-    same-length-5
+    (λ c κs. search needs)
+    (λ c κs. search needs)
+    (λ c. search needs)
+    (λ c. search needs)
     returns-2
-    adders-requires
+    (λ c κs. search needs)
     storage-energy-requires
-    one-lamination-requires-2
-    same-length-6
-    same-length-7
+    (λ c κs. search needs)
+    (λ c. search needs)
+    (λ c. search needs)
     returns-3
     hydro-energy-requires
-    one-lamination-requires-3
-    same-length-8
-    same-length-9
+    (λ c κs. search needs)
+    (λ c. search needs)
+    (λ c. search needs)
     returns-4)

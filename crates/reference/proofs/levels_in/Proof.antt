@@ -4,9 +4,6 @@ use Rattle.reference.proofs.Packed.{levels-accepted, levels-refused}
 use Rattle.reference.proofs.levels_in.Statement.{statement}
 use Rattle.reference.proofs.levels_in.Tie as tie
 
-judge-requires : tie.Need-judge-requires
-judge-requires c κs = search needs
-
 enum-told : tie.Need-enum-told
 enum-told c = search needs
 
@@ -16,22 +13,10 @@ whole-levels-requires c κs =
     let j = c .before .before .before .before .before in
     (record { clean = sym (j .judge .ensures .0) ∙ told }, j .judge .ensures .1 told)
 
-enum-known-number : tie.Need-enum-known-number
-enum-known-number c = search needs
-
-no-levels-requires : tie.Need-no-levels-requires
-no-levels-requires c κs = search needs
-
-same-length : tie.Need-same-length
-same-length c = search needs
-
 returns : tie.Need-returns
 returns c =
     let j = c .before .before .before .before .before .before in
     levels-accepted _ _ (sym (j .judge .ensures .0) ∙ c .before .before .enum-told .given .1) (c .whole-levels .ensures)
-
-same-length-2 : tie.Need-same-length-2
-same-length-2 c = search needs
 
 returns-2 : tie.Need-returns-2
 returns-2 c =
@@ -42,12 +27,12 @@ pub levels-in-spec : {M : Type 1} → statement M
 levels-in-spec =
     tie.close
     (tie.spec
-    judge-requires
+    (λ c κs. search needs)
     enum-told
     whole-levels-requires
-    enum-known-number
-    no-levels-requires
-    same-length
+    (λ c. search needs)
+    (λ c κs. search needs)
+    (λ c. search needs)
     returns
-    same-length-2
+    (λ c. search needs)
     returns-2)

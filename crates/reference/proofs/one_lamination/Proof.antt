@@ -7,26 +7,11 @@ use Rattle.reference.proofs.Packed.{twenty, first-set}
 use Rattle.reference.proofs.one_lamination.Statement.{statement}
 use Rattle.reference.proofs.one_lamination.Tie as tie
 
-from-sum-requires : tie.Need-from-sum-requires
-from-sum-requires c κs = search needs
-
-from-sum-requires-2 : tie.Need-from-sum-requires-2
-from-sum-requires-2 c κs = search needs
-
-capacity-requires : tie.Need-capacity-requires
-capacity-requires c κs = search needs
-
 slice-write-to : tie.Need-slice-write-to
 slice-write-to c = omega (arith, twenty (c .before .before .before .before .before .before .before .pre .1))
 
 slice-write-cents : tie.Need-slice-write-cents
 slice-write-cents c = omega (arith, twenty (c .before .before .before .before .before .before .before .pre .2))
-
-same-length : tie.Need-same-length
-same-length c = search needs
-
-same-length-2 : tie.Need-same-length-2
-same-length-2 c = search needs
 
 returns : tie.Need-returns
 returns c =
@@ -38,11 +23,11 @@ pub one-lamination-spec : {M : Type 1} → statement M
 one-lamination-spec =
     tie.close
     (tie.spec
-    from-sum-requires
-    from-sum-requires-2
-    capacity-requires
+    (λ c κs. search needs)
+    (λ c κs. search needs)
+    (λ c κs. search needs)
     slice-write-to
     slice-write-cents
-    same-length
-    same-length-2
+    (λ c. search needs)
+    (λ c. search needs)
     returns)

@@ -5,15 +5,6 @@ use Rattle.reference.proofs.Single.{single-amount}
 use Rattle.reference.proofs.single_level.Statement.{statement}
 use Rattle.reference.proofs.single_level.Tie as tie
 
-profile-requires : tie.Need-profile-requires
-profile-requires c κs = search needs
-
-single-sum-requires : tie.Need-single-sum-requires
-single-sum-requires c κs = search needs
-
-from-sum-requires : tie.Need-from-sum-requires
-from-sum-requires c κs = search needs
-
 returns : tie.Need-returns
 returns c =
     let a = c .before .before .before .before .before in
@@ -23,4 +14,4 @@ returns c =
 
 pub single-level-spec : {M : Type 1} → statement M
 single-level-spec =
-    tie.close (tie.spec profile-requires single-sum-requires from-sum-requires returns)
+    tie.close (tie.spec (λ c κs. search needs) (λ c κs. search needs) (λ c κs. search needs) returns)

@@ -4,22 +4,13 @@ use Rattle.reference.specs.Packed.{singleSum}
 use Rattle.reference.proofs.single_sum.Statement.{statement}
 use Rattle.reference.proofs.single_sum.Tie as tie
 
-start-cost-requires : tie.Need-start-cost-requires
-start-cost-requires c κs = search needs
-
 returns : tie.Need-returns
 unfolding singleSum
 returns c = rw (eq-eqb _ _ (c .before .if1 .taken)) (c .start-cost .ensures)
 
-no-load-cost-requires : tie.Need-no-load-cost-requires
-no-load-cost-requires c κs = search needs
-
 returns-2 : tie.Need-returns-2
 unfolding singleSum
 returns-2 c = rw (ne-eqb _ _ (c .before .before .if1 .left), eq-eqb _ _ (c .before .if2 .taken)) (c .no-load-cost .ensures)
-
-adders-requires : tie.Need-adders-requires
-adders-requires c κs = search needs
 
 returns-3 : tie.Need-returns-3
 unfolding singleSum
@@ -29,9 +20,9 @@ pub single-sum-spec : {M : Type 1} → statement M
 single-sum-spec =
     tie.close
     (tie.spec
-    start-cost-requires
+    (λ c κs. search needs)
     returns
-    no-load-cost-requires
+    (λ c κs. search needs)
     returns-2
-    adders-requires
+    (λ c κs. search needs)
     returns-3)

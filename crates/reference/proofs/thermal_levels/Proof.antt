@@ -7,39 +7,6 @@ use Rattle.reference.proofs.Packed.{thermal-packed}
 use Rattle.reference.proofs.thermal_levels.Statement.{statement}
 use Rattle.reference.proofs.thermal_levels.Tie as tie
 
-lamination-count-requires : tie.Need-lamination-count-requires
-lamination-count-requires c κs = search needs
-
-laminations-requires : tie.Need-laminations-requires
-laminations-requires c κs = search needs
-
-start-cost-requires : tie.Need-start-cost-requires
-start-cost-requires c κs = search needs
-
-from-sum-requires : tie.Need-from-sum-requires
-from-sum-requires c κs = search needs
-
-no-load-cost-requires : tie.Need-no-load-cost-requires
-no-load-cost-requires c κs = search needs
-
-from-sum-requires-2 : tie.Need-from-sum-requires-2
-from-sum-requires-2 c κs = search needs
-
-adders-requires : tie.Need-adders-requires
-adders-requires c κs = search needs
-
-from-sum-requires-3 : tie.Need-from-sum-requires-3
-from-sum-requires-3 c κs = search needs
-
-same-length : tie.Need-same-length
-same-length c = search needs
-
-same-length-2 : tie.Need-same-length-2
-same-length-2 c = search needs
-
-same-length-3 : tie.Need-same-length-3
-same-length-3 c = search needs
-
 returns : tie.Need-returns
 returns c =
     let n = c .before .before .before in
@@ -56,15 +23,15 @@ pub thermal-levels-spec : {M : Type 1} → statement M
 thermal-levels-spec =
     tie.close
     (tie.spec
-    lamination-count-requires
-    laminations-requires
-    start-cost-requires
-    from-sum-requires
-    no-load-cost-requires
-    from-sum-requires-2
-    adders-requires
-    from-sum-requires-3
-    same-length
-    same-length-2
-    same-length-3
+    (λ c κs. search needs)
+    (λ c κs. search needs)
+    (λ c κs. search needs)
+    (λ c κs. search needs)
+    (λ c κs. search needs)
+    (λ c κs. search needs)
+    (λ c κs. search needs)
+    (λ c κs. search needs)
+    (λ c. search needs)
+    (λ c. search needs)
+    (λ c. search needs)
     returns)

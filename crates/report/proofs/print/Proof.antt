@@ -40,49 +40,19 @@ put-refusal-requires : tie.Need-put-refusal-requires
 put-refusal-requires c κs =
     let i = input (c .before .before .before .before) in omega (arith, prints-fits i, ap length (prints-short i (c .before .if1 .taken)))
 
-same-length : tie.Need-same-length
-same-length c = search needs
-
 returns : tie.Need-returns
 returns c =
     let s = c .before .before .before .before .before .before .before in
     rw (prints-short (input s) (c .before .before .before .before .if1 .taken)) (c .before .before .put-refusal .ensures)
 
-sub-report : tie.Need-sub-report
-sub-report c = search needs
-
-part-report-start : tie.Need-part-report-start
-part-report-start c = search needs
-
-part-report-end : tie.Need-part-report-end
-part-report-end c = search needs
-
-u32-at-requires : tie.Need-u32-at-requires
-u32-at-requires c κs = search needs
-
-report-requires : tie.Need-report-requires
-report-requires c κs = search needs
-
-enum-known-len : tie.Need-enum-known-len
-enum-known-len c = search needs
-
-enum-known-number : tie.Need-enum-known-number
-enum-known-number c = search needs
-
 put-refusal-requires-2 : tie.Need-put-refusal-requires-2
 put-refusal-requires-2 c κs =
     omega (arith, prints-fits (input (start (c .before .before .before .before))), ap length (refused (c .before) .0))
-
-same-length-2 : tie.Need-same-length-2
-same-length-2 c = search needs
 
 returns-2 : tie.Need-returns-2
 returns-2 c =
     let r = c .before .before .before in
     print-report (input (start r)) (start r .args .out .now) (start r .pre) (r .before .before .before .before .before .before .if1 .left) _ (told r (c .before .len .given .1))
-
-same-length-3 : tie.Need-same-length-3
-same-length-3 c = search needs
 
 returns-3 : tie.Need-returns-3
 returns-3 c =
@@ -96,17 +66,17 @@ print-spec =
     tie.close
     (tie.spec
     put-refusal-requires
-    same-length
+    (λ c. search needs)
     returns
-    sub-report
-    part-report-start
-    part-report-end
-    u32-at-requires
-    report-requires
-    enum-known-len
-    enum-known-number
+    (λ c. search needs)
+    (λ c. search needs)
+    (λ c. search needs)
+    (λ c κs. search needs)
+    (λ c κs. search needs)
+    (λ c. search needs)
+    (λ c. search needs)
     put-refusal-requires-2
-    same-length-2
+    (λ c. search needs)
     returns-2
-    same-length-3
+    (λ c. search needs)
     returns-3)

@@ -8,24 +8,12 @@ use Rattle.report.proofs.Buffer.{packed-is, told-levels, told-refusal}
 use Rattle.report.proofs.report_in.Statement.{statement}
 use Rattle.report.proofs.report_in.Tie as tie
 
-judge-requires : tie.Need-judge-requires
-judge-requires c κs = search needs
-
 enum-told : tie.Need-enum-told
 enum-told c = search needs
 
 -- what `judge` found is the dossier's answer
 answer-is : (c : tie.After-judge) {a : Answer} → c .judge .result ≡ a → answer (c .before .before .before .before .before .args .d .now) ≡ a
 answer-is c e = sym (c .judge .ensures .0) ∙ e
-
-slice-aggregate-hour-levels : tie.Need-slice-aggregate-hour-levels
-slice-aggregate-hour-levels c = search needs
-
-slice-aggregate-hour-levels-2 : tie.Need-slice-aggregate-hour-levels-2
-slice-aggregate-hour-levels-2 c = search needs
-
-slice-aggregate-hour-levels-3 : tie.Need-slice-aggregate-hour-levels-3
-slice-aggregate-hour-levels-3 c = search needs
 
 hour-levels-requires : tie.Need-hour-levels-requires
 hour-levels-requires c κs =
@@ -38,15 +26,6 @@ put-report-requires c κs =
     let args = l .before .before .before .before .before .before .before .before .before .before .before .before .before .before .args in
     handed-count (args .d .now) (args .hour) _ (l .hour-levels .ensures)
 
-enum-known-number : tie.Need-enum-known-number
-enum-known-number c = search needs
-
-same-length : tie.Need-same-length
-same-length c = search needs
-
-same-length-2 : tie.Need-same-length-2
-same-length-2 c = search needs
-
 returns : tie.Need-returns
 returns c =
     let l = c .before .before .before .before .before .before .before .before .before .before in
@@ -55,9 +34,6 @@ returns c =
     let e = l .hour-levels .ensures in
     told-levels (args .d .now) (args .hour) (args .buf .now) _ (answer-is j (l .before .before .before .before .before .enum-told .given .1))
     (packed-is (args .d .now) (args .hour) _ (handed-shown (args .d .now) (args .hour) _ e) (handed-profile (args .d .now) (args .hour) _ e)) (c .before .before .put-report .ensures)
-
-same-length-3 : tie.Need-same-length-3
-same-length-3 c = search needs
 
 returns-2 : tie.Need-returns-2
 returns-2 c =
@@ -69,16 +45,16 @@ pub report-in-spec : {M : Type 1} → statement M
 report-in-spec =
     tie.close
     (tie.spec
-    judge-requires
+    (λ c κs. search needs)
     enum-told
-    slice-aggregate-hour-levels
-    slice-aggregate-hour-levels-2
-    slice-aggregate-hour-levels-3
+    (λ c. search needs)
+    (λ c. search needs)
+    (λ c. search needs)
     hour-levels-requires
     put-report-requires
-    enum-known-number
-    same-length
-    same-length-2
+    (λ c. search needs)
+    (λ c. search needs)
+    (λ c. search needs)
     returns
-    same-length-3
+    (λ c. search needs)
     returns-2)

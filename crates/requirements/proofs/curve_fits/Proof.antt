@@ -8,23 +8,11 @@ use borrow.Author.Needs.{needs}
 use Rattle.requirements.proofs.curve_fits.Statement.{statement}
 use Rattle.requirements.proofs.curve_fits.Tie as tie
 
-rs-requires : tie.Need-rs-requires
-rs-requires c κs = search needs
-
-u8-at-requires : tie.Need-u8-at-requires
-u8-at-requires c κs = search needs
-
 returns : tie.Need-returns
 returns c = curve-none (parameters (records (c .before .before .before .before .before .args .d .now))) _ (c .before .u8-at .ensures ∙ ap (number 6 1) (c .before .before .rs .ensures) ∙ sym (technology-at (records (c .before .before .before .before .before .args .d .now)))) (c .if1 .taken)
 
-points-of-requires : tie.Need-points-of-requires
-points-of-requires c κs = search needs
-
 returns-2 : tie.Need-returns-2
 returns-2 c = curve-short (parameters (records (c .before .before .before .before .before .before .before .args .d .now))) _ (c .before .before .before .u8-at .ensures ∙ ap (number 6 1) (c .before .before .before .before .rs .ensures) ∙ sym (technology-at (records (c .before .before .before .before .before .before .before .args .d .now)))) (c .before .before .if1 .left) _ (c .before .points-of .ensures .0) (c .if2 .taken)
-
-curve-holds-requires : tie.Need-curve-holds-requires
-curve-holds-requires c κs = search needs
 
 returns-3 : tie.Need-returns-3
 returns-3 c = curve-whole (parameters (records (c .before .before .before .before .before .before .before .before .args .d .now))) _ (c .before .before .before .before .u8-at .ensures ∙ ap (number 6 1) (c .before .before .before .before .before .rs .ensures) ∙ sym (technology-at (records (c .before .before .before .before .before .before .before .before .args .d .now)))) (c .before .before .before .if1 .left) _ (c .before .before .points-of .ensures .0) (c .curve-holds .ensures)
@@ -33,10 +21,10 @@ pub curve-fits-spec : {M : Type 1} → statement M
 curve-fits-spec =
     tie.close
     (tie.spec
-    rs-requires
-    u8-at-requires
+    (λ c κs. search needs)
+    (λ c κs. search needs)
     returns
-    points-of-requires
+    (λ c κs. search needs)
     returns-2
-    curve-holds-requires
+    (λ c κs. search needs)
     returns-3)

@@ -19,53 +19,17 @@ abbrev μ-loop : tie.MeasureT-loop
 hp-requires : tie.Need-hp-requires Inv-loop μ-loop
 hp-requires c κs = (c .before .before .pre .0, omega arith, omega arith)
 
-u16-at-requires : tie.Need-u16-at-requires Inv-loop μ-loop
-u16-at-requires c κs = search needs
-
-u32-at-requires : tie.Need-u32-at-requires Inv-loop μ-loop
-u32-at-requires c κs = search needs
-
 loop-holds : tie.Need-loop-holds Inv-loop μ-loop
 loop-holds c = (omega arith, omega arith, along-first (records (c .before .before .before .before .before .args .d .now)) (c .before .before .hp .ensures) (c .before .u16-at .ensures) (c .u32-at .ensures))
 
-add-hp : tie.Need-add-hp Inv-loop μ-loop
-add-hp c = omega arith
-
 hp-requires-2 : tie.Need-hp-requires-2 Inv-loop μ-loop
 hp-requires-2 c κs = (c .before .before .before .before .before .before .before .pre .0, omega arith, omega arith)
-
-u16-at-requires-2 : tie.Need-u16-at-requires-2 Inv-loop μ-loop
-u16-at-requires-2 c κs = search needs
-
-u32-at-requires-2 : tie.Need-u32-at-requires-2 Inv-loop μ-loop
-u32-at-requires-2 c κs = search needs
-
-output-rise-requires : tie.Need-output-rise-requires Inv-loop μ-loop
-output-rise-requires c κs = search needs
-
-heat-rise-requires : tie.Need-heat-rise-requires Inv-loop μ-loop
-heat-rise-requires c κs = search needs
-
-product-requires : tie.Need-product-requires Inv-loop μ-loop
-product-requires c κs = search needs
-
-product-requires-2 : tie.Need-product-requires-2 Inv-loop μ-loop
-product-requires-2 c κs = search needs
-
-add-i : tie.Need-add-i Inv-loop μ-loop
-add-i c = omega arith
-
-loop-less : tie.Need-loop-less Inv-loop μ-loop
-loop-less c = omega arith
 
 loop-again : tie.Need-loop-again Inv-loop μ-loop
 loop-again c = (omega arith, omega arith, along-next (records (c .before .before .before .before .before .before .before .before .before .before .before .before .before .before .args .d .now)) (c .before .before .before .before .before .before .before .before .loop .i) (c .before .before .before .before .before .before .before .before .loop .inv .0) (c .before .before .before .before .before .before .before .before .loop .inv .2) (c .before .before .before .before .before .before .hp2 .ensures) (c .before .before .before .before .before .u16-at2 .ensures) (c .before .before .before .before .u32-at2 .ensures) (c .before .before .before .output-rise .ensures) (c .before .before .heat-rise .ensures) (c .before .product .ensures) (c .product2 .ensures))
 
 rs-requires : tie.Need-rs-requires Inv-loop μ-loop
 rs-requires c κs = c .before .before .before .before .before .before .before .pre .0
-
-u16-at-requires-3 : tie.Need-u16-at-requires-3 Inv-loop μ-loop
-u16-at-requires-3 c κs = search needs
 
 returns : tie.Need-returns Inv-loop μ-loop
 returns c = along-last (records (c .before .before .before .before .before .before .before .before .before .args .d .now)) (c .before .before .before .before .before .before .before .before .before .args .n) (c .before .before .before .loop .i) (c .before .before .before .before .before .before .before .before .before .pre .1) (c .before .before .loop-test .left) (c .before .before .before .loop .inv .1) (c .before .before .before .loop .inv .2) (c .u16-at3 .ensures ∙ ap (number 7 2) (c .before .rs .ensures) ∙ sym (capacity-at (records (c .before .before .before .before .before .before .before .before .before .args .d .now))))
@@ -77,20 +41,20 @@ curve-holds-spec =
     Inv-loop
     μ-loop
     hp-requires
-    u16-at-requires
-    u32-at-requires
+    (λ c κs. search needs)
+    (λ c κs. search needs)
     loop-holds
-    add-hp
+    (λ c. omega arith)
     hp-requires-2
-    u16-at-requires-2
-    u32-at-requires-2
-    output-rise-requires
-    heat-rise-requires
-    product-requires
-    product-requires-2
-    add-i
-    loop-less
+    (λ c κs. search needs)
+    (λ c κs. search needs)
+    (λ c κs. search needs)
+    (λ c κs. search needs)
+    (λ c κs. search needs)
+    (λ c κs. search needs)
+    (λ c. omega arith)
+    (λ c. omega arith)
     loop-again
     rs-requires
-    u16-at-requires-3
+    (λ c κs. search needs)
     returns)

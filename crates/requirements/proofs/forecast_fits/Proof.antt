@@ -9,22 +9,10 @@ use Rattle.requirements.proofs.Curve.{forecast-none, forecast-whole, wi
 use Rattle.requirements.proofs.forecast_fits.Statement.{statement}
 use Rattle.requirements.proofs.forecast_fits.Tie as tie
 
-rs-requires : tie.Need-rs-requires
-rs-requires c κs = search needs
-
-u8-at-requires : tie.Need-u8-at-requires
-u8-at-requires c κs = search needs
-
 returns : tie.Need-returns
 returns c =
     let l = records (c .before .before .before .before .before .args .d .now) in
     forecast-none (parameters l) _ (c .before .u8-at .ensures ∙ ap (number 6 1) (c .before .before .rs .ensures) ∙ sym (technology-at l)) (c .if1 .taken)
-
-u16-at-requires : tie.Need-u16-at-requires
-u16-at-requires c κs = search needs
-
-cast-places-there : tie.Need-cast-places-there
-cast-places-there c = search needs
 
 places-there-requires : tie.Need-places-there-requires
 places-there-requires c κs =
@@ -41,10 +29,10 @@ pub forecast-fits-spec : {M : Type 1} → statement M
 forecast-fits-spec =
     tie.close
     (tie.spec
-    rs-requires
-    u8-at-requires
+    (λ c κs. search needs)
+    (λ c κs. search needs)
     returns
-    u16-at-requires
-    cast-places-there
+    (λ c κs. search needs)
+    (λ c. search needs)
     places-there-requires
     returns-2)

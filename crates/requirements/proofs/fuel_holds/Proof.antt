@@ -4,14 +4,8 @@ use Rattle.requirements.proofs.Curve.{there-is, fuel-whole}
 use Rattle.requirements.proofs.fuel_holds.Statement.{statement}
 use Rattle.requirements.proofs.fuel_holds.Tie as tie
 
-fu-requires : tie.Need-fu-requires
-fu-requires c κs = search needs
-
-requests-fuelled-requires : tie.Need-requests-fuelled-requires
-requests-fuelled-requires c κs = search needs
-
 returns : tie.Need-returns
 returns c = fuel-whole _ (there-is _ FU 1 (c .before .fu .ensures)) (c .requests-fuelled .ensures)
 
 pub fuel-holds-spec : {M : Type 1} → statement M
-fuel-holds-spec = tie.close (tie.spec fu-requires requests-fuelled-requires returns)
+fuel-holds-spec = tie.close (tie.spec (λ c κs. search needs) (λ c κs. search needs) returns)

@@ -3,19 +3,10 @@ use Rattle.requirements.proofs.Curve.{hour-beyond, hour-told}
 use Rattle.requirements.proofs.hour_there.Statement.{statement}
 use Rattle.requirements.proofs.hour_there.Tie as tie
 
-slot-hr-requires : tie.Need-slot-hr-requires
-slot-hr-requires c κs = search needs
-
 returns : tie.Need-returns
 returns c =
     let p = c .before .before .before .before .pre in
     hour-beyond _ _ (p .0) _ (c .before .slot-hr .ensures) (p .1) (c .if1 .taken)
-
-mul-result : tie.Need-mul-result
-mul-result c = search needs
-
-shared-slice-read-result : tie.Need-shared-slice-read-result
-shared-slice-read-result c = search needs
 
 returns-2 : tie.Need-returns-2
 returns-2 c =
@@ -24,4 +15,4 @@ returns-2 c =
 
 pub hour-there-spec : {M : Type 1} → statement M
 hour-there-spec =
-    tie.close (tie.spec slot-hr-requires returns mul-result shared-slice-read-result returns-2)
+    tie.close (tie.spec (λ c κs. search needs) returns (λ c. search needs) (λ c. search needs) returns-2)

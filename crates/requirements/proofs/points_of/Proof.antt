@@ -24,12 +24,6 @@ abbrev μ-loop : tie.MeasureT-loop
 loop-holds : tie.Need-loop-holds Inv-loop μ-loop
 loop-holds c = (omega arith, omega arith, unfold countTo in refl)
 
-add-i : tie.Need-add-i Inv-loop μ-loop
-add-i c = omega arith
-
-slot-hp-requires : tie.Need-slot-hp-requires Inv-loop μ-loop
-slot-hp-requires c κs = omega arith
-
 in-index : (c : tie.After-slot-hp Inv-loop μ-loop) → c .slot-hp .result < length (c .before .before .before .before .before .args .index .now)
 in-index c = slot-fits _ _ (c .before .before .before .before .before .pre) HP (c .before .before .loop .i + 1) refl (point-key _ (omega arith) (omega arith)) (c .slot-hp .ensures)
 
@@ -39,26 +33,17 @@ mul-counted c = omega (arith, in-index c)
 shared-slice-read-counted : tie.Need-shared-slice-read-counted Inv-loop μ-loop
 shared-slice-read-counted c = in-index (c .before)
 
-counted-requires : tie.Need-counted-requires Inv-loop μ-loop
-counted-requires c κs = search needs
-
 at-most-one : (c : tie.After-counted Inv-loop μ-loop) → c .counted .result ≤ 1
 at-most-one c = rw (c .counted .ensures) (cond-holds (λ n. n ≤ 1) (eqb (getD (c .before .before .before .before .before .before .before .args .index .now) (c .before .before .slot-hp .result) 0) 0) 0 1 (omega arith) (omega arith))
 
 add-n : tie.Need-add-n Inv-loop μ-loop
 add-n c = omega (arith, at-most-one c)
 
-loop-less : tie.Need-loop-less Inv-loop μ-loop
-loop-less c = omega arith
-
 loop-again : tie.Need-loop-again Inv-loop μ-loop
 loop-again c =
     let l = c .before .before .before .before .loop in
     let a = c .before .before .before .before .before .before .before .args in
     (omega arith, omega (arith, at-most-one c), count-next (l .i) (parameters (records (a .d .now)) .has HP) (l .inv .2) (point-counted (a .d .now) (a .index .now) (c .before .before .before .before .before .before .before .pre) (l .i + 1) (omega arith) (omega arith) (c .before .before .slot-hp .ensures) (c .counted .ensures)))
-
-cast-result : tie.Need-cast-result Inv-loop μ-loop
-cast-result c = search needs
 
 returns : tie.Need-returns Inv-loop μ-loop
 returns c = (unfold points in (c .before .loop .inv .2 ∙ ap (λ (i : ℕ). countTo i (parameters (records (c .before .before .before .before .args .d .now)) .has HP)) (omega arith)), omega arith)
@@ -70,13 +55,13 @@ points-of-spec =
     Inv-loop
     μ-loop
     loop-holds
-    add-i
-    slot-hp-requires
+    (λ c. omega arith)
+    (λ c κs. omega arith)
     mul-counted
     shared-slice-read-counted
-    counted-requires
+    (λ c κs. search needs)
     add-n
-    loop-less
+    (λ c. omega arith)
     loop-again
-    cast-result
+    (λ c. search needs)
     returns)

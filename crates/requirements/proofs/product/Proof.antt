@@ -8,8 +8,5 @@ use Rattle.requirements.proofs.product.Tie as tie
 mul-result : tie.Need-mul-result
 mul-result c = let p : c .args .h ≤ 4294967295 = omega arith in let q : c .args .w ≤ 65535 = omega arith in omega (arith, mul-le-mul p q)
 
-returns : tie.Need-returns
-returns c = search needs
-
 pub product-spec : {M : Type 1} → statement M
-product-spec = tie.close (tie.spec mul-result returns)
+product-spec = tie.close (tie.spec mul-result (λ c. search needs))

@@ -8,15 +8,6 @@ use borrow.Author.Needs.{needs}
 use Rattle.requirements.proofs.request_fuelled.Statement.{statement}
 use Rattle.requirements.proofs.request_fuelled.Tie as tie
 
-rq-requires : tie.Need-rq-requires
-rq-requires c κs = search needs
-
-u8-at-requires : tie.Need-u8-at-requires
-u8-at-requires c κs = search needs
-
-cast-p : tie.Need-cast-p
-cast-p c = search needs
-
 returns : tie.Need-returns
 returns c = request-none (held (c .before .before .before .before .before .args .d .now) (c .before .before .before .before .before .args .index .now)) (c .before .before .before .before .before .args .n) (c .before .u8-at .result) (c .before .before .rq .ensures ∙ sym (held-always (c .before .before .before .before .before .pre .0) RQ _ refl)) (c .before .u8-at .ensures) (c .if1 .taken)
 
@@ -28,4 +19,4 @@ returns-2 c = request-named (held (c .before .before .before .before .before .be
 
 pub request-fuelled-spec : {M : Type 1} → statement M
 request-fuelled-spec =
-    tie.close (tie.spec rq-requires u8-at-requires cast-p returns fu-requires returns-2)
+    tie.close (tie.spec (λ c κs. search needs) (λ c κs. search needs) (λ c. search needs) returns fu-requires returns-2)

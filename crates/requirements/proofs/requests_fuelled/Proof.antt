@@ -22,9 +22,6 @@ Inv-loop d index ok₀ n₀ ok n = (n ≤ 16) × (ok ≡ allTo n (fuelled (param
 abbrev μ-loop : tie.MeasureT-loop
 μ-loop d index ok₀ n₀ ok n = 16 - n
 
-slot-rq-requires : tie.Need-slot-rq-requires Inv-loop μ-loop
-slot-rq-requires c κs = omega arith
-
 slots-empty-requires : tie.Need-slots-empty-requires Inv-loop μ-loop
 slots-empty-requires c κs = omega (arith, c .before .before .before .pre .roomy, c .slot-rq .ensures, at-one)
 
@@ -34,14 +31,8 @@ returns c = requests-none _ _ (c .before .before .before .before .before .pre) (
 loop-holds : tie.Need-loop-holds Inv-loop μ-loop
 loop-holds c = (omega arith, unfold allTo in refl)
 
-add-n : tie.Need-add-n Inv-loop μ-loop
-add-n c = omega arith
-
 request-fuelled-requires : tie.Need-request-fuelled-requires Inv-loop μ-loop
 request-fuelled-requires c κs = (c .before .before .before .before .before .before .before .pre, omega arith, omega arith)
-
-loop-less : tie.Need-loop-less Inv-loop μ-loop
-loop-less c = omega arith
 
 loop-again : tie.Need-loop-again Inv-loop μ-loop
 loop-again c = (omega arith, to-next (c .before .before .loop .n) (fuelled (parameters (held (c .before .before .before .before .before .before .before .before .args .d .now) (c .before .before .before .before .before .before .before .before .args .index .now)))) (c .before .before .loop .inv .1) (c .request-fuelled .ensures))
@@ -55,12 +46,12 @@ requests-fuelled-spec =
     (tie.spec
     Inv-loop
     μ-loop
-    slot-rq-requires
+    (λ c κs. omega arith)
     slots-empty-requires
     returns
     loop-holds
-    add-n
+    (λ c. omega arith)
     request-fuelled-requires
-    loop-less
+    (λ c. omega arith)
     loop-again
     returns-2)

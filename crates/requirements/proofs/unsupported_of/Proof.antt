@@ -7,26 +7,14 @@ use borrow.Author.Needs.{needs}
 use Rattle.requirements.proofs.unsupported_of.Statement.{statement}
 use Rattle.requirements.proofs.unsupported_of.Tie as tie
 
-curve-fits-requires : tie.Need-curve-fits-requires
-curve-fits-requires c κs = search needs
-
 returns : tie.Need-returns
 returns c = draws-7 _ _ (sym (not-true _ (c .if1 .taken)) ∙ c .before .curve-fits .ensures)
-
-fuel-holds-requires : tie.Need-fuel-holds-requires
-fuel-holds-requires c κs = search needs
 
 returns-2 : tie.Need-returns-2
 returns-2 c = draws-8 _ _ (sym (not-false _ (c .before .before .if1 .left)) ∙ c .before .before .before .curve-fits .ensures) (sym (not-true _ (c .if2 .taken)) ∙ c .before .fuel-holds .ensures ∙ ap fuelHolds (parameters-held (c .before .before .before .before .before .before .pre .0)))
 
-window-fits-requires : tie.Need-window-fits-requires
-window-fits-requires c κs = search needs
-
 returns-3 : tie.Need-returns-3
 returns-3 c = draws-9 _ _ (sym (not-false _ (c .before .before .before .before .if1 .left)) ∙ c .before .before .before .before .before .curve-fits .ensures) (sym (not-false _ (c .before .before .if2 .left)) ∙ c .before .before .before .fuel-holds .ensures ∙ ap fuelHolds (parameters-held (c .before .before .before .before .before .before .before .before .pre .0))) (sym (not-true _ (c .if3 .taken)) ∙ c .before .window-fits .ensures)
-
-forecast-fits-requires : tie.Need-forecast-fits-requires
-forecast-fits-requires c κs = search needs
 
 returns-4 : tie.Need-returns-4
 returns-4 c = draws-17 _ _ (sym (not-false _ (c .before .before .before .before .before .before .if1 .left)) ∙ c .before .before .before .before .before .before .before .curve-fits .ensures) (sym (not-false _ (c .before .before .before .before .if2 .left)) ∙ c .before .before .before .before .before .fuel-holds .ensures ∙ ap fuelHolds (parameters-held (c .before .before .before .before .before .before .before .before .before .before .pre .0))) (sym (not-false _ (c .before .before .if3 .left)) ∙ c .before .before .before .window-fits .ensures) (sym (not-true _ (c .if4 .taken)) ∙ c .before .forecast-fits .ensures)
@@ -38,12 +26,12 @@ pub unsupported-of-spec : {M : Type 1} → statement M
 unsupported-of-spec =
     tie.close
     (tie.spec
-    curve-fits-requires
+    (λ c κs. search needs)
     returns
-    fuel-holds-requires
+    (λ c κs. search needs)
     returns-2
-    window-fits-requires
+    (λ c κs. search needs)
     returns-3
-    forecast-fits-requires
+    (λ c κs. search needs)
     returns-4
     returns-5)

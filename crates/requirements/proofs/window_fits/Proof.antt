@@ -9,29 +9,11 @@ use Rattle.requirements.proofs.Curve.{window-none, window-whole, storag
 use Rattle.requirements.proofs.window_fits.Statement.{statement}
 use Rattle.requirements.proofs.window_fits.Tie as tie
 
-rs-requires : tie.Need-rs-requires
-rs-requires c κs = search needs
-
-u8-at-requires : tie.Need-u8-at-requires
-u8-at-requires c κs = search needs
-
 technology-is : (c : tie.After-u8-at) → c .u8-at .result ≡ technology (parameters (records (c .before .before .before .before .args .d .now)))
 technology-is c = c .u8-at .ensures ∙ ap (number 6 1) (c .before .rs .ensures) ∙ sym (technology-at (records (c .before .before .before .before .args .d .now)))
 
 returns : tie.Need-returns
 returns c = window-none (parameters (records (c .before .before .before .before .before .args .d .now))) _ (technology-is (c .before)) (c .if1 .taken)
-
-full-hours-requires : tie.Need-full-hours-requires
-full-hours-requires c κs = search needs
-
-u16-at-requires : tie.Need-u16-at-requires
-u16-at-requires c κs = search needs
-
-cast-result : tie.Need-cast-result
-cast-result c = search needs
-
-cast-hours-there : tie.Need-cast-hours-there
-cast-hours-there c = search needs
 
 window-is : (c : tie.After-u16-at) → c .u16-at .result ≡ window (parameters (records (c .before .before .before .before .before .before .before .args .d .now)))
 window-is c =
@@ -51,12 +33,12 @@ pub window-fits-spec : {M : Type 1} → statement M
 window-fits-spec =
     tie.close
     (tie.spec
-    rs-requires
-    u8-at-requires
+    (λ c κs. search needs)
+    (λ c κs. search needs)
     returns
-    full-hours-requires
-    u16-at-requires
-    cast-result
-    cast-hours-there
+    (λ c κs. search needs)
+    (λ c κs. search needs)
+    (λ c. search needs)
+    (λ c. search needs)
     hours-there-requires
     returns-2)

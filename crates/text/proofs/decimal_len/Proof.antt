@@ -20,15 +20,6 @@ abbrev μ-loop : tie.MeasureT-loop
 loop-holds : tie.Need-loop-holds Inv-loop μ-loop
 loop-holds c = (omega arith, refl, λ h. absurd (omega arith))
 
-mul-power : tie.Need-mul-power Inv-loop μ-loop
-mul-power c = omega arith
-
-add-tens : tie.Need-add-tens Inv-loop μ-loop
-add-tens c = omega arith
-
-loop-less : tie.Need-loop-less Inv-loop μ-loop
-loop-less c = omega arith
-
 loop-again : tie.Need-loop-again Inv-loop μ-loop
 loop-again c = (omega arith, rw (add-one, pow-suc, c .before .loop .inv .1), λ h. omega arith)
 
@@ -54,9 +45,9 @@ decimal-len-spec =
     Inv-loop
     μ-loop
     loop-holds
-    mul-power
-    add-tens
-    loop-less
+    (λ c. omega arith)
+    (λ c. omega arith)
+    (λ c. omega arith)
     loop-again
     add-result
     returns)

@@ -7,9 +7,6 @@ use Rattle.text.proofs.Lengths.{tenths-length, hundredths-length}
 use Rattle.text.proofs.hundredths_len.Statement.{statement}
 use Rattle.text.proofs.hundredths_len.Tie as tie
 
-tenths-len-requires : tie.Need-tenths-len-requires
-tenths-len-requires c κs = search needs
-
 add-result : tie.Need-add-result
 add-result c =
     let n = c .before .args .n / 10 in
@@ -19,4 +16,4 @@ returns : tie.Need-returns
 returns c = omega (arith, hundredths-length (c .before .args .n))
 
 pub hundredths-len-spec : {M : Type 1} → statement M
-hundredths-len-spec = tie.close (tie.spec tenths-len-requires add-result returns)
+hundredths-len-spec = tie.close (tie.spec (λ c κs. search needs) add-result returns)

@@ -4,12 +4,6 @@ use Rattle.text.proofs.Over.{copied}
 use Rattle.text.proofs.put.Statement.{statement}
 use Rattle.text.proofs.put.Tie as tie
 
-copy-requires : tie.Need-copy-requires
-copy-requires c κs = search needs
-
-same-length : tie.Need-same-length
-same-length c = search needs
-
 returns : tie.Need-returns
 returns c =
     let copy = c .before .before in
@@ -17,4 +11,4 @@ returns c =
     (copy .copy .ensures .0, copied word _ (copy .copy .ensures .1))
 
 pub put-spec : {M : Type 1} → statement M
-put-spec = tie.close (tie.spec copy-requires same-length returns)
+put-spec = tie.close (tie.spec (λ c κs. search needs) (λ c. search needs) returns)

@@ -21,23 +21,14 @@ Inv-loop buf₀ n len i₀ m₀ buf i m =
 abbrev μ-loop : tie.MeasureT-loop
 μ-loop buf₀ n len i₀ m₀ buf i m = m
 
-decimal-len-requires : tie.Need-decimal-len-requires Inv-loop μ-loop
-decimal-len-requires c κs = search needs
-
 loop-holds : tie.Need-loop-holds Inv-loop μ-loop
 loop-holds c = (omega arith, c .decimal-len .ensures, omega arith, refl, rw (c .decimal-len .ensures))
 
 sub-i : tie.Need-sub-i Inv-loop μ-loop
 sub-i c = omega (arith, decimal-within (c .before .loop .m))
 
-digit-requires : tie.Need-digit-requires Inv-loop μ-loop
-digit-requires c κs = search needs
-
 slice-write-buf : tie.Need-slice-write-buf Inv-loop μ-loop
 slice-write-buf c = omega (arith, decimal-within (c .before .before .loop .m))
-
-loop-less : tie.Need-loop-less Inv-loop μ-loop
-loop-less c = omega arith
 
 loop-again : tie.Need-loop-again Inv-loop μ-loop
 loop-again c =
@@ -50,9 +41,6 @@ loop-again c =
       simp length-set (l .inv .3),
       more _ (l .buf) (l .i) (l .m) (c .digit .result) t (omega arith) (omega arith) (l .inv .2) (c .digit .ensures) (l .inv .4),
     )
-
-digit-requires-2 : tie.Need-digit-requires-2 Inv-loop μ-loop
-digit-requires-2 c κs = search needs
 
 slice-write-buf-2 : tie.Need-slice-write-buf-2 Inv-loop μ-loop
 slice-write-buf-2 c = omega (arith, decimal-within (c .before .before .loop .m))
@@ -75,14 +63,14 @@ put-decimal-spec =
     (tie.spec
     Inv-loop
     μ-loop
-    decimal-len-requires
+    (λ c κs. search needs)
     loop-holds
     sub-i
-    digit-requires
+    (λ c κs. search needs)
     slice-write-buf
-    loop-less
+    (λ c. omega arith)
     loop-again
-    digit-requires-2
+    (λ c κs. search needs)
     slice-write-buf-2
     same-length
     returns)

@@ -11,9 +11,6 @@ use Rattle.text.proofs.put_hundredths.Tie as tie
 put-tenths-requires : tie.Need-put-tenths-requires
 put-tenths-requires c κs = omega (arith, hundredths-length (c .before .before .args .n))
 
-digit-requires : tie.Need-digit-requires
-digit-requires c κs = search needs
-
 -- from behind the tenths, back to the function's entry
 abbrev start : tie.After-digit → tie.Start
 start c = c .before .before .before .before .before .before
@@ -23,9 +20,6 @@ slice-write-buf c = omega (arith, hundredths-length (start c .args .n))
 
 add-result : tie.Need-add-result
 add-result c = omega (arith, hundredths-length (start c .args .n))
-
-same-length : tie.Need-same-length
-same-length c = search needs
 
 returns : tie.Need-returns
 unfolding hundredths
@@ -37,4 +31,4 @@ returns c =
 
 pub put-hundredths-spec : {M : Type 1} → statement M
 put-hundredths-spec =
-    tie.close (tie.spec put-tenths-requires digit-requires slice-write-buf add-result same-length returns)
+    tie.close (tie.spec put-tenths-requires (λ c κs. search needs) slice-write-buf add-result (λ c. search needs) returns)

@@ -27,17 +27,11 @@ sub-put-decimal c = omega (arith, room (word c))
 part-put-decimal-start : tie.Need-part-put-decimal-start
 part-put-decimal-start c = omega (arith, room (word c))
 
-part-put-decimal-end : tie.Need-part-put-decimal-end
-part-put-decimal-end c = search needs
-
 put-decimal-requires : tie.Need-put-decimal-requires
 put-decimal-requires c κs = omega (arith, room (word (c .before)))
 
 add-result : tie.Need-add-result
 add-result c = omega (arith, room (number c))
-
-same-length : tie.Need-same-length
-same-length c = search needs
 
 returns : tie.Need-returns
 returns c =
@@ -52,8 +46,8 @@ put-numbered-spec =
     put-requires
     sub-put-decimal
     part-put-decimal-start
-    part-put-decimal-end
+    (λ c. search needs)
     put-decimal-requires
     add-result
-    same-length
+    (λ c. search needs)
     returns)

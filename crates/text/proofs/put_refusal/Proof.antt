@@ -23,9 +23,6 @@ place c = number (c .before .before .before .before .before)
 abbrev end : tie.After-slice-known4 → tie.Start
 end c = place (c .before .before .before .before .before)
 
-slice-aggregate-put-numbered : tie.Need-slice-aggregate-put-numbered
-slice-aggregate-put-numbered c = search needs
-
 put-numbered-requires : tie.Need-put-numbered-requires
 put-numbered-requires c κs = omega (arith, room (c .before .before .before))
 
@@ -34,12 +31,6 @@ sub-put-numbered c = omega (arith, room (number c))
 
 part-put-numbered-start : tie.Need-part-put-numbered-start
 part-put-numbered-start c = omega (arith, room (number c))
-
-part-put-numbered-end : tie.Need-part-put-numbered-end
-part-put-numbered-end c = search needs
-
-slice-aggregate-put-numbered-2 : tie.Need-slice-aggregate-put-numbered-2
-slice-aggregate-put-numbered-2 c = search needs
 
 put-numbered-requires-2 : tie.Need-put-numbered-requires-2
 put-numbered-requires-2 c κs = omega (arith, room (number (c .before .before)))
@@ -53,20 +44,11 @@ sub-put c = omega (arith, room (place c))
 part-put-start : tie.Need-part-put-start
 part-put-start c = omega (arith, room (place c))
 
-part-put-end : tie.Need-part-put-end
-part-put-end c = search needs
-
-slice-aggregate-put : tie.Need-slice-aggregate-put
-slice-aggregate-put c = search needs
-
 put-requires : tie.Need-put-requires
 put-requires c κs = omega (arith, room (place (c .before .before)))
 
 add-result : tie.Need-add-result
 add-result c = omega (arith, room (end c))
-
-same-length : tie.Need-same-length
-same-length c = search needs
 
 returns : tie.Need-returns
 unfolding refusalLine
@@ -84,19 +66,19 @@ pub put-refusal-spec : {M : Type 1} → statement M
 put-refusal-spec =
     tie.close
     (tie.spec
-    slice-aggregate-put-numbered
+    (λ c. search needs)
     put-numbered-requires
     sub-put-numbered
     part-put-numbered-start
-    part-put-numbered-end
-    slice-aggregate-put-numbered-2
+    (λ c. search needs)
+    (λ c. search needs)
     put-numbered-requires-2
     add-b
     sub-put
     part-put-start
-    part-put-end
-    slice-aggregate-put
+    (λ c. search needs)
+    (λ c. search needs)
     put-requires
     add-result
-    same-length
+    (λ c. search needs)
     returns)

@@ -23,17 +23,11 @@ slice-write-buf c = omega (arith, tenths-length (start c .args .n))
 add-b : tie.Need-add-b
 add-b c = omega (arith, tenths-length (start c .args .n))
 
-digit-requires : tie.Need-digit-requires
-digit-requires c κs = search needs
-
 slice-write-buf-2 : tie.Need-slice-write-buf-2
 slice-write-buf-2 c = simp length-set (omega (arith, tenths-length (start (c .before) .args .n)))
 
 add-result : tie.Need-add-result
 add-result c = omega (arith, tenths-length (start (c .before) .args .n))
-
-same-length : tie.Need-same-length
-same-length c = search needs
 
 returns : tie.Need-returns
 unfolding tenths
@@ -51,8 +45,8 @@ put-tenths-spec =
     put-decimal-requires
     slice-write-buf
     add-b
-    digit-requires
+    (λ c κs. search needs)
     slice-write-buf-2
     add-result
-    same-length
+    (λ c. search needs)
     returns)

@@ -6,12 +6,6 @@ use Rattle.text.proofs.Lengths.{refusal-length}
 use Rattle.text.proofs.refusal_len.Statement.{statement}
 use Rattle.text.proofs.refusal_len.Tie as tie
 
-decimal-len-requires : tie.Need-decimal-len-requires
-decimal-len-requires c κs = search needs
-
-decimal-len-requires-2 : tie.Need-decimal-len-requires-2
-decimal-len-requires-2 c κs = search needs
-
 add-result : tie.Need-add-result
 add-result c =
     let args = c .before .before .args in
@@ -27,4 +21,4 @@ returns c = omega (arith, refusal-length (c .before .before .args .number) (c .b
 
 pub refusal-len-spec : {M : Type 1} → statement M
 refusal-len-spec =
-    tie.close (tie.spec decimal-len-requires decimal-len-requires-2 add-result add-result-2 returns)
+    tie.close (tie.spec (λ c κs. search needs) (λ c κs. search needs) add-result add-result-2 returns)

@@ -7,9 +7,6 @@ use Rattle.text.proofs.Lengths.{tenths-length}
 use Rattle.text.proofs.tenths_len.Statement.{statement}
 use Rattle.text.proofs.tenths_len.Tie as tie
 
-decimal-len-requires : tie.Need-decimal-len-requires
-decimal-len-requires c κs = search needs
-
 add-result : tie.Need-add-result
 add-result c = omega (arith, decimal-within (c .before .args .n / 10))
 
@@ -17,4 +14,4 @@ returns : tie.Need-returns
 returns c = omega (arith, tenths-length (c .before .args .n))
 
 pub tenths-len-spec : {M : Type 1} → statement M
-tenths-len-spec = tie.close (tie.spec decimal-len-requires add-result returns)
+tenths-len-spec = tie.close (tie.spec (λ c κs. search needs) add-result returns)

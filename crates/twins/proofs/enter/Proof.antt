@@ -97,20 +97,11 @@ slice-write-links c = omega (arith, c .before .loop .inv .0, sizes (St (c .befor
 add-ids : tie.Need-add-ids Inv-loop μ-loop
 add-ids c = omega (arith, c .before .loop .inv .0, sizes (St (c .before) .pre))
 
-cast-ids : tie.Need-cast-ids Inv-loop μ-loop
-cast-ids c = search needs
-
 mul-ids : tie.Need-mul-ids Inv-loop μ-loop
 mul-ids c = omega (arith, c .before .loop .inv .0, sizes (St (c .before) .pre))
 
 slice-write-ids : tie.Need-slice-write-ids Inv-loop μ-loop
 slice-write-ids c = omega (arith, c .before .loop .inv .0, sizes (St (c .before) .pre))
-
-same-length : tie.Need-same-length Inv-loop μ-loop
-same-length c = search needs
-
-same-length-2 : tie.Need-same-length-2 Inv-loop μ-loop
-same-length-2 c = search needs
 
 returns-2 : tie.Need-returns-2 Inv-loop μ-loop
 returns-2 c =
@@ -144,9 +135,9 @@ enter-spec =
     mul-links
     slice-write-links
     add-ids
-    cast-ids
+    (λ c. search needs)
     mul-ids
     slice-write-ids
-    same-length
-    same-length-2
+    (λ c. search needs)
+    (λ c. search needs)
     returns-2)

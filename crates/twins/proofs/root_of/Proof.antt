@@ -7,12 +7,6 @@ use Rattle.twins.proofs.Root.{sum-fits, product-fits}
 use Rattle.twins.proofs.root_of.Statement.{statement}
 use Rattle.twins.proofs.root_of.Tie as tie
 
-mul-m : tie.Need-mul-m
-mul-m c = search needs
-
-mul-m-2 : tie.Need-mul-m-2
-mul-m-2 c = search needs
-
 add-m : tie.Need-add-m
 add-m c = record { fits = sum-fits (c .args .x) (c .fits .x .fits) }
 
@@ -24,4 +18,4 @@ unfolding root
 returns c = refl
 
 pub root-of-spec : {M : Type 1} → statement M
-root-of-spec = tie.close (tie.spec mul-m mul-m-2 add-m mul-result returns)
+root-of-spec = tie.close (tie.spec (λ c. search needs) (λ c. search needs) add-m mul-result returns)

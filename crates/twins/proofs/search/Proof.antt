@@ -73,44 +73,17 @@ its c = (
 loop-holds : tie.Need-loop-holds Inv-loop μ-loop
 loop-holds c = (search needs, search needs, refl, refl, start _ _ _ _ (c .before .before .before .pre .0) (c .before .before .before .pre .1))
 
-sub-loop : tie.Need-sub-loop Inv-loop μ-loop
-sub-loop c = search needs
-
-sub-rest : tie.Need-sub-rest Inv-loop μ-loop
-sub-rest c = search needs
-
-part-rest-start : tie.Need-part-rest-start Inv-loop μ-loop
-part-rest-start c = search needs
-
-part-rest-end : tie.Need-part-rest-end Inv-loop μ-loop
-part-rest-end c = search needs
-
-entry-at-requires : tie.Need-entry-at-requires Inv-loop μ-loop
-entry-at-requires c κs = search needs
-
 add-next : tie.Need-add-next Inv-loop μ-loop
 add-next c = omega (arith, its (c .before))
 
 mul-x : tie.Need-mul-x Inv-loop μ-loop
 mul-x c = omega (arith, slot-fits (c .before))
 
-u32-at-requires : tie.Need-u32-at-requires Inv-loop μ-loop
-u32-at-requires c κs = search needs
-
-cast-x : tie.Need-cast-x Inv-loop μ-loop
-cast-x c = search needs
-
 add-x : tie.Need-add-x Inv-loop μ-loop
 add-x c = omega (arith, slot-fits (c .before .before), c .u32-at .ok)
 
 enter-requires : tie.Need-enter-requires Inv-loop μ-loop
 enter-requires c κs = At (c .before .before .before .before) .loop .inv .4 .shape
-
-same-length : tie.Need-same-length Inv-loop μ-loop
-same-length c = search needs
-
-same-length-2 : tie.Need-same-length-2 Inv-loop μ-loop
-same-length-2 c = search needs
 
 returns : tie.Need-returns Inv-loop μ-loop
 returns c =
@@ -130,12 +103,6 @@ loop-again c =
     let t = u .before .before in
     (omega (arith, its t), omega (arith, its t), search needs, search needs, none-there (d-of t) (at-of t) _ (len-of t) (inside t) (its-found t) (At t .loop .inv .4) (its-slot t) (u .u32-at .ensures) (u .u32-at .ok) (c .before .before .before .before .before .enter .ensures) (c .if1 .left) (omega (arith, its t)))
 
-same-length-3 : tie.Need-same-length-3 Inv-loop μ-loop
-same-length-3 c = search needs
-
-same-length-4 : tie.Need-same-length-4 Inv-loop μ-loop
-same-length-4 c = search needs
-
 returns-2 : tie.Need-returns-2 Inv-loop μ-loop
 returns-2 c = finish _ _ (c .loop-test .left) (c .before .loop .inv .4)
 
@@ -146,23 +113,23 @@ search-spec =
     Inv-loop
     μ-loop
     loop-holds
-    sub-loop
-    sub-rest
-    part-rest-start
-    part-rest-end
-    entry-at-requires
+    (λ c. search needs)
+    (λ c. search needs)
+    (λ c. search needs)
+    (λ c. search needs)
+    (λ c κs. search needs)
     add-next
     mul-x
-    u32-at-requires
-    cast-x
+    (λ c κs. search needs)
+    (λ c. search needs)
     add-x
     enter-requires
-    same-length
-    same-length-2
+    (λ c. search needs)
+    (λ c. search needs)
     returns
     add-count
     loop-less
     loop-again
-    same-length-3
-    same-length-4
+    (λ c. search needs)
+    (λ c. search needs)
     returns-2)

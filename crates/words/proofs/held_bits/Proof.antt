@@ -9,30 +9,6 @@ use Rattle.words.specs.Words.{heldBits}
 use Rattle.words.proofs.held_bits.Statement.{statement}
 use Rattle.words.proofs.held_bits.Tie as tie
 
-level-held-requires : tie.Need-level-held-requires
-level-held-requires c κs = search needs
-
-choose-requires : tie.Need-choose-requires
-choose-requires c κs = search needs
-
-level-held-requires-2 : tie.Need-level-held-requires-2
-level-held-requires-2 c κs = search needs
-
-choose-requires-2 : tie.Need-choose-requires-2
-choose-requires-2 c κs = search needs
-
-level-held-requires-3 : tie.Need-level-held-requires-3
-level-held-requires-3 c κs = search needs
-
-choose-requires-3 : tie.Need-choose-requires-3
-choose-requires-3 c κs = search needs
-
-level-held-requires-4 : tie.Need-level-held-requires-4
-level-held-requires-4 c κs = search needs
-
-choose-requires-4 : tie.Need-choose-requires-4
-choose-requires-4 c κs = search needs
-
 -- a bit that is there or not
 at-most : {r : ℕ} (b : Bool) (x : ℕ) → x ≤ 8 → r ≡ cond b x 0 → r ≤ 8
 at-most b x h e = rw e (cond-holds (λ n. n ≤ 8) b x 0 h (omega arith))
@@ -58,14 +34,14 @@ pub held-bits-spec : {M : Type 1} → statement M
 held-bits-spec =
     tie.close
     (tie.spec
-    level-held-requires
-    choose-requires
-    level-held-requires-2
-    choose-requires-2
-    level-held-requires-3
-    choose-requires-3
-    level-held-requires-4
-    choose-requires-4
+    (λ c κs. search needs)
+    (λ c κs. search needs)
+    (λ c κs. search needs)
+    (λ c κs. search needs)
+    (λ c κs. search needs)
+    (λ c κs. search needs)
+    (λ c κs. search needs)
+    (λ c κs. search needs)
     add-result
     add-result-2
     add-result-3

@@ -7,9 +7,6 @@ use Rattle.words.proofs.Answers.{handed-blank, told-words, told-few, to
 use Rattle.words.proofs.levels_words_in.Statement.{statement}
 use Rattle.words.proofs.levels_words_in.Tie as tie
 
-judge-requires : tie.Need-judge-requires
-judge-requires c κs = search needs
-
 enum-told : tie.Need-enum-told
 enum-told c = search needs
 
@@ -17,23 +14,11 @@ enum-told c = search needs
 answer-is : (c : tie.After-judge) {a : Answer} → c .judge .result ≡ a → answer (c .before .before .before .before .before .args .d .now) ≡ a
 answer-is c e = sym (c .judge .ensures .0) ∙ e
 
-same-length : tie.Need-same-length
-same-length c = search needs
-
 returns : tie.Need-returns
 returns c =
     let j = c .before .before .before .before .before in
     let args = j .before .before .before .before .before .args in
     told-few (args .d .now) (args .hour) (args .words .now) (answer-is j (c .before .enum-told .given .1)) (c .if1 .taken)
-
-slice-aggregate-hour-levels : tie.Need-slice-aggregate-hour-levels
-slice-aggregate-hour-levels c = search needs
-
-slice-aggregate-hour-levels-2 : tie.Need-slice-aggregate-hour-levels-2
-slice-aggregate-hour-levels-2 c = search needs
-
-slice-aggregate-hour-levels-3 : tie.Need-slice-aggregate-hour-levels-3
-slice-aggregate-hour-levels-3 c = search needs
 
 hour-levels-requires : tie.Need-hour-levels-requires
 hour-levels-requires c κs =
@@ -46,15 +31,6 @@ put-words-requires c κs =
     let a = l .before .before .before .before .before .before .before .before .before .before .before .before .before .before .before .args in
     (search needs, handed-blank (a .d .now) (a .hour) (l .hour-levels .ensures))
 
-enum-known-number : tie.Need-enum-known-number
-enum-known-number c = search needs
-
-same-length-2 : tie.Need-same-length-2
-same-length-2 c = search needs
-
-same-length-3 : tie.Need-same-length-3
-same-length-3 c = search needs
-
 returns-2 : tie.Need-returns-2
 returns-2 c =
     let l = c .before .before .before .before .before .before .before .before .before .before in
@@ -62,9 +38,6 @@ returns-2 c =
     let args = j .before .before .before .before .before .args in
     told-words (args .d .now) (args .hour) (args .words .now) _ (answer-is j (l .before .before .before .before .before .before .enum-told .given .1)) (l .before .before .before .before .before .if1 .left)
     (l .hour-levels .ensures) (c .before .before .put-words .ensures)
-
-same-length-4 : tie.Need-same-length-4
-same-length-4 c = search needs
 
 returns-3 : tie.Need-returns-3
 returns-3 c =
@@ -76,18 +49,18 @@ pub levels-words-in-spec : {M : Type 1} → statement M
 levels-words-in-spec =
     tie.close
     (tie.spec
-    judge-requires
+    (λ c κs. search needs)
     enum-told
-    same-length
+    (λ c. search needs)
     returns
-    slice-aggregate-hour-levels
-    slice-aggregate-hour-levels-2
-    slice-aggregate-hour-levels-3
+    (λ c. search needs)
+    (λ c. search needs)
+    (λ c. search needs)
     hour-levels-requires
     put-words-requires
-    enum-known-number
-    same-length-2
-    same-length-3
+    (λ c. search needs)
+    (λ c. search needs)
+    (λ c. search needs)
     returns-2
-    same-length-4
+    (λ c. search needs)
     returns-3)

@@ -24,9 +24,6 @@ abbrev μ-loop : tie.MeasureT-loop
 abbrev lv-of : tie.Start Inv-loop μ-loop → HourLevels
 lv-of c = inArrays (c .args .from .now) (c .args .to .now) (c .args .cents .now) (c .args .profile) (c .args .count)
 
-slice-write-words : tie.Need-slice-write-words Inv-loop μ-loop
-slice-write-words c = search needs
-
 slice-write-words-2 : tie.Need-slice-write-words-2 Inv-loop μ-loop
 slice-write-words-2 c = within (c .args .words .now) 0 (c .args .profile) (omega arith)
 
@@ -51,58 +48,19 @@ mul-at c = omega (arith, few (c .before))
 add-at : tie.Need-add-at Inv-loop μ-loop
 add-at c = omega (arith, few (c .before))
 
-mul-words : tie.Need-mul-words Inv-loop μ-loop
-mul-words c = search needs
-
-element-copy-out-words : tie.Need-element-copy-out-words Inv-loop μ-loop
-element-copy-out-words c = search needs
-
-mul-words-2 : tie.Need-mul-words-2 Inv-loop μ-loop
-mul-words-2 c = search needs
-
 slice-write-words-3 : tie.Need-slice-write-words-3 Inv-loop μ-loop
 slice-write-words-3 c = omega (arith, words-long (c .before .before), few (c .before .before))
-
-mul-words-3 : tie.Need-mul-words-3 Inv-loop μ-loop
-mul-words-3 c = search needs
-
-element-copy-out-words-2 : tie.Need-element-copy-out-words-2 Inv-loop μ-loop
-element-copy-out-words-2 c = search needs
-
-add-words : tie.Need-add-words Inv-loop μ-loop
-add-words c = search needs
-
-mul-words-4 : tie.Need-mul-words-4 Inv-loop μ-loop
-mul-words-4 c = search needs
 
 slice-write-words-4 : tie.Need-slice-write-words-4 Inv-loop μ-loop
 slice-write-words-4 c =
     let l = c .before .before .before in
     within (l .loop .words) (3 * l .loop .i + 2) _ (omega (arith, words-long l, few l))
 
-mul-words-5 : tie.Need-mul-words-5 Inv-loop μ-loop
-mul-words-5 c = search needs
-
-element-copy-out-words-3 : tie.Need-element-copy-out-words-3 Inv-loop μ-loop
-element-copy-out-words-3 c = search needs
-
-add-words-2 : tie.Need-add-words-2 Inv-loop μ-loop
-add-words-2 c = search needs
-
-mul-words-6 : tie.Need-mul-words-6 Inv-loop μ-loop
-mul-words-6 c = search needs
-
 slice-write-words-5 : tie.Need-slice-write-words-5 Inv-loop μ-loop
 slice-write-words-5 c =
     let l = c .before .before .before .before in
     let i = 3 * l .loop .i + 2 in
     within (set (l .loop .words) i _) (i + 1) _ (within (l .loop .words) i _ (omega (arith, words-long l, few l)))
-
-add-i : tie.Need-add-i Inv-loop μ-loop
-add-i c = search needs
-
-loop-less : tie.Need-loop-less Inv-loop μ-loop
-loop-less c = search needs
 
 loop-again : tie.Need-loop-again Inv-loop μ-loop
 loop-again c =
@@ -123,27 +81,27 @@ put-laminations-spec =
     (tie.spec
     Inv-loop
     μ-loop
-    slice-write-words
+    (λ c. search needs)
     slice-write-words-2
     loop-holds
     mul-at
     add-at
-    mul-words
-    element-copy-out-words
-    mul-words-2
+    (λ c. search needs)
+    (λ c. search needs)
+    (λ c. search needs)
     slice-write-words-3
-    mul-words-3
-    element-copy-out-words-2
-    add-words
-    mul-words-4
+    (λ c. search needs)
+    (λ c. search needs)
+    (λ c. search needs)
+    (λ c. search needs)
     slice-write-words-4
-    mul-words-5
-    element-copy-out-words-3
-    add-words-2
-    mul-words-6
+    (λ c. search needs)
+    (λ c. search needs)
+    (λ c. search needs)
+    (λ c. search needs)
     slice-write-words-5
-    add-i
-    loop-less
+    (λ c. search needs)
+    (λ c. search needs)
     loop-again
     same-length
     returns)

@@ -27,9 +27,6 @@ put-laminations-requires c κs =
     let h = entry c .pre .1 in
     (omega (arith, entry c .pre .0), ap (take 62) (c .before .before .before .clear-words .ensures), record { few = h .few; none = h .none })
 
-held-bits-requires : tie.Need-held-bits-requires
-held-bits-requires c κs = search needs
-
 -- what the function was given
 abbrev lv-of : tie.After-held-bits → HourLevels
 lv-of c = hourOf (start c .args .lv) (start c .args .from .now) (start c .args .to .now) (start c .args .cents .now)
@@ -46,9 +43,6 @@ words-1 c = set (words-0 c) 62 (c .held-bits .result)
 
 abbrev words-2 : tie.After-held-bits → List ℕ
 words-2 c = set (words-1 c) 63 (lv-of c .start)
-
-slice-write-words : tie.Need-slice-write-words
-slice-write-words c = search needs
 
 slice-write-words-2 : tie.Need-slice-write-words-2
 slice-write-words-2 c = within (words-0 c) 62 _ (omega arith)
@@ -80,8 +74,8 @@ put-words-spec =
     (tie.spec
     clear-words-requires
     put-laminations-requires
-    held-bits-requires
-    slice-write-words
+    (λ c κs. search needs)
+    (λ c. search needs)
     slice-write-words-2
     slice-write-words-3
     slice-write-words-4

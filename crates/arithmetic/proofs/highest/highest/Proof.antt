@@ -6,15 +6,6 @@ use Rattle.arithmetic.proofs.Selection.{highest-sum}
 use Rattle.arithmetic.proofs.highest.highest.Statement.{statement}
 use Rattle.arithmetic.proofs.highest.highest.Tie as tie
 
-price-threshold-requires : tie.Need-price-threshold-requires
-price-threshold-requires c κs = search needs
-
-excess-requires : tie.Need-excess-requires
-excess-requires c κs = search needs
-
-cast-result : tie.Need-cast-result
-cast-result c = search needs
-
 -- the threshold as often as there are hours
 times : (c : tie.After-excess) → c .before .before .before .args .n * c .before .price-threshold .result ≤ 168 * 4294967295
 times c =
@@ -34,4 +25,4 @@ returns c =
     (omega (arith, e, c .excess .ensures .0), omega (arith, times c))
 
 pub highest-spec : {M : Type 1} → statement M
-highest-spec = tie.close (tie.spec price-threshold-requires excess-requires cast-result mul-result add-result returns)
+highest-spec = tie.close (tie.spec (λ c κs. search needs) (λ c κs. search needs) (λ c. search needs) mul-result add-result returns)

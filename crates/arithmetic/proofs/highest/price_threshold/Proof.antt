@@ -9,9 +9,6 @@ use Rattle.arithmetic.proofs.Selection.{topmost-le, all-least, threshol
 use Rattle.arithmetic.proofs.highest.price_threshold.Statement.{statement}
 use Rattle.arithmetic.proofs.highest.price_threshold.Tie as tie
 
-lowest-requires : tie.Need-lowest-requires
-lowest-requires c κs = search needs
-
 highest-price : PriceIn 2147683648
 highest-price = record { low = lit≤ tt; high = le-refl 2147683648 }
 
@@ -26,9 +23,6 @@ returns c =
     let b = c .before .before .before in
     let p = low-price (c .before) in
     (threshold-lowest _ _ _ 2147683648 (b .args .s .now) (b .pre .1) (c .if1 .taken) (omega arith), p .low, p .high)
-
-topmost-requires : tie.Need-topmost-requires
-topmost-requires c κs = search needs
 
 threshold-requires : tie.Need-threshold-requires
 threshold-requires c κs =
@@ -49,4 +43,4 @@ returns-2 c =
     (c .threshold .ensures .0, omega arith, omega arith)
 
 pub price-threshold-spec : {M : Type 1} → statement M
-price-threshold-spec = tie.close (tie.spec lowest-requires returns topmost-requires threshold-requires returns-2)
+price-threshold-spec = tie.close (tie.spec (λ c κs. search needs) returns (λ c κs. search needs) threshold-requires returns-2)

@@ -12,34 +12,10 @@ Inv-loop s n most low high lo₀ hi₀ lo hi = (lo ≤ hi) × (low ≤ lo) × (h
 abbrev μ-loop : tie.MeasureT-loop
 μ-loop s n most low high lo₀ hi₀ lo hi = hi - lo
 
-loop-holds : tie.Need-loop-holds Inv-loop μ-loop
-loop-holds c = search needs
-
-sub-mid : tie.Need-sub-mid Inv-loop μ-loop
-sub-mid c = search needs
-
-add-mid : tie.Need-add-mid Inv-loop μ-loop
-add-mid c = search needs
-
-above-requires : tie.Need-above-requires Inv-loop μ-loop
-above-requires c κs = search needs
-
-cast-count : tie.Need-cast-count Inv-loop μ-loop
-cast-count c = search needs
-
-add-lo : tie.Need-add-lo Inv-loop μ-loop
-add-lo c = omega arith
-
-loop-less : tie.Need-loop-less Inv-loop μ-loop
-loop-less c = omega arith
-
 loop-again : tie.Need-loop-again Inv-loop μ-loop
 loop-again c =
     let l = c .before .before .before .loop in
     (omega arith, omega arith, omega arith, omega (arith, c .before .above .ensures, above-next (l .lo + (l .hi - l .lo) / 2) (c .before .before .before .before .before .args .s .now)), l .inv .4)
-
-loop-less-2 : tie.Need-loop-less-2 Inv-loop μ-loop
-loop-less-2 c = omega arith
 
 loop-again-2 : tie.Need-loop-again-2 Inv-loop μ-loop
 loop-again-2 c =
@@ -63,15 +39,15 @@ threshold-spec =
     (tie.spec
     Inv-loop
     μ-loop
-    loop-holds
-    sub-mid
-    add-mid
-    above-requires
-    cast-count
-    add-lo
-    loop-less
+    (λ c. search needs)
+    (λ c. search needs)
+    (λ c. search needs)
+    (λ c κs. search needs)
+    (λ c. search needs)
+    (λ c. omega arith)
+    (λ c. omega arith)
     loop-again
-    loop-less-2
+    (λ c. omega arith)
     loop-again-2
     returns
     returns-2)

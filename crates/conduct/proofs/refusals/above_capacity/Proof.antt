@@ -23,20 +23,8 @@ abbrev μ-loop : tie.MeasureT-loop
 rs-requires : tie.Need-rs-requires Inv-loop μ-loop
 rs-requires c κs = c .before .before .before .pre .0
 
-u16-at-requires : tie.Need-u16-at-requires Inv-loop μ-loop
-u16-at-requires c κs = search needs
-
-cast-capacity : tie.Need-cast-capacity Inv-loop μ-loop
-cast-capacity c = search needs
-
 loop-holds : tie.Need-loop-holds Inv-loop μ-loop
 loop-holds c = (omega arith, omega (arith, c .before .before .before .before .before .pre .1), c .u16-at .ensures ∙ ap (number 7 2) (c .before .rs .ensures) ∙ sym (capacity-at (records (c .before .before .before .before .before .args .d .now))), all-left (aboveCapacity _ _ 0) _)
-
-quantity-at-requires : tie.Need-quantity-at-requires Inv-loop μ-loop
-quantity-at-requires c κs = search needs
-
-mul-t12 : tie.Need-mul-t12 Inv-loop μ-loop
-mul-t12 c = search needs
 
 returns : tie.Need-returns Inv-loop μ-loop
 returns c =
@@ -44,12 +32,6 @@ returns c =
     let a = c .before .before .before .before .before .before .before .before .before .args in
     above-stop (parameters (records (a .d .now))) (a .offer .now) (length (a .offer .now) / 6) (i .k) _ _ (c .before .before .loop-test .taken) (i .inv .2) (c .before .quantity-at .ensures) (c .if1 .taken)
     ∙ i .inv .3
-
-add-k : tie.Need-add-k Inv-loop μ-loop
-add-k c = search needs
-
-loop-less : tie.Need-loop-less Inv-loop μ-loop
-loop-less c = search needs
 
 loop-again : tie.Need-loop-again Inv-loop μ-loop
 loop-again c =
@@ -75,13 +57,13 @@ above-capacity-spec =
     Inv-loop
     μ-loop
     rs-requires
-    u16-at-requires
-    cast-capacity
+    (λ c κs. search needs)
+    (λ c. search needs)
     loop-holds
-    quantity-at-requires
-    mul-t12
+    (λ c κs. search needs)
+    (λ c. search needs)
     returns
-    add-k
-    loop-less
+    (λ c. search needs)
+    (λ c. search needs)
     loop-again
     returns-2)

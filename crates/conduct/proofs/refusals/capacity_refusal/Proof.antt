@@ -21,21 +21,6 @@ returns c =
     let n = length (a .offer .now) / 6 in
     above-end s (a .offer .now) n 0 (omega (arith, c .if1 .taken)) ∙ all-left (aboveCapacity s (a .offer .now) 0) n
 
-rs-requires : tie.Need-rs-requires
-rs-requires c κs = search needs
-
-u16-at-requires : tie.Need-u16-at-requires
-u16-at-requires c κs = search needs
-
-cast-capacity : tie.Need-cast-capacity
-cast-capacity c = search needs
-
-sub-quantity-at : tie.Need-sub-quantity-at
-sub-quantity-at c = search needs
-
-quantity-at-requires : tie.Need-quantity-at-requires
-quantity-at-requires c κs = search needs
-
 returns-2 : tie.Need-returns-2
 returns-2 c =
     let b = c .before .before .before .before .before .before .before .before in
@@ -46,22 +31,16 @@ returns-2 c =
     let f : c .before .quantity-at .result ≡ quantity o (length o / 6 - 1) = c .before .quantity-at .ensures in
     within-capacity o (length o / 6) (b .pre .2) (parameters (records (b .args .d .now))) (omega (arith, e, f, c .if2 .taken))
 
-above-capacity-requires : tie.Need-above-capacity-requires
-above-capacity-requires c κs = search needs
-
-returns-3 : tie.Need-returns-3
-returns-3 c = search needs
-
 pub capacity-refusal-spec : {M : Type 1} → statement M
 capacity-refusal-spec =
     tie.close
     (tie.spec
     returns
-    rs-requires
-    u16-at-requires
-    cast-capacity
-    sub-quantity-at
-    quantity-at-requires
+    (λ c κs. search needs)
+    (λ c κs. search needs)
+    (λ c. search needs)
+    (λ c. search needs)
+    (λ c κs. search needs)
     returns-2
-    above-capacity-requires
-    returns-3)
+    (λ c κs. search needs)
+    (λ c. search needs))

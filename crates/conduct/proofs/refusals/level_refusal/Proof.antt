@@ -8,15 +8,6 @@ use borrow.Author.Needs.{needs}
 use Rattle.conduct.proofs.refusals.level_refusal.Statement.{statement}
 use Rattle.conduct.proofs.refusals.level_refusal.Tie as tie
 
-rs-requires : tie.Need-rs-requires
-rs-requires c κs = search needs
-
-u8-at-requires : tie.Need-u8-at-requires
-u8-at-requires c κs = search needs
-
-level-held-requires : tie.Need-level-held-requires
-level-held-requires c κs = search needs
-
 technology-is : (c : tie.After-level-held) → c .before .u8-at .result ≡ technology (parameters (records (c .before .before .before .before .before .args .d .now)))
 technology-is c =
     c .before .u8-at .ensures ∙ ap (number 6 1) (c .before .before .rs .ensures) ∙ sym (technology-at (records (c .before .before .before .before .before .args .d .now)))
@@ -31,4 +22,4 @@ returns-2 c =
 
 pub level-refusal-spec : {M : Type 1} → statement M
 level-refusal-spec =
-    tie.close (tie.spec rs-requires u8-at-requires level-held-requires returns returns-2)
+    tie.close (tie.spec (λ c κs. search needs) (λ c κs. search needs) (λ c κs. search needs) returns returns-2)

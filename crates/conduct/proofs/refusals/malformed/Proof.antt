@@ -22,18 +22,6 @@ loop-holds : tie.Need-loop-holds Inv-loop μ-loop
 unfolding before priceBefore
 loop-holds c = (omega arith, omega (arith, c .before .pre), refl, refl, all-left (malformed _ 0) _)
 
-quantity-at-requires : tie.Need-quantity-at-requires Inv-loop μ-loop
-quantity-at-requires c κs = search needs
-
-price-at-requires : tie.Need-price-at-requires Inv-loop μ-loop
-price-at-requires c κs = search needs
-
-pair-holds-requires : tie.Need-pair-holds-requires Inv-loop μ-loop
-pair-holds-requires c κs = search needs
-
-mul-t11 : tie.Need-mul-t11 Inv-loop μ-loop
-mul-t11 c = search needs
-
 returns : tie.Need-returns Inv-loop μ-loop
 returns c =
     let i = c .before .before .before .before .before .loop in
@@ -41,12 +29,6 @@ returns c =
     malformed-stop o (length o / 6) (i .k) (i .low) (i .last) _ _ (c .before .before .before .before .loop-test .taken) (i .inv .2) (i .inv .3) (c .before .before .before .quantity-at .ensures) (c .before .before .price-at .ensures .0)
     (sym (c .before .pair-holds .ensures) ∙ not-true _ (c .if1 .taken))
     ∙ i .inv .4
-
-add-k : tie.Need-add-k Inv-loop μ-loop
-add-k c = search needs
-
-loop-less : tie.Need-loop-less Inv-loop μ-loop
-loop-less c = search needs
 
 loop-again : tie.Need-loop-again Inv-loop μ-loop
 loop-again c =
@@ -74,12 +56,12 @@ malformed-spec =
     Inv-loop
     μ-loop
     loop-holds
-    quantity-at-requires
-    price-at-requires
-    pair-holds-requires
-    mul-t11
+    (λ c κs. search needs)
+    (λ c κs. search needs)
+    (λ c κs. search needs)
+    (λ c. search needs)
     returns
-    add-k
-    loop-less
+    (λ c. search needs)
+    (λ c. search needs)
     loop-again
     returns-2)

@@ -6,32 +6,11 @@ use borrow.Author.Needs.{needs}
 use Rattle.conduct.proofs.refusals.offer_refusal.Statement.{statement}
 use Rattle.conduct.proofs.refusals.offer_refusal.Tie as tie
 
-condition-refusal-requires : tie.Need-condition-refusal-requires
-condition-refusal-requires c κs = search needs
-
-enum-known-number : tie.Need-enum-known-number
-enum-known-number c = search needs
-
 enum-told : tie.Need-enum-told
 enum-told c = search needs
 
-length-refusal-requires : tie.Need-length-refusal-requires
-length-refusal-requires c κs = search needs
-
-enum-known-number-2 : tie.Need-enum-known-number-2
-enum-known-number-2 c = search needs
-
-enum-told-2 : tie.Need-enum-told-2
-enum-told-2 c = search needs
-
 malformed-requires : tie.Need-malformed-requires
 malformed-requires c κs = length-accepted _ (sym (c .before .before .length-refusal .ensures) ∙ c .enum-told2 .given .1)
-
-enum-known-number-3 : tie.Need-enum-known-number-3
-enum-known-number-3 c = search needs
-
-enum-told-3 : tie.Need-enum-told-3
-enum-told-3 c = search needs
 
 capacity-refusal-requires : tie.Need-capacity-refusal-requires
 capacity-refusal-requires c κs =
@@ -66,15 +45,15 @@ pub offer-refusal-spec : {M : Type 1} → statement M
 offer-refusal-spec =
     tie.close
     (tie.spec
-    condition-refusal-requires
-    enum-known-number
+    (λ c κs. search needs)
+    (λ c. search needs)
     enum-told
-    length-refusal-requires
-    enum-known-number-2
-    enum-told-2
+    (λ c κs. search needs)
+    (λ c. search needs)
+    (λ c. search needs)
     malformed-requires
-    enum-known-number-3
-    enum-told-3
+    (λ c. search needs)
+    (λ c. search needs)
     capacity-refusal-requires
     returns
     returns-2

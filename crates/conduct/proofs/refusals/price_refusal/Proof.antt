@@ -7,12 +7,6 @@ use borrow.Author.Needs.{needs}
 use Rattle.conduct.proofs.refusals.price_refusal.Statement.{statement}
 use Rattle.conduct.proofs.refusals.price_refusal.Tie as tie
 
-level-refusal-requires : tie.Need-level-refusal-requires
-level-refusal-requires c κs = search needs
-
-enum-known-number : tie.Need-enum-known-number
-enum-known-number c = search needs
-
 enum-told : tie.Need-enum-told
 enum-told c = search needs
 
@@ -35,8 +29,8 @@ pub price-refusal-spec : {M : Type 1} → statement M
 price-refusal-spec =
     tie.close
     (tie.spec
-    level-refusal-requires
-    enum-known-number
+    (λ c κs. search needs)
+    (λ c. search needs)
     enum-told
     condition-refusal-requires
     returns

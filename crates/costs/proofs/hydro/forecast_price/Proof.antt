@@ -12,26 +12,11 @@ use Rattle.formulas.specs.Levels.{forecastPlace, forecastPrice}
 use Rattle.costs.proofs.hydro.forecast_price.Statement.{statement}
 use Rattle.costs.proofs.hydro.forecast_price.Tie as tie
 
-slice-aggregate-fill : tie.Need-slice-aggregate-fill
-slice-aggregate-fill c = search needs
-
-fill-requires : tie.Need-fill-requires
-fill-requires c κs = search needs
-
-slice-aggregate-price-from-top : tie.Need-slice-aggregate-price-from-top
-slice-aggregate-price-from-top c = search needs
-
 price-from-top-requires : tie.Need-price-from-top-requires
 price-from-top-requires c κs =
     let f = c .before .before .fill in
     let p = c .before .before .before .before .before .pre in
     (f .ensures, wide-complete _ _ (f .ensures) (omega (arith, f .kept .1 .0, length-replicate {A = ℕ} wide 0)), p .4, omega (arith, p .3), omega arith)
-
-cast-less : tie.Need-cast-less
-cast-less c = search needs
-
-less-requires : tie.Need-less-requires
-less-requires c κs = search needs
 
 returns : tie.Need-returns
 unfolding forecastPrice forecastPlace
@@ -45,10 +30,10 @@ pub forecast-price-spec : {M : Type 1} → statement M
 forecast-price-spec =
     tie.close
     (tie.spec
-    slice-aggregate-fill
-    fill-requires
-    slice-aggregate-price-from-top
+    (λ c. search needs)
+    (λ c κs. search needs)
+    (λ c. search needs)
     price-from-top-requires
-    cast-less
-    less-requires
+    (λ c. search needs)
+    (λ c κs. search needs)
     returns)

@@ -11,27 +11,6 @@ use Rattle.costs.proofs.Prices.{prices-part, prices-ready, place-in}
 use Rattle.costs.proofs.hydro.price_from_top.Statement.{statement}
 use Rattle.costs.proofs.hydro.price_from_top.Tie as tie
 
-slice-aggregate-prices : tie.Need-slice-aggregate-prices
-slice-aggregate-prices c = search needs
-
-prices-requires : tie.Need-prices-requires
-prices-requires c κs = search needs
-
-sub-from : tie.Need-sub-from
-sub-from c = search needs
-
-mul-from-top : tie.Need-mul-from-top
-mul-from-top c = search needs
-
-sub-from-top : tie.Need-sub-from-top
-sub-from-top c = search needs
-
-part-from-top-start : tie.Need-part-from-top-start
-part-from-top-start c = search needs
-
-part-from-top-end : tie.Need-part-from-top-end
-part-from-top-end c = search needs
-
 -- the prices
 prices-of : tie.After-prices → List ℕ
 prices-of c = c .prices .last .1 .1 .1 .0
@@ -55,12 +34,12 @@ pub price-from-top-spec : {M : Type 1} → statement M
 price-from-top-spec =
     tie.close
     (tie.spec
-    slice-aggregate-prices
-    prices-requires
-    sub-from
-    mul-from-top
-    sub-from-top
-    part-from-top-start
-    part-from-top-end
+    (λ c. search needs)
+    (λ c κs. search needs)
+    (λ c. search needs)
+    (λ c. search needs)
+    (λ c. search needs)
+    (λ c. search needs)
+    (λ c. search needs)
     from-top-requires
     returns)

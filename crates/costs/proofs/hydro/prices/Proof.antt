@@ -19,34 +19,10 @@ abbrev μ-loop : tie.MeasureT-loop
 loop-holds : tie.Need-loop-holds Inv-loop μ-loop
 loop-holds c = (search needs, search needs, prices-none 4000 _ (c .before .before .before .args .prices .now) (c .before .before .before .pre .3))
 
-add-place-price : tie.Need-add-place-price Inv-loop μ-loop
-add-place-price c = omega arith
-
-place-price-requires : tie.Need-place-price-requires Inv-loop μ-loop
-place-price-requires c κs = search needs
-
-sub-prices : tie.Need-sub-prices Inv-loop μ-loop
-sub-prices c = omega arith
-
-mul-prices : tie.Need-mul-prices Inv-loop μ-loop
-mul-prices c = omega arith
-
-slice-write-prices : tie.Need-slice-write-prices Inv-loop μ-loop
-slice-write-prices c = omega arith
-
-add-n : tie.Need-add-n Inv-loop μ-loop
-add-n c = omega arith
-
-loop-less : tie.Need-loop-less Inv-loop μ-loop
-loop-less c = omega arith
-
 loop-again : tie.Need-loop-again Inv-loop μ-loop
 loop-again c =
     let l = c .before .before .loop in
     (omega arith, simp length-set (l .inv .1), prices-more 4000 _ (l .prices) (l .n) _ _ (l .inv .1) (omega arith) (omega arith) (l .inv .2) (c .place-price .ensures))
-
-same-length : tie.Need-same-length Inv-loop μ-loop
-same-length c = omega arith
 
 returns : tie.Need-returns Inv-loop μ-loop
 returns c =
@@ -60,13 +36,13 @@ prices-spec =
     Inv-loop
     μ-loop
     loop-holds
-    add-place-price
-    place-price-requires
-    sub-prices
-    mul-prices
-    slice-write-prices
-    add-n
-    loop-less
+    (λ c. omega arith)
+    (λ c κs. search needs)
+    (λ c. omega arith)
+    (λ c. omega arith)
+    (λ c. omega arith)
+    (λ c. omega arith)
+    (λ c. omega arith)
     loop-again
-    same-length
+    (λ c. omega arith)
     returns)

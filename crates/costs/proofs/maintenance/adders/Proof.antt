@@ -19,9 +19,6 @@ Inv-loop d index p v sum₀ c₀ sum c = (c ≤ 5) × (sum ≤ c * 1000000000000
 abbrev μ-loop : tie.MeasureT-loop
 μ-loop d index p v sum₀ c₀ sum c = 5 - c
 
-slot-ad-requires : tie.Need-slot-ad-requires Inv-loop μ-loop
-slot-ad-requires c κs = search needs
-
 slots-empty-requires : tie.Need-slots-empty-requires Inv-loop μ-loop
 slots-empty-requires c κs = let q = c .before .before .before .pre in omega (arith, c .slot-ad .ensures, adder-slot (c .before .before .before .args .p) 1 1 (omega arith) (omega arith), q .0 .roomy, q .2)
 
@@ -34,21 +31,6 @@ returns c =
 loop-holds : tie.Need-loop-holds Inv-loop μ-loop
 unfolding sumTo
 loop-holds c = (search needs, search needs, search needs)
-
-add-adder : tie.Need-add-adder Inv-loop μ-loop
-add-adder c = omega arith
-
-adder-requires : tie.Need-adder-requires Inv-loop μ-loop
-adder-requires c κs = search needs
-
-add-sum : tie.Need-add-sum Inv-loop μ-loop
-add-sum c = omega arith
-
-add-c : tie.Need-add-c Inv-loop μ-loop
-add-c c = omega arith
-
-loop-less : tie.Need-loop-less Inv-loop μ-loop
-loop-less c = omega arith
 
 loop-again : tie.Need-loop-again Inv-loop μ-loop
 loop-again c = (omega arith, omega arith, sum-more _ _ _ _ (c .before .before .loop .inv .2) (c .adder .ensures .0))
@@ -65,14 +47,14 @@ adders-spec =
     (tie.spec
     Inv-loop
     μ-loop
-    slot-ad-requires
+    (λ c κs. search needs)
     slots-empty-requires
     returns
     loop-holds
-    add-adder
-    adder-requires
-    add-sum
-    add-c
-    loop-less
+    (λ c. omega arith)
+    (λ c κs. search needs)
+    (λ c. omega arith)
+    (λ c. omega arith)
+    (λ c. omega arith)
     loop-again
     returns-2)

@@ -6,15 +6,6 @@ use Rattle.costs.proofs.Costs.{nuclear-costs}
 use Rattle.costs.proofs.nuclear.nuclear_energy.Statement.{statement}
 use Rattle.costs.proofs.nuclear.nuclear_energy.Tie as tie
 
-incremental-fuel-requires : tie.Need-incremental-fuel-requires
-incremental-fuel-requires c κs = search needs
-
-fuel-requires : tie.Need-fuel-requires
-fuel-requires c κs = search needs
-
-factor-requires : tie.Need-factor-requires
-factor-requires c κs = search needs
-
 mul-share : tie.Need-mul-share
 mul-share c = omega (arith, mul-le-mul (c .before .before .incremental-fuel .ensures .1) (c .before .fuel .ensures .1))
 
@@ -24,17 +15,8 @@ product c = mul-le-mul (mul-le-mul (c .before .before .incremental-fuel .ensures
 mul-share-2 : tie.Need-mul-share-2
 mul-share-2 c = omega (arith, product c)
 
-share-requires : tie.Need-share-requires
-share-requires c κs = search needs
-
-adders-requires : tie.Need-adders-requires
-adders-requires c κs = search needs
-
 add-result : tie.Need-add-result
 add-result c = omega (arith, c .before .share .ensures .1, product (c .before .before))
-
-maintenance-requires : tie.Need-maintenance-requires
-maintenance-requires c κs = search needs
 
 add-result-2 : tie.Need-add-result-2
 add-result-2 c = omega (arith, c .before .before .share .ensures .1, product (c .before .before .before))
@@ -48,14 +30,14 @@ pub nuclear-energy-spec : {M : Type 1} → statement M
 nuclear-energy-spec =
     tie.close
     (tie.spec
-    incremental-fuel-requires
-    fuel-requires
-    factor-requires
+    (λ c κs. search needs)
+    (λ c κs. search needs)
+    (λ c κs. search needs)
     mul-share
     mul-share-2
-    share-requires
-    adders-requires
+    (λ c κs. search needs)
+    (λ c κs. search needs)
     add-result
-    maintenance-requires
+    (λ c κs. search needs)
     add-result-2
     returns)

@@ -22,18 +22,6 @@ abbrev μ-loop : tie.MeasureT-loop
 loop-holds : tie.Need-loop-holds Inv-loop μ-loop
 loop-holds c = let a = c .before .before .pre in walk-begins (a .0) (a .1)
 
-sub-kind-at : tie.Need-sub-kind-at Inv-loop μ-loop
-sub-kind-at c = search needs
-
-part-kind-at-start : tie.Need-part-kind-at-start Inv-loop μ-loop
-part-kind-at-start c = search needs
-
-part-kind-at-end : tie.Need-part-kind-at-end Inv-loop μ-loop
-part-kind-at-end c = search needs
-
-kind-at-requires : tie.Need-kind-at-requires Inv-loop μ-loop
-kind-at-requires c κs = search needs
-
 with-record-requires : tie.Need-with-record-requires Inv-loop μ-loop
 with-record-requires c κs =
     let a = c .before .before .before .before .before .before in
@@ -61,10 +49,10 @@ by-records-spec =
     Inv-loop
     μ-loop
     loop-holds
-    sub-kind-at
-    part-kind-at-start
-    part-kind-at-end
-    kind-at-requires
+    (λ c. search needs)
+    (λ c. search needs)
+    (λ c. search needs)
+    (λ c κs. search needs)
     with-record-requires
     length-of-requires
     add-at

@@ -9,29 +9,14 @@ use Rattle.formulas.proofs.Rounding.{quotient-le}
 use Rattle.costs.proofs.storage.charging_through.Statement.{statement}
 use Rattle.costs.proofs.storage.charging_through.Tie as tie
 
-sums-requires : tie.Need-sums-requires
-sums-requires c κs = search needs
-
-last-cost-requires : tie.Need-last-cost-requires
-last-cost-requires c κs = search needs
-
 returns : tie.Need-returns
 unfolding microDollars chargingCost
 returns c =
     let e = c .before .before .before .sums .ensures in
     (rw (eq-eqb (totalEnergy _) 0 (sym (e .1) ∙ c .before .if1 .taken)) (c .last-cost .ensures .0), c .last-cost .ensures .1)
 
-mul-less : tie.Need-mul-less
-mul-less c = omega arith
-
-less-requires : tie.Need-less-requires
-less-requires c κs = search needs
-
 mul-share : tie.Need-mul-share
 mul-share c = omega (arith, c .less .ensures)
-
-share-requires : tie.Need-share-requires
-share-requires c κs = search needs
 
 returns-2 : tie.Need-returns-2
 unfolding microDollars chargingCost chargingSum
@@ -49,11 +34,11 @@ pub charging-through-spec : {M : Type 1} → statement M
 charging-through-spec =
     tie.close
     (tie.spec
-    sums-requires
-    last-cost-requires
+    (λ c κs. search needs)
+    (λ c κs. search needs)
     returns
-    mul-less
-    less-requires
+    (λ c. omega arith)
+    (λ c κs. search needs)
     mul-share
-    share-requires
+    (λ c κs. search needs)
     returns-2)

@@ -11,27 +11,6 @@ use Rattle.costs.proofs.Prices.{prices-part, prices-ready, hour-in}
 use Rattle.costs.proofs.storage.highest_sum.Statement.{statement}
 use Rattle.costs.proofs.storage.highest_sum.Tie as tie
 
-slice-aggregate-prices : tie.Need-slice-aggregate-prices
-slice-aggregate-prices c = search needs
-
-prices-requires : tie.Need-prices-requires
-prices-requires c κs = search needs
-
-sub-from : tie.Need-sub-from
-sub-from c = search needs
-
-mul-highest : tie.Need-mul-highest
-mul-highest c = search needs
-
-sub-highest : tie.Need-sub-highest
-sub-highest c = search needs
-
-part-highest-start : tie.Need-part-highest-start
-part-highest-start c = search needs
-
-part-highest-end : tie.Need-part-highest-end
-part-highest-end c = search needs
-
 -- the prices
 prices-of : tie.After-prices → List ℕ
 prices-of c = c .prices .last .1 .1 .1 .0
@@ -55,12 +34,12 @@ pub highest-sum-spec : {M : Type 1} → statement M
 highest-sum-spec =
     tie.close
     (tie.spec
-    slice-aggregate-prices
-    prices-requires
-    sub-from
-    mul-highest
-    sub-highest
-    part-highest-start
-    part-highest-end
+    (λ c. search needs)
+    (λ c κs. search needs)
+    (λ c. search needs)
+    (λ c. search needs)
+    (λ c. search needs)
+    (λ c. search needs)
+    (λ c. search needs)
     highest-requires
     returns)

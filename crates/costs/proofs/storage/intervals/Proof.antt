@@ -21,12 +21,6 @@ loop-holds c = (omega arith, omega arith, summed-none _)
 with-day-requires : tie.Need-with-day-requires Inv-loop μ-loop
 with-day-requires c κs = (search needs, search needs, omega arith, c .before .loop .inv .2)
 
-add-n : tie.Need-add-n Inv-loop μ-loop
-add-n c = omega arith
-
-loop-less : tie.Need-loop-less Inv-loop μ-loop
-loop-less c = omega arith
-
 loop-again : tie.Need-loop-again Inv-loop μ-loop
 loop-again c = (omega arith, omega arith, c .with-day .ensures)
 
@@ -40,4 +34,4 @@ returns c =
 pub intervals-spec : {M : Type 1} → statement M
 intervals-spec =
     tie.close
-    (tie.spec Inv-loop μ-loop loop-holds with-day-requires add-n loop-less loop-again returns)
+    (tie.spec Inv-loop μ-loop loop-holds with-day-requires (λ c. omega arith) (λ c. omega arith) loop-again returns)

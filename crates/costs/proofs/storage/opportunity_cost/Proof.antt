@@ -11,31 +11,10 @@ use Rattle.formulas.specs.Levels.{highestSum, opportunityCost}
 use Rattle.costs.proofs.storage.opportunity_cost.Statement.{statement}
 use Rattle.costs.proofs.storage.opportunity_cost.Tie as tie
 
-full-hours-requires : tie.Need-full-hours-requires
-full-hours-requires c κs = search needs
-
-cast-hours : tie.Need-cast-hours
-cast-hours c = search needs
-
-window-requires : tie.Need-window-requires
-window-requires c κs = search needs
-
 highest-sum-requires : tie.Need-highest-sum-requires
 highest-sum-requires c κs =
     let a = c .before .before .before .before in
     (a .pre .0, omega (arith, c .window .ensures .0, a .pre .2), omega (arith, c .window .ensures .0, c .before .full-hours .ensures, full-hours-always (a .pre .0), a .pre .1))
-
-mul-less : tie.Need-mul-less
-mul-less c = search needs
-
-less-requires : tie.Need-less-requires
-less-requires c κs = search needs
-
-mul-share : tie.Need-mul-share
-mul-share c = search needs
-
-share-requires : tie.Need-share-requires
-share-requires c κs = search needs
 
 returns : tie.Need-returns
 unfolding microDollars opportunityCost highestSum
@@ -49,12 +28,12 @@ pub opportunity-cost-spec : {M : Type 1} → statement M
 opportunity-cost-spec =
     tie.close
     (tie.spec
-    full-hours-requires
-    cast-hours
-    window-requires
+    (λ c κs. search needs)
+    (λ c. search needs)
+    (λ c κs. search needs)
     highest-sum-requires
-    mul-less
-    less-requires
-    mul-share
-    share-requires
+    (λ c. search needs)
+    (λ c κs. search needs)
+    (λ c. search needs)
+    (λ c κs. search needs)
     returns)

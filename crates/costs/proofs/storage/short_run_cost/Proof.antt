@@ -8,36 +8,6 @@ use Rattle.costs.proofs.Always.{charging-always}
 use Rattle.costs.proofs.storage.short_run_cost.Statement.{statement}
 use Rattle.costs.proofs.storage.short_run_cost.Tie as tie
 
-charging-cost-requires : tie.Need-charging-cost-requires
-charging-cost-requires c κs = search needs
-
-fuel-requires : tie.Need-fuel-requires
-fuel-requires c κs = search needs
-
-add-charge : tie.Need-add-charge
-add-charge c = omega arith
-
-efficiency-requires : tie.Need-efficiency-requires
-efficiency-requires c κs = search needs
-
-mul-share : tie.Need-mul-share
-mul-share c = omega arith
-
-share-requires : tie.Need-share-requires
-share-requires c κs = search needs
-
-adders-requires : tie.Need-adders-requires
-adders-requires c κs = search needs
-
-add-result : tie.Need-add-result
-add-result c = omega arith
-
-maintenance-requires : tie.Need-maintenance-requires
-maintenance-requires c κs = search needs
-
-add-result-2 : tie.Need-add-result-2
-add-result-2 c = omega arith
-
 returns : tie.Need-returns
 unfolding microDollars shortRunCost
 returns c =
@@ -49,14 +19,14 @@ pub short-run-cost-spec : {M : Type 1} → statement M
 short-run-cost-spec =
     tie.close
     (tie.spec
-    charging-cost-requires
-    fuel-requires
-    add-charge
-    efficiency-requires
-    mul-share
-    share-requires
-    adders-requires
-    add-result
-    maintenance-requires
-    add-result-2
+    (λ c κs. search needs)
+    (λ c κs. search needs)
+    (λ c. omega arith)
+    (λ c κs. search needs)
+    (λ c. omega arith)
+    (λ c κs. search needs)
+    (λ c κs. search needs)
+    (λ c. omega arith)
+    (λ c κs. search needs)
+    (λ c. omega arith)
     returns)

@@ -17,17 +17,8 @@ loop-holds c =
     let a = c .before .before in
     (omega arith, subst (λ (k : ℕ). Summed (a .args .d .now) k (a .args .before .cost) (a .args .before .energy)) (omega arith) (a .pre .3))
 
-add-with-next : tie.Need-add-with-next Inv-loop μ-loop
-add-with-next c = omega arith
-
 with-next-requires : tie.Need-with-next-requires Inv-loop μ-loop
 with-next-requires c κs = (search needs, search needs, omega arith, c .before .loop .inv .1)
-
-add-i : tie.Need-add-i Inv-loop μ-loop
-add-i c = omega arith
-
-loop-less : tie.Need-loop-less Inv-loop μ-loop
-loop-less c = omega arith
 
 loop-again : tie.Need-loop-again Inv-loop μ-loop
 loop-again c =
@@ -42,4 +33,4 @@ returns c =
 pub with-eight-spec : {M : Type 1} → statement M
 with-eight-spec =
     tie.close
-    (tie.spec Inv-loop μ-loop loop-holds add-with-next with-next-requires add-i loop-less loop-again returns)
+    (tie.spec Inv-loop μ-loop loop-holds (λ c. omega arith) with-next-requires (λ c. omega arith) (λ c. omega arith) loop-again returns)

@@ -15,9 +15,6 @@ use Rattle.costs.proofs.Intervals.{charged, uncharged-slot}
 use Rattle.costs.proofs.storage.with_interval.Statement.{statement}
 use Rattle.costs.proofs.storage.with_interval.Tie as tie
 
-slot-ch-requires : tie.Need-slot-ch-requires
-slot-ch-requires c κs = search needs
-
 -- a slot of the index
 in-index : (c : tie.After-slot-ch) → c .slot-ch .result < length (c .before .before .before .args .index .now)
 unfolding slot
@@ -52,40 +49,13 @@ stands c =
     let a = c .before .before .before .before .before in
     charged (a .pre .0) (a .pre .1) (a .args .n) (a .pre .2) (a .pre .3) (c .before .before .slot-ch .ensures) (c .if1 .left)
 
-sub-r : tie.Need-sub-r
-sub-r c = search needs
-
-sub-r-2 : tie.Need-sub-r-2
-sub-r-2 c = search needs
-
 add-r : tie.Need-add-r
 unfolding Stands
 add-r c = omega (arith, stands (c .before) .0, c .before .before .before .before .before .before .pre .0 .short)
 
-sub-r-3 : tie.Need-sub-r-3
-sub-r-3 c = search needs
-
-part-r-start : tie.Need-part-r-start
-part-r-start c = search needs
-
 part-r-end : tie.Need-part-r-end
 unfolding Stands
 part-r-end c = omega (arith, stands (c .before) .0)
-
-u32-at-requires : tie.Need-u32-at-requires
-u32-at-requires c κs = search needs
-
-biased-requires : tie.Need-biased-requires
-biased-requires c κs = search needs
-
-cast-price : tie.Need-cast-price
-cast-price c = search needs
-
-u32-at-requires-2 : tie.Need-u32-at-requires-2
-u32-at-requires-2 c κs = search needs
-
-cast-energy : tie.Need-cast-energy
-cast-energy c = search needs
 
 -- what was read
 Reads : tie.After-u32-at2 → Type 0
@@ -131,22 +101,22 @@ pub with-interval-spec : {M : Type 1} → statement M
 with-interval-spec =
     tie.close
     (tie.spec
-    slot-ch-requires
+    (λ c κs. search needs)
     mul-v
     shared-slice-read-v
     cast-v
     returns
-    sub-r
-    sub-r-2
+    (λ c. search needs)
+    (λ c. search needs)
     add-r
-    sub-r-3
-    part-r-start
+    (λ c. search needs)
+    (λ c. search needs)
     part-r-end
-    u32-at-requires
-    biased-requires
-    cast-price
-    u32-at-requires-2
-    cast-energy
+    (λ c κs. search needs)
+    (λ c κs. search needs)
+    (λ c. search needs)
+    (λ c κs. search needs)
+    (λ c. search needs)
     mul-t23
     add-t24
     add-t25

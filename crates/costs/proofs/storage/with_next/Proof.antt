@@ -7,12 +7,6 @@ use Rattle.costs.proofs.Intervals.{summed-more}
 use Rattle.costs.proofs.storage.with_next.Statement.{statement}
 use Rattle.costs.proofs.storage.with_next.Tie as tie
 
-add-with-interval : tie.Need-add-with-interval
-add-with-interval c = search needs
-
-with-interval-requires : tie.Need-with-interval-requires
-with-interval-requires c κs = search needs
-
 returns : tie.Need-returns
 unfolding fieldOf rowOf table
 returns c =
@@ -21,4 +15,4 @@ returns c =
     summed-more (a .pre .3) (e .0) (e .1) (e .2) (says-high (clean (a .pre .0)) CH (a .args .n + 1) 2)
 
 pub with-next-spec : {M : Type 1} → statement M
-with-next-spec = tie.close (tie.spec add-with-interval with-interval-requires returns)
+with-next-spec = tie.close (tie.spec (λ c. search needs) (λ c κs. search needs) returns)

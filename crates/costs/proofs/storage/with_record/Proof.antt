@@ -38,26 +38,8 @@ returns c =
     let a = c .before .before .before in
     past a (walk-other (a .pre .0) (a .pre .1) (a .pre .4) (a .pre .2) (λ e. c .if1 .taken (a .pre .3 ∙ e)))
 
-add-u16-at : tie.Need-add-u16-at
-add-u16-at c = search needs
-
-sub-u16-at : tie.Need-sub-u16-at
-sub-u16-at c = search needs
-
-part-u16-at-start : tie.Need-part-u16-at-start
-part-u16-at-start c = search needs
-
 part-u16-at-end : tie.Need-part-u16-at-end
 part-u16-at-end c = let a = c .before .before .before .before in omega (arith, whole (a .pre .0) (a .pre .1) (a .pre .4) (a .pre .2) (charging (c .before)))
-
-u16-at-requires : tie.Need-u16-at-requires
-u16-at-requires c κs = search needs
-
-cast-n : tie.Need-cast-n
-cast-n c = search needs
-
-slot-ch-requires : tie.Need-slot-ch-requires
-slot-ch-requires c κs = search needs
 
 mul-if2 : tie.Need-mul-if2
 unfolding slot
@@ -69,9 +51,6 @@ shared-slice-read-if2 c = omega (arith, c .before .slot-ch .ensures, in-range (c
 
 cast-if2 : tie.Need-cast-if2
 cast-if2 c = omega (arith, c .shared-slice-known3 .given (c .before .slot-ch .result))
-
-add-if2 : tie.Need-add-if2
-add-if2 c = search needs
 
 with-interval-requires : tie.Need-with-interval-requires
 with-interval-requires c κs =
@@ -101,17 +80,17 @@ with-record-spec =
     tie.close
     (tie.spec
     returns
-    add-u16-at
-    sub-u16-at
-    part-u16-at-start
+    (λ c. search needs)
+    (λ c. search needs)
+    (λ c. search needs)
     part-u16-at-end
-    u16-at-requires
-    cast-n
-    slot-ch-requires
+    (λ c κs. search needs)
+    (λ c. search needs)
+    (λ c κs. search needs)
     mul-if2
     shared-slice-read-if2
     cast-if2
-    add-if2
+    (λ c. search needs)
     with-interval-requires
     returns-2
     returns-3)

@@ -6,22 +6,10 @@ use Rattle.rules.specs.Curve.{rise}
 use Rattle.costs.proofs.thermal.heat_rise.Statement.{statement}
 use Rattle.costs.proofs.thermal.heat_rise.Tie as tie
 
-add-heat : tie.Need-add-heat
-add-heat c = omega arith
-
-heat-requires : tie.Need-heat-requires
-heat-requires c κs = search needs
-
-heat-requires-2 : tie.Need-heat-requires-2
-heat-requires-2 c κs = search needs
-
-less-requires : tie.Need-less-requires
-less-requires c κs = search needs
-
 returns : tie.Need-returns
 unfolding rise
 returns c =
     (c .less .ensures ∙ ap₂ (λ (x y : ℕ). x - y) (c .before .before .heat .ensures .0) (c .before .heat2 .ensures .0), omega (arith, c .less .ensures))
 
 pub heat-rise-spec : {M : Type 1} → statement M
-heat-rise-spec = tie.close (tie.spec add-heat heat-requires heat-requires-2 less-requires returns)
+heat-rise-spec = tie.close (tie.spec (λ c. omega arith) (λ c κs. search needs) (λ c κs. search needs) (λ c κs. search needs) returns)

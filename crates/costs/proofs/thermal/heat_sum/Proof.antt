@@ -3,21 +3,9 @@ use Rattle.costs.proofs.Costs.{heat-costs}
 use Rattle.costs.proofs.thermal.heat_sum.Statement.{statement}
 use Rattle.costs.proofs.thermal.heat_sum.Tie as tie
 
-fuel-requires : tie.Need-fuel-requires
-fuel-requires c κs = search needs
-
-emission-requires : tie.Need-emission-requires
-emission-requires c κs = search needs
-
-factor-requires : tie.Need-factor-requires
-factor-requires c κs = search needs
-
-heat-cost-requires : tie.Need-heat-cost-requires
-heat-cost-requires c κs = search needs
-
 returns : tie.Need-returns
 returns c =
     (heat-costs _ _ _ (c .before .before .before .fuel .ensures .0) (c .before .before .emission .ensures .0) (c .before .factor .ensures .0) _ (c .heat-cost .ensures .0), c .heat-cost .ensures .1)
 
 pub heat-sum-spec : {M : Type 1} → statement M
-heat-sum-spec = tie.close (tie.spec fuel-requires emission-requires factor-requires heat-cost-requires returns)
+heat-sum-spec = tie.close (tie.spec (λ c κs. search needs) (λ c κs. search needs) (λ c κs. search needs) (λ c κs. search needs) returns)

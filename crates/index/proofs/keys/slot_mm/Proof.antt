@@ -6,15 +6,6 @@ use borrow.Author.Needs.{needs}
 use Rattle.index.proofs.keys.slot_mm.Statement.{statement}
 use Rattle.index.proofs.keys.slot_mm.Tie as tie
 
-mul-result : tie.Need-mul-result
-mul-result c = search needs
-
-add-result : tie.Need-add-result
-add-result c = search needs
-
-add-result-2 : tie.Need-add-result-2
-add-result-2 c = search needs
-
 returns : tie.Need-returns
 unfolding slot
 returns c =
@@ -24,4 +15,4 @@ returns c =
     rw (x, y) refl
 
 pub slot-mm-spec : {M : Type 1} → statement M
-slot-mm-spec = tie.close (tie.spec mul-result add-result add-result-2 returns)
+slot-mm-spec = tie.close (tie.spec (λ c. search needs) (λ c. search needs) (λ c. search needs) returns)

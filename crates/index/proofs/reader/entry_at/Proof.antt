@@ -8,91 +8,37 @@ use borrow.Author.Needs.{needs}
 use Rattle.index.proofs.reader.entry_at.Statement.{statement}
 use Rattle.index.proofs.reader.entry_at.Tie as tie
 
-is-mark-requires : tie.Need-is-mark-requires
-is-mark-requires c κs = search needs
-
-entry-ch-requires : tie.Need-entry-ch-requires
-entry-ch-requires c κs = search needs
-
 returns : tie.Need-returns
 unfolding markIn table
 returns c = c .entry-ch .ensures ∙ entry-as _ (begun 67 72 _ (sym (c .before .before .is-mark .ensures) ∙ c .before .if1 .taken))
-
-is-mark-requires-2 : tie.Need-is-mark-requires-2
-is-mark-requires-2 c κs = search needs
-
-entry-hp-requires : tie.Need-entry-hp-requires
-entry-hp-requires c κs = search needs
 
 returns-2 : tie.Need-returns-2
 unfolding markIn table
 returns-2 c = c .entry-hp .ensures ∙ entry-as _ (begun 72 80 _ (sym (c .before .before .is-mark2 .ensures) ∙ c .before .if2 .taken))
 
-is-mark-requires-3 : tie.Need-is-mark-requires-3
-is-mark-requires-3 c κs = search needs
-
-entry-th-requires : tie.Need-entry-th-requires
-entry-th-requires c κs = search needs
-
 returns-3 : tie.Need-returns-3
 unfolding markIn table
 returns-3 c = c .entry-th .ensures ∙ entry-as _ (begun 84 72 _ (sym (c .before .before .is-mark3 .ensures) ∙ c .before .if3 .taken))
-
-is-mark-requires-4 : tie.Need-is-mark-requires-4
-is-mark-requires-4 c κs = search needs
-
-entry-hr-requires : tie.Need-entry-hr-requires
-entry-hr-requires c κs = search needs
 
 returns-4 : tie.Need-returns-4
 unfolding markIn table
 returns-4 c = c .entry-hr .ensures ∙ entry-as _ (begun 72 82 _ (sym (c .before .before .is-mark4 .ensures) ∙ c .before .if4 .taken))
 
-is-mark-requires-5 : tie.Need-is-mark-requires-5
-is-mark-requires-5 c κs = search needs
-
-entry-fp-requires : tie.Need-entry-fp-requires
-entry-fp-requires c κs = search needs
-
 returns-5 : tie.Need-returns-5
 unfolding markIn table
 returns-5 c = c .entry-fp .ensures ∙ entry-as _ (begun 70 80 _ (sym (c .before .before .is-mark5 .ensures) ∙ c .before .if5 .taken))
-
-is-mark-requires-6 : tie.Need-is-mark-requires-6
-is-mark-requires-6 c κs = search needs
-
-entry-fu-requires : tie.Need-entry-fu-requires
-entry-fu-requires c κs = search needs
 
 returns-6 : tie.Need-returns-6
 unfolding markIn table
 returns-6 c = c .entry-fu .ensures ∙ entry-as _ (begun 70 85 _ (sym (c .before .before .is-mark6 .ensures) ∙ c .before .if6 .taken))
 
-is-mark-requires-7 : tie.Need-is-mark-requires-7
-is-mark-requires-7 c κs = search needs
-
-entry-ad-requires : tie.Need-entry-ad-requires
-entry-ad-requires c κs = search needs
-
 returns-7 : tie.Need-returns-7
 unfolding markIn table
 returns-7 c = c .entry-ad .ensures ∙ entry-as _ (begun 65 68 _ (sym (c .before .before .is-mark7 .ensures) ∙ c .before .if7 .taken))
 
-is-mark-requires-8 : tie.Need-is-mark-requires-8
-is-mark-requires-8 c κs = search needs
-
-entry-mm-requires : tie.Need-entry-mm-requires
-entry-mm-requires c κs = search needs
-
 returns-8 : tie.Need-returns-8
 unfolding markIn table
 returns-8 c = c .entry-mm .ensures ∙ entry-as _ (begun 77 77 _ (sym (c .before .before .is-mark8 .ensures) ∙ c .before .if8 .taken))
-
-is-mark-requires-9 : tie.Need-is-mark-requires-9
-is-mark-requires-9 c κs = search needs
-
-entry-rq-requires : tie.Need-entry-rq-requires
-entry-rq-requires c κs = search needs
 
 returns-9 : tie.Need-returns-9
 unfolding markIn table
@@ -117,32 +63,32 @@ pub entry-at-spec : {M : Type 1} → statement M
 entry-at-spec =
     tie.close
     (tie.spec
-    is-mark-requires
-    entry-ch-requires
+    (λ c κs. search needs)
+    (λ c κs. search needs)
     returns
-    is-mark-requires-2
-    entry-hp-requires
+    (λ c κs. search needs)
+    (λ c κs. search needs)
     returns-2
-    is-mark-requires-3
-    entry-th-requires
+    (λ c κs. search needs)
+    (λ c κs. search needs)
     returns-3
-    is-mark-requires-4
-    entry-hr-requires
+    (λ c κs. search needs)
+    (λ c κs. search needs)
     returns-4
-    is-mark-requires-5
-    entry-fp-requires
+    (λ c κs. search needs)
+    (λ c κs. search needs)
     returns-5
-    is-mark-requires-6
-    entry-fu-requires
+    (λ c κs. search needs)
+    (λ c κs. search needs)
     returns-6
-    is-mark-requires-7
-    entry-ad-requires
+    (λ c κs. search needs)
+    (λ c κs. search needs)
     returns-7
-    is-mark-requires-8
-    entry-mm-requires
+    (λ c κs. search needs)
+    (λ c κs. search needs)
     returns-8
-    is-mark-requires-9
-    entry-rq-requires
+    (λ c κs. search needs)
+    (λ c κs. search needs)
     returns-9
     entry-keyless-requires
     returns-10)

@@ -7,19 +7,10 @@ use borrow.Author.Needs.{needs}
 use Rattle.index.proofs.reader.entry_ch.Statement.{statement}
 use Rattle.index.proofs.reader.entry_ch.Tie as tie
 
-u16-at-requires : tie.Need-u16-at-requires
-u16-at-requires c κs = search needs
-
-cast-slot-ch : tie.Need-cast-slot-ch
-cast-slot-ch c = search needs
-
-slot-ch-requires : tie.Need-slot-ch-requires
-slot-ch-requires c κs = search needs
-
 returns : tie.Need-returns
 unfolding slotAt size widths keyWidth keyIn rowOf table
 returns c = ap (entry _) (c .slot-ch .ensures ∙ ap (slot 8) (c .before .u16-at .ensures))
 
 pub entry-ch-spec : {M : Type 1} → statement M
 entry-ch-spec =
-    tie.close (tie.spec u16-at-requires cast-slot-ch slot-ch-requires returns)
+    tie.close (tie.spec (λ c κs. search needs) (λ c. search needs) (λ c κs. search needs) returns)

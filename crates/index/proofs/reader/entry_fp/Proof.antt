@@ -7,19 +7,10 @@ use borrow.Author.Needs.{needs}
 use Rattle.index.proofs.reader.entry_fp.Statement.{statement}
 use Rattle.index.proofs.reader.entry_fp.Tie as tie
 
-u16-at-requires : tie.Need-u16-at-requires
-u16-at-requires c κs = search needs
-
-cast-slot-fp : tie.Need-cast-slot-fp
-cast-slot-fp c = search needs
-
-slot-fp-requires : tie.Need-slot-fp-requires
-slot-fp-requires c κs = search needs
-
 returns : tie.Need-returns
 unfolding slotAt size widths keyWidth keyIn rowOf table
 returns c = ap (entry _) (c .slot-fp .ensures ∙ ap (slot 10) (c .before .u16-at .ensures))
 
 pub entry-fp-spec : {M : Type 1} → statement M
 entry-fp-spec =
-    tie.close (tie.spec u16-at-requires cast-slot-fp slot-fp-requires returns)
+    tie.close (tie.spec (λ c κs. search needs) (λ c. search needs) (λ c κs. search needs) returns)

@@ -7,19 +7,10 @@ use borrow.Author.Needs.{needs}
 use Rattle.index.proofs.reader.entry_fu.Statement.{statement}
 use Rattle.index.proofs.reader.entry_fu.Tie as tie
 
-u8-at-requires : tie.Need-u8-at-requires
-u8-at-requires c κs = search needs
-
-cast-slot-fu : tie.Need-cast-slot-fu
-cast-slot-fu c = search needs
-
-slot-fu-requires : tie.Need-slot-fu-requires
-slot-fu-requires c κs = search needs
-
 returns : tie.Need-returns
 unfolding slotAt size widths keyWidth keyIn rowOf table
 returns c = ap (entry _) (c .slot-fu .ensures ∙ ap (slot 3) (c .before .u8-at .ensures))
 
 pub entry-fu-spec : {M : Type 1} → statement M
 entry-fu-spec =
-    tie.close (tie.spec u8-at-requires cast-slot-fu slot-fu-requires returns)
+    tie.close (tie.spec (λ c κs. search needs) (λ c. search needs) (λ c κs. search needs) returns)

@@ -7,19 +7,10 @@ use borrow.Author.Needs.{needs}
 use Rattle.index.proofs.reader.entry_hp.Statement.{statement}
 use Rattle.index.proofs.reader.entry_hp.Tie as tie
 
-u8-at-requires : tie.Need-u8-at-requires
-u8-at-requires c κs = search needs
-
-cast-slot-hp : tie.Need-cast-slot-hp
-cast-slot-hp c = search needs
-
-slot-hp-requires : tie.Need-slot-hp-requires
-slot-hp-requires c κs = search needs
-
 returns : tie.Need-returns
 unfolding slotAt size widths keyWidth keyIn rowOf table
 returns c = ap (entry _) (c .slot-hp .ensures ∙ ap (slot 2) (c .before .u8-at .ensures))
 
 pub entry-hp-spec : {M : Type 1} → statement M
 entry-hp-spec =
-    tie.close (tie.spec u8-at-requires cast-slot-hp slot-hp-requires returns)
+    tie.close (tie.spec (λ c κs. search needs) (λ c. search needs) (λ c κs. search needs) returns)

@@ -7,19 +7,10 @@ use borrow.Author.Needs.{needs}
 use Rattle.index.proofs.reader.entry_hr.Statement.{statement}
 use Rattle.index.proofs.reader.entry_hr.Tie as tie
 
-u8-at-requires : tie.Need-u8-at-requires
-u8-at-requires c κs = search needs
-
-cast-slot-hr : tie.Need-cast-slot-hr
-cast-slot-hr c = search needs
-
-slot-hr-requires : tie.Need-slot-hr-requires
-slot-hr-requires c κs = search needs
-
 returns : tie.Need-returns
 unfolding slotAt size widths keyWidth keyIn rowOf table
 returns c = ap (entry _) (c .slot-hr .ensures ∙ ap (slot 7) (c .before .u8-at .ensures))
 
 pub entry-hr-spec : {M : Type 1} → statement M
 entry-hr-spec =
-    tie.close (tie.spec u8-at-requires cast-slot-hr slot-hr-requires returns)
+    tie.close (tie.spec (λ c κs. search needs) (λ c. search needs) (λ c κs. search needs) returns)

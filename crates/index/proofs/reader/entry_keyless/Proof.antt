@@ -9,21 +9,9 @@ use borrow.Author.Needs.{needs}
 use Rattle.index.proofs.reader.entry_keyless.Statement.{statement}
 use Rattle.index.proofs.reader.entry_keyless.Tie as tie
 
-is-mark-requires : tie.Need-is-mark-requires
-is-mark-requires c κs = search needs
-
-entry-rs-requires : tie.Need-entry-rs-requires
-entry-rs-requires c κs = search needs
-
 returns : tie.Need-returns
 unfolding markIn table
 returns c = c .entry-rs .ensures ∙ entry-as _ (begun 82 83 _ (sym (c .before .before .is-mark .ensures) ∙ c .before .if1 .taken))
-
-is-mark-requires-2 : tie.Need-is-mark-requires-2
-is-mark-requires-2 c κs = search needs
-
-entry-lc-requires : tie.Need-entry-lc-requires
-entry-lc-requires c κs = search needs
 
 returns-2 : tie.Need-returns-2
 unfolding markIn table
@@ -39,10 +27,10 @@ pub entry-keyless-spec : {M : Type 1} → statement M
 entry-keyless-spec =
     tie.close
     (tie.spec
-    is-mark-requires
-    entry-rs-requires
+    (λ c κs. search needs)
+    (λ c κs. search needs)
     returns
-    is-mark-requires-2
-    entry-lc-requires
+    (λ c κs. search needs)
+    (λ c κs. search needs)
     returns-2
     returns-3)

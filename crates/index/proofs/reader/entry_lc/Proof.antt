@@ -8,12 +8,9 @@ use borrow.Author.Needs.{needs}
 use Rattle.index.proofs.reader.entry_lc.Statement.{statement}
 use Rattle.index.proofs.reader.entry_lc.Tie as tie
 
-slot-lc-requires : tie.Need-slot-lc-requires
-slot-lc-requires c κs = search needs
-
 returns : tie.Need-returns
 unfolding slotAt size widths keyWidth keyIn rowOf table number
 returns c = ap (entry 10) (c .slot-lc .ensures)
 
 pub entry-lc-spec : {M : Type 1} → statement M
-entry-lc-spec = tie.close (tie.spec slot-lc-requires returns)
+entry-lc-spec = tie.close (tie.spec (λ c κs. search needs) returns)

@@ -10,91 +10,37 @@ use Rattle.index.proofs.reader.read.Tie as tie
 returns : tie.Need-returns
 returns c = reading-short _ (c .if1 .taken)
 
-is-ch-requires : tie.Need-is-ch-requires
-is-ch-requires c κs = search needs
-
-read-ch-requires : tie.Need-read-ch-requires
-read-ch-requires c κs = search needs
-
 returns-2 : tie.Need-returns-2
 unfolding markIn table
 returns-2 c = c .read-ch .ensures ∙ reading-as 67 72 8 _ refl refl (c .before .before .before .if1 .left) (sym (c .before .before .is-ch .ensures) ∙ c .before .if2 .taken)
-
-is-mark-requires : tie.Need-is-mark-requires
-is-mark-requires c κs = search needs
-
-read-hp-requires : tie.Need-read-hp-requires
-read-hp-requires c κs = search needs
 
 returns-3 : tie.Need-returns-3
 unfolding markIn table
 returns-3 c = c .read-hp .ensures ∙ reading-as 72 80 2 _ refl refl (c .before .before .before .before .before .before .if1 .left) (sym (c .before .before .is-mark .ensures) ∙ c .before .if3 .taken)
 
-is-mark-requires-2 : tie.Need-is-mark-requires-2
-is-mark-requires-2 c κs = search needs
-
-read-th-requires : tie.Need-read-th-requires
-read-th-requires c κs = search needs
-
 returns-4 : tie.Need-returns-4
 unfolding markIn table
 returns-4 c = c .read-th .ensures ∙ reading-as 84 72 9 _ refl refl (c .before .before .before .before .before .before .before .before .before .if1 .left) (sym (c .before .before .is-mark2 .ensures) ∙ c .before .if4 .taken)
-
-is-mark-requires-3 : tie.Need-is-mark-requires-3
-is-mark-requires-3 c κs = search needs
-
-read-hr-requires : tie.Need-read-hr-requires
-read-hr-requires c κs = search needs
 
 returns-5 : tie.Need-returns-5
 unfolding markIn table
 returns-5 c = c .read-hr .ensures ∙ reading-as 72 82 7 _ refl refl (c .before .before .before .before .before .before .before .before .before .before .before .before .if1 .left) (sym (c .before .before .is-mark3 .ensures) ∙ c .before .if5 .taken)
 
-is-mark-requires-4 : tie.Need-is-mark-requires-4
-is-mark-requires-4 c κs = search needs
-
-read-fp-requires : tie.Need-read-fp-requires
-read-fp-requires c κs = search needs
-
 returns-6 : tie.Need-returns-6
 unfolding markIn table
 returns-6 c = c .read-fp .ensures ∙ reading-as 70 80 10 _ refl refl (c .before .before .before .before .before .before .before .before .before .before .before .before .before .before .before .if1 .left) (sym (c .before .before .is-mark4 .ensures) ∙ c .before .if6 .taken)
-
-is-mark-requires-5 : tie.Need-is-mark-requires-5
-is-mark-requires-5 c κs = search needs
-
-read-fu-requires : tie.Need-read-fu-requires
-read-fu-requires c κs = search needs
 
 returns-7 : tie.Need-returns-7
 unfolding markIn table
 returns-7 c = c .read-fu .ensures ∙ reading-as 70 85 3 _ refl refl (c .before .before .before .before .before .before .before .before .before .before .before .before .before .before .before .before .before .before .if1 .left) (sym (c .before .before .is-mark5 .ensures) ∙ c .before .if7 .taken)
 
-is-mark-requires-6 : tie.Need-is-mark-requires-6
-is-mark-requires-6 c κs = search needs
-
-read-ad-requires : tie.Need-read-ad-requires
-read-ad-requires c κs = search needs
-
 returns-8 : tie.Need-returns-8
 unfolding markIn table
 returns-8 c = c .read-ad .ensures ∙ reading-as 65 68 4 _ refl refl (c .before .before .before .before .before .before .before .before .before .before .before .before .before .before .before .before .before .before .before .before .before .if1 .left) (sym (c .before .before .is-mark6 .ensures) ∙ c .before .if8 .taken)
 
-is-mark-requires-7 : tie.Need-is-mark-requires-7
-is-mark-requires-7 c κs = search needs
-
-read-mm-requires : tie.Need-read-mm-requires
-read-mm-requires c κs = search needs
-
 returns-9 : tie.Need-returns-9
 unfolding markIn table
 returns-9 c = c .read-mm .ensures ∙ reading-as 77 77 5 _ refl refl (c .before .before .before .before .before .before .before .before .before .before .before .before .before .before .before .before .before .before .before .before .before .before .before .before .if1 .left) (sym (c .before .before .is-mark7 .ensures) ∙ c .before .if9 .taken)
-
-is-mark-requires-8 : tie.Need-is-mark-requires-8
-is-mark-requires-8 c κs = search needs
-
-read-rq-requires : tie.Need-read-rq-requires
-read-rq-requires c κs = search needs
 
 returns-10 : tie.Need-returns-10
 unfolding markIn table
@@ -120,32 +66,32 @@ read-spec =
     tie.close
     (tie.spec
     returns
-    is-ch-requires
-    read-ch-requires
+    (λ c κs. search needs)
+    (λ c κs. search needs)
     returns-2
-    is-mark-requires
-    read-hp-requires
+    (λ c κs. search needs)
+    (λ c κs. search needs)
     returns-3
-    is-mark-requires-2
-    read-th-requires
+    (λ c κs. search needs)
+    (λ c κs. search needs)
     returns-4
-    is-mark-requires-3
-    read-hr-requires
+    (λ c κs. search needs)
+    (λ c κs. search needs)
     returns-5
-    is-mark-requires-4
-    read-fp-requires
+    (λ c κs. search needs)
+    (λ c κs. search needs)
     returns-6
-    is-mark-requires-5
-    read-fu-requires
+    (λ c κs. search needs)
+    (λ c κs. search needs)
     returns-7
-    is-mark-requires-6
-    read-ad-requires
+    (λ c κs. search needs)
+    (λ c κs. search needs)
     returns-8
-    is-mark-requires-7
-    read-mm-requires
+    (λ c κs. search needs)
+    (λ c κs. search needs)
     returns-9
-    is-mark-requires-8
-    read-rq-requires
+    (λ c κs. search needs)
+    (λ c κs. search needs)
     returns-10
     read-keyless-requires
     returns-11)

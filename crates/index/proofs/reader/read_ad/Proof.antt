@@ -10,12 +10,6 @@ returns : tie.Need-returns
 unfolding size widths rowOf table
 returns c = as-short 4 _ (c .if1 .taken)
 
-ad-ok-requires : tie.Need-ad-ok-requires
-ad-ok-requires c κs = search needs
-
-entry-ad-requires : tie.Need-entry-ad-requires
-entry-ad-requires c κs = search needs
-
 returns-2 : tie.Need-returns-2
 unfolding size widths rowOf table
 returns-2 c = as-whole 4 _ (c .before .before .before .if1 .left) (sym (c .before .before .ad-ok .ensures) ∙ c .before .if2 .taken) (c .entry-ad .ensures)
@@ -27,4 +21,4 @@ returns-3 c = as-outside 4 _ (c .before .before .if1 .left) (sym (c .before .ad-
 pub read-ad-spec : {M : Type 1} → statement M
 read-ad-spec =
     tie.close
-    (tie.spec returns ad-ok-requires entry-ad-requires returns-2 returns-3)
+    (tie.spec returns (λ c κs. search needs) (λ c κs. search needs) returns-2 returns-3)

@@ -10,12 +10,6 @@ returns : tie.Need-returns
 unfolding size widths rowOf table
 returns c = as-short 8 _ (c .if1 .taken)
 
-ch-ok-requires : tie.Need-ch-ok-requires
-ch-ok-requires c κs = search needs
-
-entry-ch-requires : tie.Need-entry-ch-requires
-entry-ch-requires c κs = search needs
-
 returns-2 : tie.Need-returns-2
 unfolding size widths rowOf table
 returns-2 c = as-whole 8 _ (c .before .before .before .if1 .left) (sym (c .before .before .ch-ok .ensures) ∙ c .before .if2 .taken) (c .entry-ch .ensures)
@@ -27,4 +21,4 @@ returns-3 c = as-outside 8 _ (c .before .before .if1 .left) (sym (c .before .ch-
 pub read-ch-spec : {M : Type 1} → statement M
 read-ch-spec =
     tie.close
-    (tie.spec returns ch-ok-requires entry-ch-requires returns-2 returns-3)
+    (tie.spec returns (λ c κs. search needs) (λ c κs. search needs) returns-2 returns-3)

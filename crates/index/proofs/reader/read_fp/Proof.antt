@@ -10,12 +10,6 @@ returns : tie.Need-returns
 unfolding size widths rowOf table
 returns c = as-short 10 _ (c .if1 .taken)
 
-fp-ok-requires : tie.Need-fp-ok-requires
-fp-ok-requires c κs = search needs
-
-entry-fp-requires : tie.Need-entry-fp-requires
-entry-fp-requires c κs = search needs
-
 returns-2 : tie.Need-returns-2
 unfolding size widths rowOf table
 returns-2 c = as-whole 10 _ (c .before .before .before .if1 .left) (sym (c .before .before .fp-ok .ensures) ∙ c .before .if2 .taken) (c .entry-fp .ensures)
@@ -27,4 +21,4 @@ returns-3 c = as-outside 10 _ (c .before .before .if1 .left) (sym (c .before .fp
 pub read-fp-spec : {M : Type 1} → statement M
 read-fp-spec =
     tie.close
-    (tie.spec returns fp-ok-requires entry-fp-requires returns-2 returns-3)
+    (tie.spec returns (λ c κs. search needs) (λ c κs. search needs) returns-2 returns-3)

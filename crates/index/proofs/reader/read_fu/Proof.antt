@@ -10,12 +10,6 @@ returns : tie.Need-returns
 unfolding size widths rowOf table
 returns c = as-short 3 _ (c .if1 .taken)
 
-fu-ok-requires : tie.Need-fu-ok-requires
-fu-ok-requires c κs = search needs
-
-entry-fu-requires : tie.Need-entry-fu-requires
-entry-fu-requires c κs = search needs
-
 returns-2 : tie.Need-returns-2
 unfolding size widths rowOf table
 returns-2 c = as-whole 3 _ (c .before .before .before .if1 .left) (sym (c .before .before .fu-ok .ensures) ∙ c .before .if2 .taken) (c .entry-fu .ensures)
@@ -27,4 +21,4 @@ returns-3 c = as-outside 3 _ (c .before .before .if1 .left) (sym (c .before .fu-
 pub read-fu-spec : {M : Type 1} → statement M
 read-fu-spec =
     tie.close
-    (tie.spec returns fu-ok-requires entry-fu-requires returns-2 returns-3)
+    (tie.spec returns (λ c κs. search needs) (λ c κs. search needs) returns-2 returns-3)

@@ -10,12 +10,6 @@ returns : tie.Need-returns
 unfolding size widths rowOf table
 returns c = as-short 2 _ (c .if1 .taken)
 
-hp-ok-requires : tie.Need-hp-ok-requires
-hp-ok-requires c κs = search needs
-
-entry-hp-requires : tie.Need-entry-hp-requires
-entry-hp-requires c κs = search needs
-
 returns-2 : tie.Need-returns-2
 unfolding size widths rowOf table
 returns-2 c = as-whole 2 _ (c .before .before .before .if1 .left) (sym (c .before .before .hp-ok .ensures) ∙ c .before .if2 .taken) (c .entry-hp .ensures)
@@ -27,4 +21,4 @@ returns-3 c = as-outside 2 _ (c .before .before .if1 .left) (sym (c .before .hp-
 pub read-hp-spec : {M : Type 1} → statement M
 read-hp-spec =
     tie.close
-    (tie.spec returns hp-ok-requires entry-hp-requires returns-2 returns-3)
+    (tie.spec returns (λ c κs. search needs) (λ c κs. search needs) returns-2 returns-3)

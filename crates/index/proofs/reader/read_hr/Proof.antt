@@ -10,12 +10,6 @@ returns : tie.Need-returns
 unfolding size widths rowOf table
 returns c = as-short 7 _ (c .if1 .taken)
 
-hr-ok-requires : tie.Need-hr-ok-requires
-hr-ok-requires c κs = search needs
-
-entry-hr-requires : tie.Need-entry-hr-requires
-entry-hr-requires c κs = search needs
-
 returns-2 : tie.Need-returns-2
 unfolding size widths rowOf table
 returns-2 c = as-whole 7 _ (c .before .before .before .if1 .left) (sym (c .before .before .hr-ok .ensures) ∙ c .before .if2 .taken) (c .entry-hr .ensures)
@@ -27,4 +21,4 @@ returns-3 c = as-outside 7 _ (c .before .before .if1 .left) (sym (c .before .hr-
 pub read-hr-spec : {M : Type 1} → statement M
 read-hr-spec =
     tie.close
-    (tie.spec returns hr-ok-requires entry-hr-requires returns-2 returns-3)
+    (tie.spec returns (λ c κs. search needs) (λ c κs. search needs) returns-2 returns-3)

@@ -7,21 +7,9 @@ use borrow.Author.Needs.{needs}
 use Rattle.index.proofs.reader.read_keyless.Statement.{statement}
 use Rattle.index.proofs.reader.read_keyless.Tie as tie
 
-is-mark-requires : tie.Need-is-mark-requires
-is-mark-requires c κs = search needs
-
-read-rs-requires : tie.Need-read-rs-requires
-read-rs-requires c κs = search needs
-
 returns : tie.Need-returns
 unfolding markIn table
 returns c = c .read-rs .ensures ∙ reading-as 82 83 1 _ refl refl (c .before .before .before .before .before .pre .0) (sym (c .before .before .is-mark .ensures) ∙ c .before .if1 .taken)
-
-is-mark-requires-2 : tie.Need-is-mark-requires-2
-is-mark-requires-2 c κs = search needs
-
-read-lc-requires : tie.Need-read-lc-requires
-read-lc-requires c κs = search needs
 
 returns-2 : tie.Need-returns-2
 unfolding markIn table
@@ -37,10 +25,10 @@ pub read-keyless-spec : {M : Type 1} → statement M
 read-keyless-spec =
     tie.close
     (tie.spec
-    is-mark-requires
-    read-rs-requires
+    (λ c κs. search needs)
+    (λ c κs. search needs)
     returns
-    is-mark-requires-2
-    read-lc-requires
+    (λ c κs. search needs)
+    (λ c κs. search needs)
     returns-2
     returns-3)

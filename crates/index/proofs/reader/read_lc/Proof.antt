@@ -10,12 +10,6 @@ returns : tie.Need-returns
 unfolding size widths rowOf table
 returns c = as-short 11 _ (c .if1 .taken)
 
-lc-ok-requires : tie.Need-lc-ok-requires
-lc-ok-requires c κs = search needs
-
-entry-lc-requires : tie.Need-entry-lc-requires
-entry-lc-requires c κs = search needs
-
 returns-2 : tie.Need-returns-2
 unfolding size widths rowOf table
 returns-2 c = as-whole 11 _ (c .before .before .before .if1 .left) (sym (c .before .before .lc-ok .ensures) ∙ c .before .if2 .taken) (c .entry-lc .ensures)
@@ -27,4 +21,4 @@ returns-3 c = as-outside 11 _ (c .before .before .if1 .left) (sym (c .before .lc
 pub read-lc-spec : {M : Type 1} → statement M
 read-lc-spec =
     tie.close
-    (tie.spec returns lc-ok-requires entry-lc-requires returns-2 returns-3)
+    (tie.spec returns (λ c κs. search needs) (λ c κs. search needs) returns-2 returns-3)

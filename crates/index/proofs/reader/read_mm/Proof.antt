@@ -10,12 +10,6 @@ returns : tie.Need-returns
 unfolding size widths rowOf table
 returns c = as-short 5 _ (c .if1 .taken)
 
-mm-ok-requires : tie.Need-mm-ok-requires
-mm-ok-requires c κs = search needs
-
-entry-mm-requires : tie.Need-entry-mm-requires
-entry-mm-requires c κs = search needs
-
 returns-2 : tie.Need-returns-2
 unfolding size widths rowOf table
 returns-2 c = as-whole 5 _ (c .before .before .before .if1 .left) (sym (c .before .before .mm-ok .ensures) ∙ c .before .if2 .taken) (c .entry-mm .ensures)
@@ -27,4 +21,4 @@ returns-3 c = as-outside 5 _ (c .before .before .if1 .left) (sym (c .before .mm-
 pub read-mm-spec : {M : Type 1} → statement M
 read-mm-spec =
     tie.close
-    (tie.spec returns mm-ok-requires entry-mm-requires returns-2 returns-3)
+    (tie.spec returns (λ c κs. search needs) (λ c κs. search needs) returns-2 returns-3)

@@ -10,12 +10,6 @@ returns : tie.Need-returns
 unfolding size widths rowOf table
 returns c = as-short 6 _ (c .if1 .taken)
 
-rq-ok-requires : tie.Need-rq-ok-requires
-rq-ok-requires c κs = search needs
-
-entry-rq-requires : tie.Need-entry-rq-requires
-entry-rq-requires c κs = search needs
-
 returns-2 : tie.Need-returns-2
 unfolding size widths rowOf table
 returns-2 c = as-whole 6 _ (c .before .before .before .if1 .left) (sym (c .before .before .rq-ok .ensures) ∙ c .before .if2 .taken) (c .entry-rq .ensures)
@@ -27,4 +21,4 @@ returns-3 c = as-outside 6 _ (c .before .before .if1 .left) (sym (c .before .rq-
 pub read-rq-spec : {M : Type 1} → statement M
 read-rq-spec =
     tie.close
-    (tie.spec returns rq-ok-requires entry-rq-requires returns-2 returns-3)
+    (tie.spec returns (λ c κs. search needs) (λ c κs. search needs) returns-2 returns-3)

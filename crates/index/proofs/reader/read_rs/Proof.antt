@@ -10,12 +10,6 @@ returns : tie.Need-returns
 unfolding size widths rowOf table
 returns c = as-short 1 _ (c .if1 .taken)
 
-rs-ok-requires : tie.Need-rs-ok-requires
-rs-ok-requires c κs = search needs
-
-entry-rs-requires : tie.Need-entry-rs-requires
-entry-rs-requires c κs = search needs
-
 returns-2 : tie.Need-returns-2
 unfolding size widths rowOf table
 returns-2 c = as-whole 1 _ (c .before .before .before .if1 .left) (sym (c .before .before .rs-ok .ensures) ∙ c .before .if2 .taken) (c .entry-rs .ensures)
@@ -27,4 +21,4 @@ returns-3 c = as-outside 1 _ (c .before .before .if1 .left) (sym (c .before .rs-
 pub read-rs-spec : {M : Type 1} → statement M
 read-rs-spec =
     tie.close
-    (tie.spec returns rs-ok-requires entry-rs-requires returns-2 returns-3)
+    (tie.spec returns (λ c κs. search needs) (λ c κs. search needs) returns-2 returns-3)

@@ -10,12 +10,6 @@ returns : tie.Need-returns
 unfolding size widths rowOf table
 returns c = as-short 9 _ (c .if1 .taken)
 
-th-ok-requires : tie.Need-th-ok-requires
-th-ok-requires c κs = search needs
-
-entry-th-requires : tie.Need-entry-th-requires
-entry-th-requires c κs = search needs
-
 returns-2 : tie.Need-returns-2
 unfolding size widths rowOf table
 returns-2 c = as-whole 9 _ (c .before .before .before .if1 .left) (sym (c .before .before .th-ok .ensures) ∙ c .before .if2 .taken) (c .entry-th .ensures)
@@ -27,4 +21,4 @@ returns-3 c = as-outside 9 _ (c .before .before .if1 .left) (sym (c .before .th-
 pub read-th-spec : {M : Type 1} → statement M
 read-th-spec =
     tie.close
-    (tie.spec returns th-ok-requires entry-th-requires returns-2 returns-3)
+    (tie.spec returns (λ c κs. search needs) (λ c κs. search needs) returns-2 returns-3)

@@ -26,15 +26,6 @@ Inv-loop d index p n from₀ to₀ cents₀ more i₀ from to cents i =
 abbrev μ-loop : tie.MeasureT-loop
 μ-loop d index p n from₀ to₀ cents₀ more i₀ from to cents i = n - i
 
-adders-requires : tie.Need-adders-requires Inv-loop μ-loop
-adders-requires c κs = search needs
-
-maintenance-requires : tie.Need-maintenance-requires Inv-loop μ-loop
-maintenance-requires c κs = search needs
-
-add-more : tie.Need-add-more Inv-loop μ-loop
-add-more c = omega arith
-
 loop-holds : tie.Need-loop-holds Inv-loop μ-loop
 unfolding padded
 loop-holds c =
@@ -63,32 +54,11 @@ to-long c = row-length (column (held-of c) (p-of c) (n-of c) (λ x. x .to)) _ (c
 cents-long : (c : At) → length (c .loop .cents) ≡ 20
 cents-long c = row-length (column (held-of c) (p-of c) (n-of c) (λ x. amount x)) _ (c .loop .i) (c .loop .inv .3)
 
-add-bottom : tie.Need-add-bottom Inv-loop μ-loop
-add-bottom c = omega arith
-
-bottom-requires : tie.Need-bottom-requires Inv-loop μ-loop
-bottom-requires c κs = search needs
-
-mul-from : tie.Need-mul-from Inv-loop μ-loop
-mul-from c = omega arith
-
 slice-write-from : tie.Need-slice-write-from Inv-loop μ-loop
 slice-write-from c = omega (arith, from-long (c .before .before))
 
-add-output : tie.Need-add-output Inv-loop μ-loop
-add-output c = omega arith
-
-output-requires : tie.Need-output-requires Inv-loop μ-loop
-output-requires c κs = search needs
-
-mul-to : tie.Need-mul-to Inv-loop μ-loop
-mul-to c = omega arith
-
 slice-write-to : tie.Need-slice-write-to Inv-loop μ-loop
 slice-write-to c = omega (arith, to-long (c .before .before .before))
-
-add-lamination : tie.Need-add-lamination Inv-loop μ-loop
-add-lamination c = omega arith
 
 lamination-requires : tie.Need-lamination-requires Inv-loop μ-loop
 lamination-requires c κs =
@@ -96,17 +66,8 @@ lamination-requires c κs =
     let h = m .before .before .before .before .before .before .before .pre in
     (h .0, h .1, h .2, omega arith, omega arith, ap₂ (λ (x y : ℕ). x + y) (m .before .adders .ensures .0) (m .maintenance .ensures .0), omega arith)
 
-mul-cents : tie.Need-mul-cents Inv-loop μ-loop
-mul-cents c = omega arith
-
 slice-write-cents : tie.Need-slice-write-cents Inv-loop μ-loop
 slice-write-cents c = omega (arith, cents-long (c .before .before .before .before))
-
-add-i : tie.Need-add-i Inv-loop μ-loop
-add-i c = omega arith
-
-loop-less : tie.Need-loop-less Inv-loop μ-loop
-loop-less c = omega arith
 
 -- what one turn writes to an array is the next number of its column
 turn : (l : List (List ℕ)) (p n i : ℕ) (g : Line → ℕ) (a : List ℕ) (x : ℕ) → n ≤ 20 → i + 1 ≤ n → a ≡ padded 20 (take i (column l p n g)) → x ≡ g (lamination (parameters l) (amounts l) p (i + 1))
@@ -155,24 +116,24 @@ laminations-spec =
     (tie.spec
     Inv-loop
     μ-loop
-    adders-requires
-    maintenance-requires
-    add-more
+    (λ c κs. search needs)
+    (λ c κs. search needs)
+    (λ c. omega arith)
     loop-holds
-    add-bottom
-    bottom-requires
-    mul-from
+    (λ c. omega arith)
+    (λ c κs. search needs)
+    (λ c. omega arith)
     slice-write-from
-    add-output
-    output-requires
-    mul-to
+    (λ c. omega arith)
+    (λ c κs. search needs)
+    (λ c. omega arith)
     slice-write-to
-    add-lamination
+    (λ c. omega arith)
     lamination-requires
-    mul-cents
+    (λ c. omega arith)
     slice-write-cents
-    add-i
-    loop-less
+    (λ c. omega arith)
+    (λ c. omega arith)
     loop-again
     same-length
     same-length-2

@@ -25,9 +25,6 @@ Inv-loop d index hour n₀ n = (n ≤ 16) × (profileOf (parameters (records d))
 abbrev μ-loop : tie.MeasureT-loop
 μ-loop d index hour n₀ n = n
 
-slot-rq-requires : tie.Need-slot-rq-requires Inv-loop μ-loop
-slot-rq-requires c κs = omega arith
-
 slots-empty-requires : tie.Need-slots-empty-requires Inv-loop μ-loop
 slots-empty-requires c κs = omega (arith, c .before .before .before .pre .roomy, c .slot-rq .ensures, at-one)
 
@@ -40,9 +37,6 @@ loop-holds : tie.Need-loop-holds Inv-loop μ-loop
 unfolding profile
 loop-holds c = (search needs, refl)
 
-asked-at-requires : tie.Need-asked-at-requires Inv-loop μ-loop
-asked-at-requires c κs = search needs
-
 in-range : {d ix : List ℕ} → Indexed d ix → (h : ℕ) → (1 ≤ profile (parameters (records d)) h) × (profile (parameters (records d)) h ≤ 4)
 unfolding profile
 in-range i h = profile-range (clean i) h 16
@@ -54,12 +48,6 @@ returns-2 c =
     let e : c .before .asked-at .result ≡ profile (parameters (records (a .args .d .now))) (a .args .hour) = highest-asks _ _ (l .n) (c .before .before .loop-test .taken) (c .before .asked-at .ensures) (c .if2 .taken) ∙ l .inv .1 in
     let z = in-range (a .pre) (a .args .hour) in
     (e, rw e (z .0), rw e (z .1))
-
-sub-n : tie.Need-sub-n Inv-loop μ-loop
-sub-n c = omega arith
-
-loop-less : tie.Need-loop-less Inv-loop μ-loop
-loop-less c = omega arith
 
 loop-again : tie.Need-loop-again Inv-loop μ-loop
 loop-again c =
@@ -79,13 +67,13 @@ profile-spec =
     (tie.spec
     Inv-loop
     μ-loop
-    slot-rq-requires
+    (λ c κs. omega arith)
     slots-empty-requires
     returns
     loop-holds
-    asked-at-requires
+    (λ c κs. search needs)
     returns-2
-    sub-n
-    loop-less
+    (λ c. omega arith)
+    (λ c. omega arith)
     loop-again
     returns-3)
