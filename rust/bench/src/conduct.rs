@@ -8,22 +8,24 @@ pub enum Verdict {
     /// No price in it is both at least the floor and above the limit.
     Passes,
     /// Some price is, of which this is the first.
-    Fails {
-        /// The pair, from 1; 0 for a single price.
-        pair: usize,
-        /// Of the laminations in which the pair fails the lowest, from 1; 0 for a single price.
-        lamination: usize,
-    },
-    /// The offer was not tested.
-    Refused(Refusal),
+    Fails(Failing),
 }
 
-fn verdict(word: u64) -> Verdict {
+/// Where an offer fails first.
+#[derive(Clone, Copy, Debug, PartialEq, Eq)]
+pub struct Failing {
+    /// The pair, from 1; 0 for a single price.
+    pub pair: usize,
+    /// Of the laminations in which the pair fails the lowest, from 1; 0 for a single price.
+    pub lamination: usize,
+}
+
+fn verdict(word: u64) -> Result<Verdict, Refusal> {
     match Word::of(word) {
-        Word::Value(0) => Verdict::Passes,
+        Word::Value(0) => Ok(Verdict::Passes),
         Word::Value(value) => panic!("the library passed with value {value}"),
-        Word::Fails { pair, lamination } => Verdict::Fails { pair, lamination },
-        Word::Refused(refusal) => Verdict::Refused(refusal),
+        Word::Fails(failing) => Ok(Verdict::Fails(failing)),
+        Word::Refused(refusal) => Err(refusal),
     }
 }
 
@@ -40,7 +42,7 @@ fn verdict(word: u64) -> Verdict {
 /// ```
 /// # mod r1 { include!(concat!(env!("CARGO_MANIFEST_DIR"), "/doc/r1.rs")); }
 /// # let dossier = r1::dossier();
-/// use bench::{energy_test, Refusal, Verdict};
+/// use bench::{energy_test, Failing, Refusal, Verdict};
 ///
 /// /// An offer of these quantities and prices.
 /// fn offer(pairs: &[(u16, i32)]) -> Vec<u8> {
@@ -53,18 +55,23 @@ fn verdict(word: u64) -> Verdict {
 /// // the level is 42.30; 50 % above it is 63.45, which is less than 25.00 above it
 /// let narrow = 1;
 /// let fair = offer(&[(500, 4_230), (1_000, 6_345)]);
-/// assert_eq!(energy_test(&dossier, 0, narrow, &fair), Verdict::Passes);
+/// assert_eq!(energy_test(&dossier, 0, narrow, &fair), Ok(Verdict::Passes));
 ///
 /// let dear = offer(&[(500, 4_230), (1_000, 6_346)]);
-/// let second = Verdict::Fails { pair: 2, lamination: 1 };
-/// assert_eq!(energy_test(&dossier, 0, narrow, &dear), second);
+/// let second = Verdict::Fails(Failing { pair: 2, lamination: 1 });
+/// assert_eq!(energy_test(&dossier, 0, narrow, &dear), Ok(second));
 ///
 /// // 100.1 MW from a station of 100.0
 /// let large = offer(&[(500, 4_230), (1_001, 6_345)]);
 /// let refusal = Refusal { number: 11, place: 6 };
-/// assert_eq!(energy_test(&dossier, 0, narrow, &large), Verdict::Refused(refusal));
+/// assert_eq!(energy_test(&dossier, 0, narrow, &large), Err(refusal));
 /// ```
-pub fn energy_test(dossier: &[u8], hour: u32, condition: u8, offer: &[u8]) -> Verdict {
+pub fn energy_test(
+    dossier: &[u8],
+    hour: u32,
+    condition: u8,
+    offer: &[u8],
+) -> Result<Verdict, Refusal> {
     let (start, length) = (dossier.as_ptr(), dossier.len());
     let (pairs, bytes) = (offer.as_ptr(), offer.len());
     // SAFETY: the library reads these two parts alone.
@@ -80,20 +87,26 @@ pub fn energy_test(dossier: &[u8], hour: u32, condition: u8, offer: &[u8]) -> Ve
 /// ```
 /// # mod r1 { include!(concat!(env!("CARGO_MANIFEST_DIR"), "/doc/r1.rs")); }
 /// # let dossier = r1::dossier();
-/// use bench::{price_test, Refusal, Verdict};
+/// use bench::{price_test, Failing, Refusal, Verdict};
 ///
 /// // the reserve level is 0.25, and 100 % above it is 0.50
 /// let (reserve, narrow) = (4, 1);
-/// assert_eq!(price_test(&dossier, 0, reserve, narrow, 50), Verdict::Passes);
-/// let fails = Verdict::Fails { pair: 0, lamination: 0 };
-/// assert_eq!(price_test(&dossier, 0, reserve, narrow, 51), fails);
+/// assert_eq!(price_test(&dossier, 0, reserve, narrow, 50), Ok(Verdict::Passes));
+/// let fails = Verdict::Fails(Failing { pair: 0, lamination: 0 });
+/// assert_eq!(price_test(&dossier, 0, reserve, narrow, 51), Ok(fails));
 ///
 /// // there is no threshold for reserve under the broad condition
 /// let broad = 2;
 /// let refusal = Refusal { number: 14, place: 0 };
-/// assert_eq!(price_test(&dossier, 0, reserve, broad, 50), Verdict::Refused(refusal));
+/// assert_eq!(price_test(&dossier, 0, reserve, broad, 50), Err(refusal));
 /// ```
-pub fn price_test(dossier: &[u8], hour: u32, level: u8, condition: u8, price: i32) -> Verdict {
+pub fn price_test(
+    dossier: &[u8],
+    hour: u32,
+    level: u8,
+    condition: u8,
+    price: i32,
+) -> Result<Verdict, Refusal> {
     let (start, length) = (dossier.as_ptr(), dossier.len());
     // SAFETY: the library reads these bytes alone.
     verdict(unsafe { raw::bench_price_test(start, length, hour, level, condition, price) })

@@ -87,7 +87,7 @@ mod raw;
 mod report;
 
 pub use accept::{accept, current, Part};
-pub use conduct::{energy_test, price_test, Verdict};
+pub use conduct::{energy_test, price_test, Failing, Verdict};
 pub use levels::{levels, levels_into, Lamination, Levels, WORDS};
 pub use report::{report, REPORT_BYTES};
 
@@ -102,7 +102,7 @@ use std::fmt;
 #[derive(Clone, Copy, Debug, PartialEq, Eq)]
 pub struct Refusal {
     /// The rule, 1 to 17; README.md of the repository lists them.
-    pub number: u32,
+    pub number: u8,
     /// The byte of the dossier where the refused record begins, or of the offer where the refused
     /// pair does; the length of either where the whole of it is refused; 0 for the rest.
     ///
@@ -122,7 +122,7 @@ impl std::error::Error for Refusal {}
 #[derive(Clone, Copy, Debug, PartialEq, Eq)]
 enum Word {
     Value(u64),
-    Fails { pair: usize, lamination: usize },
+    Fails(Failing),
     Refused(Refusal),
 }
 
@@ -132,12 +132,12 @@ impl Word {
         let b = word as u32 as usize;
         match word >> 56 {
             0 => Word::Value(word),
-            1 => Word::Fails {
+            1 => Word::Fails(Failing {
                 pair: a as usize,
                 lamination: b,
-            },
+            }),
             2 => Word::Refused(Refusal {
-                number: a,
+                number: u8::try_from(a).expect("the library refuses with a number of README.md"),
                 place: b,
             }),
             class => panic!("the library answered with class {class}"),

@@ -23,9 +23,9 @@ fn every_call() {
     assert_eq!(levels.energy[0].level, FULL_LEVEL);
     let offer = offers::bytes(&[(1_000, FULL_LEVEL as i32)]);
     let verdict = bench::energy_test(&dossier, 0, 1, &offer);
-    assert_eq!(verdict, Verdict::Passes);
+    assert_eq!(verdict, Ok(Verdict::Passes));
     let verdict = bench::price_test(&dossier, 0, 4, 1, 25);
-    assert_eq!(verdict, Verdict::Passes);
+    assert_eq!(verdict, Ok(Verdict::Passes));
     let mut buffer = [0; REPORT_BYTES];
     assert!(bench::report(&dossier, 0, &mut buffer).is_ok());
 }

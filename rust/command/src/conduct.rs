@@ -9,7 +9,7 @@ use crate::levels::{dollars, megawatts};
 use crate::many::each;
 use crate::offer::{self, highest_for, highest_in, Pair};
 use crate::unit::{CONDITION, DOLLARS, LEVEL};
-use bench::{energy_test, price_test, Lamination, Verdict};
+use bench::{energy_test, price_test, Failing, Lamination, Verdict};
 
 /// What is put to the test.
 #[derive(Debug)]
@@ -70,9 +70,9 @@ fn test(input: &Input, question: &Question) -> Said {
         }
     };
     match verdict {
-        Verdict::Refused(refusal) => refused(&of_offer(refusal, dossier, lines, pairs)),
-        Verdict::Passes => judged(input, question, None),
-        Verdict::Fails { pair, lamination } => judged(input, question, Some((pair, lamination))),
+        Err(refusal) => refused(&of_offer(refusal, dossier, lines, pairs)),
+        Ok(Verdict::Passes) => judged(input, question, None),
+        Ok(Verdict::Fails(failing)) => judged(input, question, Some(failing)),
     }
 }
 
@@ -87,7 +87,7 @@ struct Judged {
 }
 
 /// The answer to an offer that drew no refusal: whether it passes, and which prices do.
-fn judged(input: &Input, question: &Question, fails: Option<(usize, usize)>) -> Said {
+fn judged(input: &Input, question: &Question, fails: Option<Failing>) -> Said {
     let judged = match &question.offered {
         Offered::Energy(pairs) => energy(input, question, pairs, fails),
         Offered::Price { level, price } => single(input, question, *level, *price),
@@ -128,24 +128,19 @@ fn word(fails: bool) -> &'static str {
 }
 
 /// A verdict as an object. A single price that fails has neither pair nor lamination.
-pub fn verdict(fails: Option<(usize, usize)>) -> Json {
+pub fn verdict(fails: Option<Failing>) -> Json {
     let named = |number| match number {
         Some(number @ 1..) => Json::whole(number),
         _ => Json::Null,
     };
     object([
         ("verdict", Json::text(word(fails.is_some()))),
-        ("pair", named(fails.map(|(pair, _)| pair))),
-        ("lamination", named(fails.map(|(_, lamination)| lamination))),
+        ("pair", named(fails.map(|f| f.pair))),
+        ("lamination", named(fails.map(|f| f.lamination))),
     ])
 }
 
-fn energy(
-    input: &Input,
-    question: &Question,
-    pairs: &[Pair],
-    fails: Option<(usize, usize)>,
-) -> Judged {
+fn energy(input: &Input, question: &Question, pairs: &[Pair], fails: Option<Failing>) -> Judged {
     let dossier = &input.dossier;
     let levels = bench::levels(dossier, question.hour);
     let steps = levels.map_or(Vec::new(), |levels| levels.energy);
@@ -160,7 +155,7 @@ fn energy(
     Judged {
         level: LEVEL.write(1),
         what: match fails {
-            Some((pair, lamination)) => failing(pairs, pair, lamination),
+            Some(fails) => failing(pairs, fails),
             None => "the energy offer".to_string(),
         },
         passing: steps.iter().enumerate().map(line).collect(),
@@ -169,7 +164,8 @@ fn energy(
 }
 
 /// The pair that fails, and where.
-fn failing(pairs: &[Pair], pair: usize, lamination: usize) -> String {
+fn failing(pairs: &[Pair], fails: Failing) -> String {
+    let Failing { pair, lamination } = fails;
     let before = pair.checked_sub(2).and_then(|i| pairs.get(i));
     let from = megawatts(before.map_or(0, |p| p.quantity));
     let this = pair.checked_sub(1).and_then(|i| pairs.get(i));

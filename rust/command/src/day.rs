@@ -11,7 +11,7 @@ use crate::offer::{self, highest_in, Pair};
 use crate::pack::write_file;
 use crate::picture::{self, Picture};
 use crate::unit::CONDITION;
-use bench::{energy_test, Levels, Refusal, Verdict};
+use bench::{energy_test, Failing, Levels, Refusal, Verdict};
 
 /// The hours asked for, and the offer that is put to them.
 #[derive(Debug)]
@@ -96,10 +96,7 @@ fn hours(input: &Input, question: &Question) -> Result<Vec<Hour>, Refusal> {
 }
 
 fn tested(input: &Input, hour: u32, condition: u8, pairs: &[Pair]) -> Result<Verdict, Refusal> {
-    match energy_test(&input.dossier, hour, condition, &offer::bytes(pairs)) {
-        Verdict::Refused(refusal) => Err(refusal),
-        verdict => Ok(verdict),
-    }
+    energy_test(&input.dossier, hour, condition, &offer::bytes(pairs))
 }
 
 fn said(hours: &[Hour]) -> Said {
@@ -126,10 +123,10 @@ impl Hour {
     }
 
     /// The first pair and lamination that fail, if the offer does.
-    fn fails(&self) -> Option<(usize, usize)> {
+    fn fails(&self) -> Option<Failing> {
         match self.verdict? {
-            Verdict::Fails { pair, lamination } => Some((pair, lamination)),
-            _ => None,
+            Verdict::Fails(failing) => Some(failing),
+            Verdict::Passes => None,
         }
     }
 
@@ -137,7 +134,9 @@ impl Hour {
     fn offer(&self) -> Option<String> {
         self.verdict?;
         Some(match self.fails() {
-            Some((pair, lamination)) => format!("fails: pair {pair}, lamination {lamination}"),
+            Some(Failing { pair, lamination }) => {
+                format!("fails: pair {pair}, lamination {lamination}")
+            }
             None => "passes".to_string(),
         })
     }

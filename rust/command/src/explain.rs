@@ -81,7 +81,7 @@ fn thresholds(dossier: &[u8]) -> String {
 }
 
 /// What is wrong with the record at the place.
-fn of_record(number: u32, dossier: &[u8], record: &Record) -> Vec<String> {
+fn of_record(number: u8, dossier: &[u8], record: &Record) -> Vec<String> {
     match number {
         3 => record.faults(),
         4 => {
@@ -207,7 +207,7 @@ impl Explained {
     pub fn json(&self) -> Json {
         let record = self.record.as_ref();
         object([
-            ("number", Json::whole(self.refusal.number as usize)),
+            ("number", Json::whole(self.refusal.number.into())),
             ("place", Json::whole(self.refusal.place)),
             ("means", Json::text(self.rule.means)),
             ("wants", Json::text(self.rule.wants)),

@@ -5,7 +5,7 @@ use crate::record::{records, Record};
 use crate::unit::MEGAWATTS;
 
 /// What to look at in a dossier that drew this number.
-pub fn lacks(dossier: &[u8], number: u32) -> Vec<String> {
+pub fn lacks(dossier: &[u8], number: u8) -> Vec<String> {
     let Some(station) = current(dossier, "RS", 0) else {
         return Vec::new();
     };

@@ -95,14 +95,14 @@ pub fn highest_in(dossier: &[u8], hour: u32, condition: u8, step: &Lamination) -
         };
         let pairs = [below, through];
         let offer = bytes(if step.from == 0 { &pairs[1..] } else { &pairs });
-        energy_test(dossier, hour, condition, &offer) == Verdict::Passes
+        energy_test(dossier, hour, condition, &offer) == Ok(Verdict::Passes)
     };
     highest(-HIGHEST, HIGHEST, passes)
 }
 
 /// The highest single price that passes for a level, `None` if every price does.
 pub fn highest_for(dossier: &[u8], hour: u32, level: u8, condition: u8) -> Option<i32> {
-    let passes = |price| price_test(dossier, hour, level, condition, price) == Verdict::Passes;
+    let passes = |price| price_test(dossier, hour, level, condition, price) == Ok(Verdict::Passes);
     highest(i32::MIN.into(), i32::MAX.into(), passes)
 }
 
@@ -154,7 +154,7 @@ mod tests {
     #[test]
     fn the_highest_that_passes() {
         for limit in [-3, -2, 0, 7, 9] {
-            assert_eq!(highest(-3, 10, |n| n <= limit), Some(limit as i32));
+            assert_eq!(highest(-3, 10, |n| n <= limit), Some(limit));
         }
         assert_eq!(highest(-3, 10, |_| true), None);
     }

@@ -9,7 +9,7 @@ mod words;
 
 use crate::offer::Pair;
 use axis::Axis;
-use bench::Lamination;
+use bench::{Failing, Lamination};
 use sheet::*;
 use words::{megawatts, money, shorten, width};
 
@@ -20,8 +20,8 @@ pub struct Offer<'a> {
     pub condition: &'a str,
     /// For each step the highest price that passes there, None if every price does.
     pub highest: &'a [Option<i32>],
-    /// The first failing pair and lamination, both from 1.
-    pub fails: Option<(usize, usize)>,
+    /// The first failing pair and lamination.
+    pub fails: Option<Failing>,
 }
 
 /// What a picture shows.
@@ -92,7 +92,7 @@ struct Failure {
 
 fn failure(picture: &Picture, lines: &Lines) -> Option<Failure> {
     let offer = picture.offer.as_ref()?;
-    let (pair, lamination) = offer.fails?;
+    let Failing { pair, lamination } = offer.fails?;
     let price = lines.prices.get(pair.checked_sub(1)?)?;
     let level = lines.levels.get(lamination.checked_sub(1)?)?;
     let highest = offer.highest.get(lamination - 1).copied().flatten();

@@ -3,7 +3,7 @@
 /// One number of document 01's list.
 #[derive(Debug)]
 pub struct Rule {
-    pub number: u32,
+    pub number: u8,
     pub means: &'static str,
     pub wants: &'static str,
     pub who: &'static str,
@@ -120,7 +120,7 @@ pub static RULES: [Rule; 17] = [
 ];
 
 /// The rule of a number. The library refuses by these numbers alone.
-pub fn rule(number: u32) -> &'static Rule {
+pub fn rule(number: u8) -> &'static Rule {
     let place = RULES.iter().position(|r| r.number == number);
     &RULES[place.unwrap_or(0)]
 }

@@ -137,18 +137,18 @@ fn the_highest_prices_are_the_limits() {
             bytes(&pairs[usize::from(lamination.from == 0)..])
         };
         let test = |price| model::energy_test(dossier, hour, condition, &offer(price));
-        if !matches!(test(0), model::Verdict::Refused(_)) {
+        if test(0).is_ok() {
             let highest = highest_in(dossier, hour, condition, &lamination);
             turns(highest, 200_000, |price| {
-                test(price) == model::Verdict::Passes
+                test(price) == Ok(model::Verdict::Passes)
             })?;
         }
         let level = make::offers::level(random, &Target::of(dossier, hour));
         let test = |price| model::price_test(dossier, hour, level, condition, price);
-        if !matches!(test(0), model::Verdict::Refused(_)) {
+        if test(0).is_ok() {
             let highest = highest_for(dossier, hour, level, condition);
             turns(highest, i32::MAX, |price| {
-                test(price) == model::Verdict::Passes
+                test(price) == Ok(model::Verdict::Passes)
             })?;
         }
         Ok(())

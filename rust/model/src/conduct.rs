@@ -10,13 +10,15 @@ use crate::{refuse, Refusal};
 #[derive(Clone, Copy, Debug, PartialEq, Eq)]
 pub enum Verdict {
     Passes,
-    /// The first pair that fails and the first lamination it fails in, both from 1. A single price
-    /// has neither: both are 0.
-    Fails {
-        pair: usize,
-        lamination: usize,
-    },
-    Refused(Refusal),
+    Fails(Failing),
+}
+
+/// The first pair that fails and the first lamination it fails in, both from 1. A single price has
+/// neither: both are 0.
+#[derive(Clone, Copy, Debug, PartialEq, Eq)]
+pub struct Failing {
+    pub pair: usize,
+    pub lamination: usize,
 }
 
 /// Bytes of one pair of an energy offer, and how many pairs it may have.
@@ -24,17 +26,13 @@ pub const PAIR: usize = 6;
 pub const MOST_PAIRS: usize = 20;
 
 /// The energy test: 1 to 9, 13 and 17, then 14, 10 and 11.
-pub fn energy_test(dossier: &[u8], hour: u32, condition: u8, offer: &[u8]) -> Verdict {
-    let verdict = accepted(dossier).and_then(|s| energy_verdict(&s, hour, condition, offer));
-    verdict.unwrap_or_else(Verdict::Refused)
-}
-
-fn energy_verdict(
-    station: &Station,
+pub fn energy_test(
+    dossier: &[u8],
     hour: u32,
     condition: u8,
     offer: &[u8],
 ) -> Result<Verdict, Refusal> {
+    let station = &accepted(dossier)?;
     let threshold = Threshold::of(station, condition, ENERGY)?;
     let pairs = pairs(offer)?;
     // Quantities rise, but the place is that of the first pair above the capacity.
@@ -45,7 +43,7 @@ fn energy_verdict(
     for (pair, p) in (1..).zip(&pairs) {
         for (lamination, l) in (1..).zip(&laminations) {
             if p.overlaps(l) && threshold.fails(l.level, p.price) {
-                return Ok(Verdict::Fails { pair, lamination });
+                return Ok(Verdict::Fails(Failing { pair, lamination }));
             }
         }
     }
@@ -53,27 +51,21 @@ fn energy_verdict(
 }
 
 /// The single-price test: 1 to 9, 13 and 17, then 12 and 14.
-pub fn price_test(dossier: &[u8], hour: u32, level: u8, condition: u8, price: i32) -> Verdict {
-    let verdict = accepted(dossier).and_then(|s| price_verdict(&s, hour, level, condition, price));
-    verdict.unwrap_or_else(Verdict::Refused)
-}
-
-fn price_verdict(
-    station: &Station,
+pub fn price_test(
+    dossier: &[u8],
     hour: u32,
     level: u8,
     condition: u8,
     price: i32,
 ) -> Result<Verdict, Refusal> {
+    let station = &accepted(dossier)?;
     let levels = levels_of(station, hour);
     let Some((_, cents)) = levels.single().find(|(number, _)| *number == level) else {
         return refuse(12, 0);
     };
     if Threshold::of(station, condition, level)?.fails(*cents, price) {
-        return Ok(Verdict::Fails {
-            pair: 0,
-            lamination: 0,
-        });
+        let (pair, lamination) = (0, 0);
+        return Ok(Verdict::Fails(Failing { pair, lamination }));
     }
     Ok(Verdict::Passes)
 }

@@ -24,7 +24,7 @@ pub mod vectors;
 pub mod whole;
 
 pub use accept::{accept, Answer};
-pub use conduct::{energy_test, price_test, Verdict};
+pub use conduct::{energy_test, price_test, Failing, Verdict};
 pub use exact::exact_levels;
 pub use levels::levels;
 pub use report::{program, report};

@@ -1,8 +1,8 @@
-//! Document 002's own rule for the charging cost of a battery, week after week, written apart from the
-//! formulas (`costs`): the tests hold the model and Bench against it.
+//! Document 002's examples, and its own rule for the charging cost of a battery, week after week,
+//! written apart from the formulas (`costs`): the tests hold the model and Bench against both.
 
 use crate::make::idle::{battery, last_cost};
-use crate::make::written::record;
+use crate::make::written::{record, storage};
 use crate::random::Random;
 
 /// The price in cents and the energy in kWh of intervals in which a battery may charge.
@@ -43,6 +43,56 @@ impl Memo {
 pub fn level_at(cost: i128) -> u64 {
     let micro = ((cost + 750_000) * 5 + 2) / 4;
     (micro as u64 + 5_000) / 10_000
+}
+
+/// A station of the memo's examples, and the energy level that the papers print for it, in cents.
+pub struct Example {
+    pub name: &'static str,
+    pub dossier: Vec<u8>,
+    pub level: u64,
+}
+
+/// The memo's examples, M6 to M8 of document 01.
+pub fn examples() -> Vec<Example> {
+    let of = |name, dossier, level| Example {
+        name,
+        dossier,
+        level,
+    };
+    let [day_ahead, real_time] = [[20_550, 10_640, 30_250], [31_520, 20_550, 10_640]];
+    vec![
+        of("M6, three hours", ranked(&day_ahead), 20_480),
+        of("M6, out of 168", ranked(&among_168(day_ahead)), 20_480),
+        of("M7, three hours", ranked(&real_time), 20_903),
+        of("M7, out of 168", ranked(&among_168(real_time)), 20_903),
+        of("M8, the charging cost alone", charged(0, 1_000), 125),
+        of("M8, with fuel and efficiency", charged(750_000, 800), 250),
+    ]
+}
+
+/// Table 4, row "Ranking" (line 545): DA (205.50 + 106.40 + 302.50) ÷ 3 = 204.80 $/MWh, RT (315.20 +
+/// 205.50 + 106.40) ÷ 3 = 209.03 $/MWh; of 300.0 MWh and 80.0 MW, ROUNDDOWN (300.0 ÷ 80.0) = 3 hours
+/// (lines 538 to 540).
+fn ranked(prices: &[i128]) -> Vec<u8> {
+    storage(3_000, 800, prices)
+}
+
+/// The memo ranks the three out of 168 hours.
+fn among_168(best: [i128; 3]) -> [i128; 168] {
+    let mut week = [10_639; 168];
+    [week[167], week[0], week[80]] = best;
+    week
+}
+
+/// 1,000 kWh at 20.00 and 3,000 at -5.00, at a fuel price in micro-dollars and an efficiency.
+fn charged(fuel: i128, efficiency: i128) -> Vec<u8> {
+    let more = [
+        record(b"RS", 2, &[3, 800, 0, 0, 0, 0, 3_000, efficiency, 3]),
+        record(b"CH", 1, &[1, 2_000, 1_000]),
+        record(b"CH", 1, &[2, -500, 3_000]),
+        record(b"FU", 2, &[1, fuel, 0]),
+    ];
+    [storage(3_000, 800, &[0; 3]), more.concat()].concat()
 }
 
 /// What the memo says of a week.

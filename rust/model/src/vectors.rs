@@ -1,7 +1,7 @@
 //! The cases with their expected answers: one a line, words parted by a space, bytes in
 //! hexadecimal, `-` for none.
 
-use crate::{Refusal, Verdict};
+use crate::{refuse, Failing, Refusal, Verdict};
 
 #[derive(Debug)]
 pub enum Vector {
@@ -21,7 +21,7 @@ pub enum Vector {
         hour: u32,
         condition: u8,
         offer: Vec<u8>,
-        verdict: Verdict,
+        verdict: Result<Verdict, Refusal>,
     },
     Price {
         dossier: Vec<u8>,
@@ -29,7 +29,7 @@ pub enum Vector {
         level: u8,
         condition: u8,
         price: i32,
-        verdict: Verdict,
+        verdict: Result<Verdict, Refusal>,
     },
 }
 
@@ -90,18 +90,15 @@ pub fn hex(bytes: &[u8]) -> String {
     bytes.iter().map(|b| format!("{b:02x}")).collect()
 }
 
-fn verdict(word: &str) -> Verdict {
+fn verdict(word: &str) -> Result<Verdict, Refusal> {
     let parts: Vec<&str> = word.split(':').collect();
     match parts[..] {
-        ["passes"] => Verdict::Passes,
-        ["fails", pair, lamination] => Verdict::Fails {
+        ["passes"] => Ok(Verdict::Passes),
+        ["fails", pair, lamination] => Ok(Verdict::Fails(Failing {
             pair: number(pair),
             lamination: number(lamination),
-        },
-        ["refused", n, place] => Verdict::Refused(Refusal {
-            number: number(n),
-            place: number(place),
-        }),
+        })),
+        ["refused", n, place] => refuse(number(n), number(place)),
         _ => panic!("no verdict: {word}"),
     }
 }

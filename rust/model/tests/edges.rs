@@ -6,7 +6,7 @@ use model::make::written::{evenly_rising, r1, record};
 use model::make::{offers, sound};
 use model::random::Random;
 use model::table::Technology;
-use model::{accept, current, energy_test, levels, program, refuse, report, Refusal, Verdict};
+use model::{accept, current, energy_test, levels, program, refuse, report, Verdict};
 
 #[test]
 fn sixty_thousand_bytes() {
@@ -39,8 +39,8 @@ fn twenty_pairs() {
         offers::bytes(&pairs)
     };
     let test = |offer: &[u8]| energy_test(&dossier, 0, 1, offer);
-    let malformed = |place| Verdict::Refused(Refusal { number: 10, place });
-    assert_eq!(test(&offer(20)), Verdict::Passes);
+    let malformed = |place| refuse(10, place);
+    assert_eq!(test(&offer(20)), Ok(Verdict::Passes));
     assert_eq!(test(&offer(21)), malformed(126));
     assert_eq!(test(&offer(0)), malformed(0));
     assert_eq!(test(&offer(2)[..11]), malformed(11));

@@ -11,7 +11,7 @@ use model::make::{dossier, hour, sized, sound};
 use model::raise::{is_raise, none_lower, raised};
 use model::random::Random;
 use model::table::{Field, Mark, Role, TECHNOLOGIES};
-use model::{accept, energy_test, price_test, program, report, Verdict};
+use model::{accept, energy_test, price_test, program, report, Refusal, Verdict};
 use std::collections::BTreeSet;
 
 #[test]
@@ -79,10 +79,10 @@ fn each_damage_draws_its_number() {
 fn every_number_occurs() {
     let mut random = Random::new(3);
     let mut numbers = BTreeSet::new();
-    let mut note = |verdict| match verdict {
-        Verdict::Refused(refusal) => drop(numbers.insert(refusal.number)),
-        Verdict::Passes => drop(numbers.insert(100)),
-        Verdict::Fails { .. } => drop(numbers.insert(200)),
+    let mut note = |answer: Result<Verdict, Refusal>| match answer {
+        Err(refusal) => drop(numbers.insert(refusal.number)),
+        Ok(Verdict::Passes) => drop(numbers.insert(100)),
+        Ok(Verdict::Fails(_)) => drop(numbers.insert(200)),
     };
     for _ in 0..20_000 {
         let dossier = dossier(&mut random);
@@ -95,7 +95,7 @@ fn every_number_occurs() {
         let price = price(&mut random, &target, level, condition);
         note(price_test(&dossier, hour, level, condition, price));
         if let Err(refusal) = report(&dossier, hour, &mut [0; 20]) {
-            note(Verdict::Refused(refusal));
+            note(Err(refusal));
         }
     }
     assert_eq!(program(&[0; 3]), b"refused 16 at 0\n");
@@ -124,10 +124,11 @@ fn demand_3_holds() {
         let level = level(&mut random, &target);
         let offer = offer(&mut random, &target, condition);
         let price = price(&mut random, &target, level, condition);
-        let energy = |d: &[u8]| energy_test(d, hour, condition, &offer);
-        let single = |d: &[u8]| price_test(d, hour, level, condition, price);
-        assert!(energy(&before) != Verdict::Passes || energy(&after) == Verdict::Passes);
-        assert!(single(&before) != Verdict::Passes || single(&after) == Verdict::Passes);
+        let passes = Ok(Verdict::Passes);
+        let energy = |d: &[u8]| energy_test(d, hour, condition, &offer) == passes;
+        let single = |d: &[u8]| price_test(d, hour, level, condition, price) == passes;
+        assert!(!energy(&before) || energy(&after));
+        assert!(!single(&before) || single(&after));
     }
     assert!(risen > 1_000);
 }

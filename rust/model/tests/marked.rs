@@ -8,12 +8,12 @@ use model::costs::{charging_cost, opportunity_cost};
 use model::levels::Micro;
 use model::make::offers;
 use model::make::written::{nuclear_at, plain_thermal, r1, record, storage, R1_LINES};
-use model::{accept, energy_test, levels, price_test, program, report, Verdict};
+use model::memo::examples;
+use model::{accept, energy_test, levels, price_test, program, report, Failing, Verdict};
 
-const FAILS: Verdict = Verdict::Fails {
-    pair: 0,
-    lamination: 0,
-};
+const fn fails(pair: usize, lamination: usize) -> Verdict {
+    Verdict::Fails(Failing { pair, lamination })
+}
 
 #[test]
 fn m1_five_lines() {
@@ -35,12 +35,8 @@ fn m3_percent_is_the_lesser() {
     let dossier = with(r1(), &[record(b"TH", 1, &[1, 1, 50, 2_500, 0])]);
     assert_eq!(energy_level(&dossier), 4_230);
     let test = |price| energy_test(&dossier, 0, 1, &offers::bytes(&[(1_000, price)]));
-    assert_eq!(test(6_345), Verdict::Passes);
-    let first = Verdict::Fails {
-        pair: 1,
-        lamination: 1,
-    };
-    assert_eq!(test(6_346), first);
+    assert_eq!(test(6_345), Ok(Verdict::Passes));
+    assert_eq!(test(6_346), Ok(fails(1, 1)));
 }
 
 #[test]
@@ -51,8 +47,8 @@ fn m4_at_least_the_floor() {
     ];
     let dossier = with(plain_thermal(), &costs);
     assert_eq!(levels(&dossier, 0).unwrap().reserve, Some(1_000));
-    assert_eq!(price_test(&dossier, 0, 4, 1, 2_499), Verdict::Passes);
-    assert_eq!(price_test(&dossier, 0, 4, 1, 2_500), FAILS);
+    assert_eq!(price_test(&dossier, 0, 4, 1, 2_499), Ok(Verdict::Passes));
+    assert_eq!(price_test(&dossier, 0, 4, 1, 2_500), Ok(fails(0, 0)));
 }
 
 /// Table 4 of the memo, rows "Storage Duration", "DA State of Charge" and "RT State of Charge"
@@ -63,20 +59,11 @@ fn m5_hours_of_charge() {
     assert_eq!(hours_of_charge(&accepted(&dossier).unwrap()), 3);
 }
 
-/// Table 4 of the memo, row "Ranking" (line 545): DA (205.50 + 106.40 + 302.50) ÷ 3 = 204.80 $/MWh,
-/// RT (315.20 + 205.50 + 106.40) ÷ 3 = 209.03 $/MWh. The memo ranks them out of 168 hours.
 #[test]
-fn m6_and_m7_approach_2() {
-    for (best, level) in [
-        ([20_550, 10_640, 30_250], 20_480),
-        ([31_520, 20_550, 10_640], 20_903),
-    ] {
-        assert_eq!(energy_level(&storage(3_000, 800, &best)), level);
-        let mut week = [10_639; 168];
-        week[167] = best[0];
-        week[0] = best[1];
-        week[80] = best[2];
-        assert_eq!(energy_level(&storage(3_000, 800, &week)), level);
+fn m6_to_m8_the_memos_examples() {
+    for example in examples() {
+        let level = energy_level(&example.dossier);
+        assert_eq!(level, example.level, "{}", example.name);
     }
 }
 
@@ -85,19 +72,6 @@ fn equal_prices_count_each() {
     let dossier = storage(3_000, 800, &[5_000, 9_000, 5_000, 9_000, 9_000]);
     let station = accepted(&dossier).unwrap();
     assert_eq!(opportunity_cost::<Micro>(&station), Micro(90_000_000));
-}
-
-#[test]
-fn m8_charging_cost() {
-    let charged = [
-        record(b"CH", 1, &[1, 2_000, 1_000]),
-        record(b"CH", 1, &[2, -500, 3_000]),
-        record(b"FU", 2, &[1, 750_000, 0]),
-    ];
-    let dossier = with(storage(3_000, 800, &[0; 3]), &charged);
-    let station = accepted(&dossier).unwrap();
-    assert_eq!(charging_cost::<Micro>(&station), Micro(1_250_000));
-    assert_eq!(energy_level(&dossier), 250);
 }
 
 /// Equation 3 of the memo (line 378), which comes without numbers of its own: the price times the
@@ -150,8 +124,7 @@ fn a_pair_is_not_tested_only_at_its_top() {
         record(b"TH", 1, &[1, 1, 0, 0, 0]),
     ];
     let test = |pairs: &[(u16, i32)]| energy_test(&records.concat(), 0, 1, &offers::bytes(pairs));
-    let fails = |pair, lamination| Verdict::Fails { pair, lamination };
-    assert_eq!(test(&[(400, 200), (600, 800)]), fails(2, 1));
-    assert_eq!(test(&[(500, 200), (600, 800)]), Verdict::Passes);
-    assert_eq!(test(&[(500, 200), (600, 801)]), fails(2, 2));
+    assert_eq!(test(&[(400, 200), (600, 800)]), Ok(fails(2, 1)));
+    assert_eq!(test(&[(500, 200), (600, 800)]), Ok(Verdict::Passes));
+    assert_eq!(test(&[(500, 200), (600, 801)]), Ok(fails(2, 2)));
 }

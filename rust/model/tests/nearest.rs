@@ -13,7 +13,7 @@ use model::make::sound::at_half_cent;
 use model::make::written::{hydro, record, storage};
 use model::random::Random;
 use model::table::th;
-use model::{levels, price_test, Verdict};
+use model::{levels, price_test, Failing, Verdict};
 
 /// Each division less than half a micro-dollar past a whole one, half, and more.
 #[test]
@@ -44,12 +44,12 @@ fn the_percentage_drops_its_fraction() {
         record(b"TH", 1, &[1, 4, 50, th::NONE, 0]),
     ];
     let dossier = with(storage(3_000, 800, &[0; 3]), &costs);
-    assert_eq!(price_test(&dossier, 0, 4, 1, 6_346), Verdict::Passes);
-    let fails = Verdict::Fails {
+    assert_eq!(price_test(&dossier, 0, 4, 1, 6_346), Ok(Verdict::Passes));
+    let fails = Verdict::Fails(Failing {
         pair: 0,
         lamination: 0,
-    };
-    assert_eq!(price_test(&dossier, 0, 4, 1, 6_347), fails);
+    });
+    assert_eq!(price_test(&dossier, 0, 4, 1, 6_347), Ok(fails));
 }
 
 /// 300.0 over 80.0 is 3 hours, and 99 over 50 place 1.

@@ -8,22 +8,27 @@ use model::make::{self, sound};
 use model::raise::raised;
 use model::random::Random;
 use model::vectors::{read, Vector};
-use model::Verdict;
+use model::{Failing, Verdict};
 
-fn model_verdict(verdict: bench::Verdict) -> Verdict {
-    match verdict {
+type Answer = Result<Verdict, model::Refusal>;
+
+/// The model's answer from Bench's.
+fn answer(answer: Result<bench::Verdict, bench::Refusal>) -> Answer {
+    let verdict = |verdict| match verdict {
         bench::Verdict::Passes => Verdict::Passes,
-        bench::Verdict::Fails { pair, lamination } => Verdict::Fails { pair, lamination },
-        bench::Verdict::Refused(refused) => Verdict::Refused(refusal(refused)),
-    }
+        bench::Verdict::Fails(bench::Failing { pair, lamination }) => {
+            Verdict::Fails(Failing { pair, lamination })
+        }
+    };
+    answer.map(verdict).map_err(refusal)
 }
 
-fn energy(dossier: &[u8], hour: u32, condition: u8, offer: &[u8]) -> Verdict {
-    model_verdict(bench::energy_test(dossier, hour, condition, offer))
+fn energy(dossier: &[u8], hour: u32, condition: u8, offer: &[u8]) -> Answer {
+    answer(bench::energy_test(dossier, hour, condition, offer))
 }
 
-fn single(dossier: &[u8], hour: u32, level: u8, condition: u8, price: i32) -> Verdict {
-    model_verdict(bench::price_test(dossier, hour, level, condition, price))
+fn single(dossier: &[u8], hour: u32, level: u8, condition: u8, price: i32) -> Answer {
+    answer(bench::price_test(dossier, hour, level, condition, price))
 }
 
 /// Mostly dossiers that the test gets beyond acceptance with.
@@ -59,11 +64,11 @@ fn check(random: &mut Random, dossier: &[u8]) -> Check {
         let what = format!("at {hour}, {condition}, level {level}, {price}");
         same(&what, single_verdict, model)?;
         let Some(raise) = &raise else { continue };
-        if verdict == Verdict::Passes {
+        if verdict == Ok(Verdict::Passes) {
             let after = energy(raise, hour, condition, &offer);
             same("under a raise", after, verdict)?;
         }
-        if single_verdict == Verdict::Passes {
+        if single_verdict == Ok(Verdict::Passes) {
             let after = single(raise, hour, level, condition, price);
             same("under a raise", after, single_verdict)?;
         }

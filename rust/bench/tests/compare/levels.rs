@@ -7,7 +7,7 @@ use model::levels::{Lamination, Levels};
 use model::make::nearest::terms;
 use model::make::written::evenly_rising;
 use model::make::{self, sound};
-use model::memo::{made_weeks, told, written_weeks};
+use model::memo::{examples, made_weeks, told, written_weeks};
 use model::raise::{none_lower, raised};
 use model::random::Random;
 use model::report::text;
@@ -115,6 +115,17 @@ fn dossiers_of_every_sort() {
 fn batteries() {
     let make = |random: &mut Random| sound::sound_of(random, Technology::Storage).bytes();
     run("levels of batteries", 10_000, make, check);
+}
+
+/// The library says what the papers print, and what the model does.
+#[test]
+fn the_memos_examples() {
+    for example in examples() {
+        let levels = model_levels(&example.dossier, 0).unwrap();
+        assert_eq!(levels.energy.len(), 1, "{}", example.name);
+        assert_eq!(levels.energy[0].level, example.level, "{}", example.name);
+        check(&mut Random::new(0), &example.dossier).unwrap();
+    }
 }
 
 /// A battery idle for a week compares with the memo.

@@ -7,8 +7,6 @@ mod report;
 
 /// The model's refusal from Bench's.
 fn refusal(refusal: bench::Refusal) -> model::Refusal {
-    model::Refusal {
-        number: refusal.number as u8,
-        place: refusal.place,
-    }
+    let bench::Refusal { number, place } = refusal;
+    model::Refusal { number, place }
 }

@@ -9,6 +9,10 @@ fn pair(quantity: u16, price: i32) -> Pair {
     Pair { quantity, price }
 }
 
+fn failing(pair: usize, lamination: usize) -> Failing {
+    Failing { pair, lamination }
+}
+
 fn offer<'a>(pairs: &'a [Pair], highest: &'a [Option<i32>]) -> Option<Offer<'a>> {
     Some(Offer {
         pairs,
@@ -145,7 +149,7 @@ fn an_offer_that_passes_and_one_that_fails() {
     assert!(out.contains(">highest price that passes (narrow)<"));
     let pairs = [pair(500, 4230), pair(1000, 6346)];
     let mut fails = offer(&pairs, &highest);
-    fails.as_mut().unwrap().fails = Some((2, 1));
+    fails.as_mut().unwrap().fails = Some(failing(2, 1));
     let out = drawn(&steps, fails);
     check_texts(&out);
     assert!(out.contains(">offer, fails (narrow)<"));
@@ -167,7 +171,7 @@ fn a_failure_that_lies_nowhere_has_no_band() {
         (usize::MAX, usize::MAX),
     ] {
         let mut fails = offer(&pairs, &[Some(1), Some(2)]);
-        fails.as_mut().unwrap().fails = Some(nowhere);
+        fails.as_mut().unwrap().fails = Some(failing(nowhere.0, nowhere.1));
         let out = drawn(&steps, fails);
         assert!(out.contains(">offer, fails (narrow)<") && !out.contains("first failure"));
     }
@@ -284,7 +288,7 @@ fn odd_inputs_are_drawn() {
             .collect();
         let limit = |s: &mut u64| mostly(s, 4).then_some(odd(s) as i32);
         let highest: Vec<Option<i32>> = (0..next(s) % 22).map(|_| limit(s)).collect();
-        let fails = mostly(s, 2).then_some((odd(s) as usize % 23, odd(s) as usize));
+        let fails = mostly(s, 2).then_some(failing(odd(s) as usize % 23, odd(s) as usize));
         let title = ["", "<", "]]>&\u{7}", "é漢\u{ffff}\u{202e}'\""][next(s) as usize % 4];
         let long = title.repeat(next(s) as usize % 99);
         let condition = long.as_str();
@@ -330,7 +334,7 @@ fn texts_keep_apart_on_sound_inputs() {
         let limit = |step: &Lamination| i32::try_from(step.level * times).ok();
         let highest: Vec<Option<i32>> = steps.iter().map(limit).collect();
         let mut offer = offer(&pairs, &highest);
-        let last = (pairs.len(), 1 + next(s) as usize % steps.len());
+        let last = failing(pairs.len(), 1 + next(s) as usize % steps.len());
         offer.as_mut().unwrap().fails = mostly(s, 2).then_some(last);
         check_texts(&drawn(&steps, offer));
     }
