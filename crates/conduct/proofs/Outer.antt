@@ -7,27 +7,27 @@ use Rattle.records.specs.declared.Answer.the-variants.{Accepted}
 use Rattle.station.specs.Parameters.{Parameters}
 use Rattle.rules.specs.Fit.{energy}
 use Rattle.formulas.specs.Levels.{parametersIn, amountsIn, Line, shown, profile, lines, levels}
-use Rattle.reference.specs.declared.HourLevels.{HourLevels}
-use Rattle.reference.specs.Packed.{unpacked, amountOf, inArrays}
+use Rattle.arrays.specs.declared.HourLevels.{HourLevels}
+use Rattle.arrays.specs.Packed.{arraysOf, laminationsFrom, unpacked, amountOf}
 use Rattle.verdicts.specs.declared.Verdict.{Verdict}
 use Rattle.verdicts.specs.Refusals.{offerRefusal, priceRefusal}
 use Rattle.verdicts.specs.Verdict.{offerVerdict, priceVerdict}
 use Rattle.verdicts.proofs.Settled.{settle-accepted, price-accepted}
 use Rattle.limits.specs.declared.Threshold.{Threshold}
 use Rattle.limits.specs.Thresholds.{thresholdOf, offerShown, singleShown}
-use Rattle.limits.proofs.Laminations.{told-by-arrays, offer-shown}
+use Rattle.limits.proofs.Laminations.{laminations-alone, offer-shown}
 use Rattle.limits.proofs.Single.{single-tested}
 
--- the levels r were handed over for l; their arrays alone are tested
+-- the levels r were handed over for l; their laminations alone are tested
 pub offer-tested :
     (s : Parameters) (c : ℕ) (l : List Line) (o : List ℕ) (r : HourLevels) (t : Threshold) {w : Verdict}
     → offerRefusal s c o ≡ Accepted → unpacked r ≡ map shown l → t ≡ thresholdOf s c energy
-    → w ≡ offerShown t (unpacked (inArrays (r .from) (r .to) (r .cents) 0 (r .count))) o 0 (length o / 6) → w ≡ offerVerdict s c l o
+    → w ≡ offerShown t (laminationsFrom (arraysOf r) 0 (r .count)) o 0 (length o / 6) → w ≡ offerVerdict s c l o
 unfolding offerVerdict
 offer-tested s c l o r t a u e f =
     settle-accepted a
     (f
-    ∙ told-by-arrays t r o 0 (length o / 6)
+    ∙ laminations-alone t r o 0 (length o / 6)
     ∙ ap (λ (z : Threshold). offerShown z (unpacked r) o 0 (length o / 6)) e
     ∙ ap (λ m. offerShown (thresholdOf s c energy) m o 0 (length o / 6)) u
     ∙ offer-shown s c l o 0 (length o / 6))

@@ -12,9 +12,9 @@ use lib.ListN.{getD}
 use borrow.Author.Tests.{eq-eqb, ne-eqb, le-leb, lt-ltb, leb-true, ltb-true}
 use Rattle.station.specs.Parameters.{Parameters}
 use Rattle.rules.specs.Fit.{energy, holds}
-use Rattle.reference.specs.declared.HourLevels.{HourLevels}
+use Rattle.arrays.specs.declared.HourLevels.{HourLevels}
 use Rattle.formulas.specs.Levels.{Line, amount, Shown, shownAs, shown}
-use Rattle.reference.specs.Packed.{laminationsFrom, singleOf, unpacked, inArrays}
+use Rattle.arrays.specs.Packed.{Arrays, arraysOf, laminationsFrom, singleOf, unpacked}
 use Rattle.limits.specs.declared.Threshold.{Threshold}
 use Rattle.limits.specs.declared.Pair.{Pair}
 use Rattle.verdicts.specs.declared.Verdict.{Verdict}
@@ -59,15 +59,16 @@ module _ (v : ℕ) (meets : ℕ → ℕ → Bool) (test : ℕ → Bool) (k : ℕ
   failing-unpacked :
       (r : HourLevels) (rest : Verdict)
       → failingShown v meets test k (unpacked r) rest
-      ≡ failingShown v meets test k (laminationsFrom r 0 (r .count))
+      ≡ failingShown v meets test k (laminationsFrom (arraysOf r) 0 (r .count))
       (failingShown v meets test k (singleOf (r .technology) 2 (r .start))
       (failingShown v meets test k (singleOf (r .technology) 3 (r .noload))
       (failingShown v meets test k (singleOf (r .technology) 4 (r .reserve)) rest)))
   unfolding unpacked
   failing-unpacked r rest =
-      failing-append (laminationsFrom r 0 (r .count) ++ singleOf (r .technology) 2 (r .start) ++ singleOf (r .technology) 3 (r .noload)) (singleOf (r .technology) 4 (r .reserve)) rest
-      ∙ failing-append (laminationsFrom r 0 (r .count) ++ singleOf (r .technology) 2 (r .start)) (singleOf (r .technology) 3 (r .noload)) _
-      ∙ failing-append (laminationsFrom r 0 (r .count)) (singleOf (r .technology) 2 (r .start)) _
+      let l = laminationsFrom (arraysOf r) 0 (r .count) in
+      failing-append (l ++ singleOf (r .technology) 2 (r .start) ++ singleOf (r .technology) 3 (r .noload)) (singleOf (r .technology) 4 (r .reserve)) rest
+      ∙ failing-append (l ++ singleOf (r .technology) 2 (r .start)) (singleOf (r .technology) 3 (r .noload)) _
+      ∙ failing-append l (singleOf (r .technology) 2 (r .start)) _
 
 module _ (s : Parameters) (c : ℕ) (l : List Line) where
   pub offer-shown : (o : List ℕ) (k n : ℕ) → offerShown (thresholdOf s c energy) (map shown l) o k n ≡ offerFrom s c l o k n
@@ -83,7 +84,7 @@ module _ (s : Parameters) (c : ℕ) (l : List Line) where
 abbrev named : ℕ → ℕ → Verdict → Verdict
 named k i rest = cond (eqb i 0) rest (Fails k i)
 
-module _ (t : Threshold) (p : Pair) (r : HourLevels) (k : ℕ) (rest : Verdict) where
+module _ (t : Threshold) (p : Pair) (r : Arrays) (k : ℕ) (rest : Verdict) where
   laminations-first :
       (i n : ℕ)
       → failingShown energy (overlap (p .low) (p .high)) (failsAt t (p .price)) k (laminationsFrom r i n) rest
@@ -98,31 +99,27 @@ module _ (t : Threshold) (p : Pair) (r : HourLevels) (k : ℕ) (rest : Verdict) 
       go true j e = rw (ne-eqb (suc i) 0 (λ z. omega arith)) refl
       go false j e = e
 
-  pair-first :
-      failingShown energy (overlap (p .low) (p .high)) (failsAt t (p .price)) k (unpacked r) rest
-      ≡ named k (firstFailing t p (r .from) (r .to) (r .cents) 0 (r .count)) rest
-  pair-first =
-      failing-unpacked 1 (overlap (p .low) (p .high)) (failsAt t (p .price)) k r rest
-      ∙ ap (failingShown 1 (overlap (p .low) (p .high)) (failsAt t (p .price)) k (laminationsFrom r 0 (r .count)))
-      (single-other 1 (overlap (p .low) (p .high)) (failsAt t (p .price)) k (r .technology) 2 (r .start) _ refl
-      ∙ single-other 1 (overlap (p .low) (p .high)) (failsAt t (p .price)) k (r .technology) 3 (r .noload) _ refl
-      ∙ single-other 1 (overlap (p .low) (p .high)) (failsAt t (p .price)) k (r .technology) 4 (r .reserve) _ refl)
-      ∙ laminations-first 0 (r .count)
-
 -- pair k of an offer
 abbrev pairAt : List ℕ → ℕ → Pair
 pairAt o k = record { low = before o k; high = quantity o k; price = priceAt o k }
 
--- of an offer the laminations alone are tested, and the arrays tell them
-pub told-by-arrays :
+-- of an offer the laminations alone are tested
+pub laminations-alone :
     (t : Threshold) (r : HourLevels) (o : List ℕ) (k n : ℕ)
-    → offerShown t (unpacked (inArrays (r .from) (r .to) (r .cents) 0 (r .count))) o k n ≡ offerShown t (unpacked r) o k n
+    → offerShown t (laminationsFrom (arraysOf r) 0 (r .count)) o k n ≡ offerShown t (unpacked r) o k n
 unfolding offerShown
-told-by-arrays t r o k zero = refl
-told-by-arrays t r o k (suc n) =
-    pair-first t (pairAt o k) (inArrays (r .from) (r .to) (r .cents) 0 (r .count)) (k + 1) _
-    ∙ ap (named (k + 1) (firstFailing t (pairAt o k) (r .from) (r .to) (r .cents) 0 (r .count))) (told-by-arrays t r o (k + 1) n)
-    ∙ sym (pair-first t (pairAt o k) r (k + 1) _)
+laminations-alone t r o k zero = refl
+laminations-alone t r o k (suc n) =
+    let meets = overlap (before o k) (quantity o k) in
+    let test = failsAt t (priceAt o k) in
+    let l = laminationsFrom (arraysOf r) 0 (r .count) in
+    let rest = offerShown t (unpacked r) o (k + 1) n in
+    ap (failingShown energy meets test (k + 1) l)
+    (laminations-alone t r o (k + 1) n
+    ∙ sym (single-other 1 meets test (k + 1) (r .technology) 2 (r .start) _ refl
+    ∙ single-other 1 meets test (k + 1) (r .technology) 3 (r .noload) _ refl
+    ∙ single-other 1 meets test (k + 1) (r .technology) 4 (r .reserve) rest refl))
+    ∙ sym (failing-unpacked 1 meets test (k + 1) r rest)
 
 -- one lamination
 module _ (t : Threshold) (p : Pair) (from to x : ℕ) where
@@ -179,18 +176,18 @@ unfolding firstFailing
 lamination-end t p from to cents n i h = let z : n - i ≡ 0 = omega arith in rw z refl
 
 -- one turn over the pairs, at pair k of n: what was read of it, and the lamination i that it fails in
-module _ (t : Threshold) (r : HourLevels) (o : List ℕ) (n k : ℕ) (p : Pair) (i : ℕ) (h : k < n) (l : p .low ≡ before o k) (q : p .high ≡ quantity o k) (e : p .price ≡ priceAt o k) (f : i ≡ firstFailing t p (r .from) (r .to) (r .cents) 0 (r .count)) where
-  turn : named (k + 1) i (offerShown t (unpacked r) o (k + 1) (n - (k + 1))) ≡ offerShown t (unpacked r) o k (n - k)
+module _ (t : Threshold) (r : Arrays) (o : List ℕ) (n k : ℕ) (p : Pair) (i : ℕ) (h : k < n) (l : p .low ≡ before o k) (q : p .high ≡ quantity o k) (e : p .price ≡ priceAt o k) (f : i ≡ firstFailing t p (r .from) (r .to) (r .cents) 0 (r .count)) where
+  turn : named (k + 1) i (offerShown t (laminationsFrom r 0 (r .count)) o (k + 1) (n - (k + 1))) ≡ offerShown t (laminationsFrom r 0 (r .count)) o k (n - k)
   unfolding offerShown
   turn =
       rw (one-less n k h, ← l, ← q, ← e)
-      (ap (λ (j : ℕ). named (k + 1) j (offerShown t (unpacked r) o (k + 1) (n - (k + 1)))) f
-      ∙ sym (pair-first t p r (k + 1) (offerShown t (unpacked r) o (k + 1) (n - (k + 1)))))
+      (ap (λ (j : ℕ). named (k + 1) j (offerShown t (laminationsFrom r 0 (r .count)) o (k + 1) (n - (k + 1)))) f
+      ∙ sym (laminations-first t p r (k + 1) (offerShown t (laminationsFrom r 0 (r .count)) o (k + 1) (n - (k + 1))) 0 (r .count)))
 
-  pub pair-stop : (i ≡ 0 → ⊥) → Fails (k + 1) i ≡ offerShown t (unpacked r) o k (n - k)
+  pub pair-stop : (i ≡ 0 → ⊥) → Fails (k + 1) i ≡ offerShown t (laminationsFrom r 0 (r .count)) o k (n - k)
   pair-stop z = rw (ne-eqb i 0 z) at turn
 
-  pub pair-next : i ≡ 0 → offerShown t (unpacked r) o (k + 1) (n - (k + 1)) ≡ offerShown t (unpacked r) o k (n - k)
+  pub pair-next : i ≡ 0 → offerShown t (laminationsFrom r 0 (r .count)) o (k + 1) (n - (k + 1)) ≡ offerShown t (laminationsFrom r 0 (r .count)) o k (n - k)
   pair-next z = rw (eq-eqb i 0 z) at turn
 
 pub pair-end : (t : Threshold) (m : List Shown) (o : List ℕ) (n k : ℕ) → n ≤ k → Passes ≡ offerShown t m o k (n - k)
@@ -215,13 +212,13 @@ module _ (t : Threshold) {p q : ℕ} (x : ℕ) (h : q ≤ p) where
       go false b f g = refl
 
 -- where the highest price passes at the least level, all pairs pass
-module _ (t : Threshold) (r : HourLevels) (o : List ℕ) (n : ℕ) (h : LastHighest o n) (e : failsAt t (priceAt o (n - 1)) (leastOf (r .cents) (r .count)) ≡ false) where
-  pass-from : (m k : ℕ) → k + m ≡ n → Passes ≡ offerShown t (unpacked r) o k (n - k)
-  pass-from zero k f = pair-end t (unpacked r) o n k (omega arith)
+module _ (t : Threshold) (r : Arrays) (o : List ℕ) (n : ℕ) (h : LastHighest o n) (e : failsAt t (priceAt o (n - 1)) (leastOf (r .cents) (r .count)) ≡ false) where
+  pass-from : (m k : ℕ) → k + m ≡ n → Passes ≡ offerShown t (laminationsFrom r 0 (r .count)) o k (n - k)
+  pass-from zero k f = pair-end t (laminationsFrom r 0 (r .count)) o n k (omega arith)
   pass-from (suc m) k f =
       let p = pairAt o k in
       let z = lower-passes t (leastOf (r .cents) (r .count)) (h .at k (omega arith)) e in
       pass-from m (k + 1) (omega arith) ∙ pair-next t r o n k p 0 (omega arith) refl refl refl (least-passes t p (r .from) (r .to) (r .cents) (leastOf (r .cents) (r .count)) z (r .count) refl) refl
 
-  pub all-pass : Passes ≡ offerShown t (unpacked r) o 0 n
-  all-pass = pass-from n 0 (omega arith) ∙ all-left (offerShown t (unpacked r) o 0) n
+  pub all-pass : Passes ≡ offerShown t (laminationsFrom r 0 (r .count)) o 0 n
+  all-pass = pass-from n 0 (omega arith) ∙ all-left (offerShown t (laminationsFrom r 0 (r .count)) o 0) n

@@ -9,9 +9,9 @@ use borrow.Author.Tests.{ne-eqb}
 use Rattle.station.specs.Parameters.{Parameters, Amounts, technology}
 use Rattle.rules.specs.Fit.{energy, reserve, holds}
 use Rattle.formulas.specs.Levels.{Line, adders, startCost, noLoadCost, laminations, oneLamination, single, linesOf}
-use Rattle.reference.specs.Packed.{amountOf}
-use Rattle.reference.proofs.Packed.{others, amount-laminations}
-use Rattle.reference.proofs.Single.{by-kind, thermalLines, held-lines}
+use Rattle.arrays.specs.Packed.{amountOf}
+use Rattle.arrays.proofs.Packed.{others, amount-laminations}
+use Rattle.arrays.proofs.Single.{by-kind, thermalLines, held-lines}
 use Rattle.verdicts.specs.declared.Verdict.the-variants.{Passes}
 use Rattle.verdicts.specs.Test.{failsUnder, failing, priceTest}
 use Rattle.limits.specs.Thresholds.{thresholdOf, failsAt, singleShown}

@@ -4,7 +4,7 @@ ghost use mathlib.Core.Path.{_≡_};
 ghost use Prim.Native.Nat.{_+_, _*_, _<_, _≤_, _/_, min};
 ghost use lib.ListN.{length};
 ghost use Rattle.fields.specs.Numbers.{number, biasedOf};
-ghost use Rattle.reference.specs.Packed.{unpacked, inArrays};
+ghost use Rattle.arrays.specs.Packed.{laminationsFrom, inArrays};
 ghost use Rattle.verdicts.specs.Test.{limit as limitOf, overlap, quantity, priceAt};
 ghost use Rattle.limits.specs.Thresholds.{failsAt, failsIn, firstFailing, leastOf, offerShown, singleShown, LastHighest};
 use verdicts::Verdict;
@@ -177,7 +177,7 @@ fn offer_test<'a>(
     offer: &[u8],
 ) -> Verdict
     requires { ⌜ (count ≤ 20) × (length (now offer) ≤ 120) ⌝ }
-    ensures { λ r. ⌜ r ≡ offerShown t (unpacked (inArrays (now (from .entry)) (now (to .entry)) (now (cents .entry)) 0 count)) (now (offer .entry)) 0 (length (now (offer .entry)) / 6) ⌝ }
+    ensures { λ r. ⌜ r ≡ offerShown t (laminationsFrom (inArrays (now (from .entry)) (now (to .entry)) (now (cents .entry)) count) 0 count) (now (offer .entry)) 0 (length (now (offer .entry)) / 6) ⌝ }
 {
     let least = least_level(cents, count);
     let pairs = offer.len() / 6;
@@ -210,7 +210,7 @@ pub fn rising_offer_test<'a>(
     offer: &[u8],
 ) -> Verdict
     requires { ⌜ (count ≤ 20) × (length (now offer) ≤ 120) × LastHighest (now offer) (length (now offer) / 6) ⌝ }
-    ensures { λ r. ⌜ r ≡ offerShown t (unpacked (inArrays (now (from .entry)) (now (to .entry)) (now (cents .entry)) 0 count)) (now (offer .entry)) 0 (length (now (offer .entry)) / 6) ⌝ }
+    ensures { λ r. ⌜ r ≡ offerShown t (laminationsFrom (inArrays (now (from .entry)) (now (to .entry)) (now (cents .entry)) count) 0 count) (now (offer .entry)) 0 (length (now (offer .entry)) / 6) ⌝ }
 {
     let pairs = offer.len() / 6;
     if pairs == 0 {

@@ -11,15 +11,15 @@ use Rattle.text.specs.Text.{startWord, noLoadWord, reserveWord}
 use Rattle.text.proofs.Decimal.{decimal-within}
 use Rattle.text.proofs.Over.{Wrote, then}
 use Rattle.rules.specs.Fit.{start, noLoad, reserve, holds}
-use Rattle.reference.specs.declared.HourLevels.{HourLevels}
+use Rattle.arrays.specs.declared.HourLevels.{HourLevels}
 use Rattle.formulas.specs.Levels.{Shown, shownAs}
-use Rattle.reference.specs.Packed.{laminationAt, laminationsFrom, singleOf, unpacked, inArrays}
+use Rattle.arrays.specs.Packed.{Arrays, arraysOf, laminationAt, laminationsFrom, singleOf, unpacked}
 use Rattle.lines.specs.Parts.{packedReport, laminationLines, heldLine, otherLines}
 use Rattle.layout.specs.Report.{profileLine, energyLine, amountLine, levelLine, levelLines, reportText}
 use Rattle.layout.proofs.Lines.{profile-length, lines-append, lines-within}
 
 -- one lamination more, at the end
-laminations-more : (r : HourLevels) (j n : ℕ) → laminationsFrom r j (suc n) ≡ laminationsFrom r j n ++ (laminationAt r (j + n) ∷ [])
+laminations-more : (r : Arrays) (j n : ℕ) → laminationsFrom r j (suc n) ≡ laminationsFrom r j n ++ (laminationAt r (j + n) ∷ [])
 unfolding laminationsFrom
 laminations-more r j zero = ap (λ (k : ℕ). laminationAt r k ∷ []) (omega arith)
 laminations-more r j (suc n) =
@@ -27,16 +27,16 @@ laminations-more r j (suc n) =
     (laminations-more r (suc j) n ∙ ap (λ (k : ℕ). laminationsFrom r (suc j) n ++ (laminationAt r k ∷ [])) (omega arith))
 
 -- the energy line of the lamination at place i of the arrays
-abbrev pub lineAt : HourLevels → ℕ → List ℕ
+abbrev pub lineAt : Arrays → ℕ → List ℕ
 lineAt r i = energyLine (i + 1) (getD (r .from) i 0) (getD (r .to) i 0) (getD (r .cents) i 0)
 
 -- no line yet
-pub no-line : (r : HourLevels) → laminationLines r 0 ≡ []
+pub no-line : (r : Arrays) → laminationLines r 0 ≡ []
 unfolding levelLines laminationsFrom
 no-line r = refl
 
 -- one line more
-next-line : (r : HourLevels) (i : ℕ) → laminationLines r (i + 1) ≡ laminationLines r i ++ lineAt r i
+next-line : (r : Arrays) (i : ℕ) → laminationLines r (i + 1) ≡ laminationLines r i ++ lineAt r i
 unfolding levelLines levelLine
 next-line r i =
     let z : 0 + i ≡ i = omega arith in
@@ -44,28 +44,28 @@ next-line r i =
     (ap levelLines (laminations-more r 0 i) ∙ lines-append (laminationsFrom r 0 i) (laminationAt r (0 + i) ∷ [])
     ∙ rw z (ap (λ (t : List ℕ). laminationLines r i ++ t) (append-nil _)))
 
-pub next-length : (r : HourLevels) (i : ℕ) → length (laminationLines r (i + 1)) ≡ length (laminationLines r i) + length (lineAt r i)
+pub next-length : (r : Arrays) (i : ℕ) → length (laminationLines r (i + 1)) ≡ length (laminationLines r i) + length (lineAt r i)
 next-length r i = ap length (next-line r i) ∙ length-append (laminationLines r i) (lineAt r i)
 
-laminations-count : (r : HourLevels) (i n : ℕ) → length (laminationsFrom r i n) ≡ n
+laminations-count : (r : Arrays) (i n : ℕ) → length (laminationsFrom r i n) ≡ n
 unfolding laminationsFrom
 laminations-count r i zero = refl
 laminations-count r i (suc n) = ap suc (laminations-count r (suc i) n)
 
-pub laminations-within : (r : HourLevels) (n : ℕ) → length (laminationLines r n) ≤ 98 * n
+pub laminations-within : (r : Arrays) (n : ℕ) → length (laminationLines r n) ≤ 98 * n
 laminations-within r n = omega (arith, lines-within (laminationsFrom r 0 n), laminations-count r 0 n)
 
-grow : (r : HourLevels) (i k n : ℕ) → n ≡ k + i → length (laminationLines r i) ≤ length (laminationLines r n)
+grow : (r : Arrays) (i k n : ℕ) → n ≡ k + i → length (laminationLines r i) ≤ length (laminationLines r n)
 grow r i zero n e = let z : n ≡ i = omega arith in rw z (omega arith)
 grow r i (suc k) n e =
     let z : n ≡ k + i + 1 = omega arith in rw z (omega (arith, next-length r (k + i), grow r i k (k + i) refl))
 
 -- where n lines fit, so do the lines before place i and the line there
-pub line-fits : (r : HourLevels) (i n : ℕ) → i + 1 ≤ n → length (laminationLines r i) + length (lineAt r i) ≤ length (laminationLines r n)
+pub line-fits : (r : Arrays) (i n : ℕ) → i + 1 ≤ n → length (laminationLines r i) + length (lineAt r i) ≤ length (laminationLines r n)
 line-fits r i n h = omega (arith, next-length r i, grow r (i + 1) (n - (i + 1)) n (omega arith))
 
 -- that line written behind them, in the rest of the buffer
-pub turn : (r : HourLevels) (i : ℕ) (e : List ℕ) {at q : ℕ} {b b′ : List ℕ} → Wrote (laminationLines r i) e at b
+pub turn : (r : Arrays) (i : ℕ) (e : List ℕ) {at q : ℕ} {b b′ : List ℕ} → Wrote (laminationLines r i) e at b
     → Wrote (lineAt r i) (take (length b - at) (drop at b)) q b′
     → Wrote (laminationLines r (i + 1)) e (at + q) (take at b ++ (b′ ++ drop (length b - at) (drop at b)))
 turn r i e p q = rw (next-line r i) (then (laminationLines r i) (lineAt r i) e p q)
@@ -101,21 +101,12 @@ pub others-within : (t x y z : ℕ) → length (otherLines t x y z) ≤ 294
 unfolding otherLines
 others-within t x y z = simp length-append (omega (arith, single-within t start x, single-within t noLoad y, single-within t reserve z))
 
--- the energy lines are told by the arrays alone
-abbrev pub linesInArrays : HourLevels → List ℕ
-linesInArrays r = laminationLines (inArrays (r .from) (r .to) (r .cents) 0 0) (r .count)
-
-told-by-arrays : (r : HourLevels) (i n : ℕ) → laminationsFrom (inArrays (r .from) (r .to) (r .cents) 0 0) i n ≡ laminationsFrom r i n
-unfolding laminationsFrom
-told-by-arrays r i zero = refl
-told-by-arrays r i (suc n) = ap (λ (l : List Shown). laminationAt r i ∷ l) (told-by-arrays r (suc i) n)
-
 -- the report as profile line, energy lines and the others
-pub report-is : (r : HourLevels) → packedReport r ≡ profileLine (r .profile) ++ linesInArrays r ++ otherLines (r .technology) (r .start) (r .noload) (r .reserve)
+pub report-is : (r : HourLevels) → packedReport r ≡ profileLine (r .profile) ++ laminationLines (arraysOf r) (r .count) ++ otherLines (r .technology) (r .start) (r .noload) (r .reserve)
 unfolding packedReport reportText unpacked otherLines
-report-is r = rw (told-by-arrays r 0 (r .count)) (simp (lines-append, append-assoc))
+report-is r = simp (lines-append, append-assoc)
 
-pub report-length : (r : HourLevels) → length (packedReport r) ≡ length (profileLine (r .profile)) + length (linesInArrays r) + length (otherLines (r .technology) (r .start) (r .noload) (r .reserve))
+pub report-length : (r : HourLevels) → length (packedReport r) ≡ length (profileLine (r .profile)) + length (laminationLines (arraysOf r) (r .count)) + length (otherLines (r .technology) (r .start) (r .noload) (r .reserve))
 report-length r = rw (report-is r) (simp length-append)
 
 -- a report of at most 20 laminations has at most 2,283 bytes
@@ -126,6 +117,6 @@ report-within r h =
       report-length r,
       profile-length (r .profile),
       decimal-within (r .profile),
-      laminations-within (inArrays (r .from) (r .to) (r .cents) 0 0) (r .count),
+      laminations-within (arraysOf r) (r .count),
       others-within (r .technology) (r .start) (r .noload) (r .reserve),
     )

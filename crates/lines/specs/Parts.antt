@@ -4,8 +4,8 @@ use mathlib.Core.List.{List, [], _++_}
 use Prim.Native.Nat.{ℕ}
 use lib.ListN.{length}
 use Rattle.rules.specs.Fit.{start, noLoad, reserve}
-use Rattle.reference.specs.declared.HourLevels.{HourLevels}
-use Rattle.reference.specs.Packed.{laminationsFrom, singleOf, unpacked}
+use Rattle.arrays.specs.declared.HourLevels.{HourLevels}
+use Rattle.arrays.specs.Packed.{Arrays, laminationsFrom, singleOf, unpacked}
 use Rattle.layout.specs.declared.Written.{Written}
 use Rattle.layout.specs.Report.{amountLine, levelLines, reportText, shortFor, bufferWith, written}
 
@@ -21,7 +21,7 @@ abbrev pub bufferOf : HourLevels → List ℕ → List ℕ
 bufferOf r b = bufferWith (shortFor (packedReport r) (length b)) (packedReport r) b
 
 -- the first n energy lines
-abbrev pub laminationLines : HourLevels → ℕ → List ℕ
+abbrev pub laminationLines : Arrays → ℕ → List ℕ
 laminationLines r n = levelLines (laminationsFrom r 0 n)
 
 -- a line with a word and a level that may be held or not

@@ -6,11 +6,11 @@ ghost use lib.ListN.{length};
 ghost use Rattle.text.specs.Text.{over, tenths, space};
 ghost use Rattle.rules.specs.Fit.{holds};
 ghost use Rattle.layout.specs.Report.{profileLine, energyLine, amountLine};
-ghost use Rattle.reference.specs.Packed.{hourOf, inArrays};
+ghost use Rattle.arrays.specs.Packed.{hourOf, inArrays};
 ghost use Rattle.lines.specs.Parts.{laminationLines, heldLine, otherLines, writtenOf, bufferOf};
+use arrays::SingleLevels;
 use fit::level_held;
 use layout::Written;
-use reference::SingleLevels;
 
 // No report is longer.
 const LONGEST: usize = 2283;
@@ -79,7 +79,7 @@ fn laminations_len<'a>(
     count: usize,
 ) -> usize
     requires { ⌜ count ≤ 20 ⌝ }
-    ensures { λ r. ⌜ r ≡ length (laminationLines (inArrays (now (from .entry)) (now (to .entry)) (now (cents .entry)) 0 0) count) ⌝ }
+    ensures { λ r. ⌜ r ≡ length (laminationLines (inArrays (now (from .entry)) (now (to .entry)) (now (cents .entry)) count) count) ⌝ }
 {
     let mut len = 0;
     let mut i = 0;
@@ -97,8 +97,8 @@ fn put_laminations<'a>(
     cents: &'a [u64; 20],
     count: usize,
 ) -> usize
-    requires { ⌜ (count ≤ 20) × (length (laminationLines (inArrays (now from) (now to) (now cents) 0 0) count) ≤ length (now buf)) ⌝ }
-    ensures { λ r. ⌜ (r ≡ length (laminationLines (inArrays (now (from .entry)) (now (to .entry)) (now (cents .entry)) 0 0) count)) × (now (buf .exit) ≡ over (laminationLines (inArrays (now (from .entry)) (now (to .entry)) (now (cents .entry)) 0 0) count) (now (buf .entry))) ⌝ }
+    requires { ⌜ (count ≤ 20) × (length (laminationLines (inArrays (now from) (now to) (now cents) count) count) ≤ length (now buf)) ⌝ }
+    ensures { λ r. ⌜ (r ≡ length (laminationLines (inArrays (now (from .entry)) (now (to .entry)) (now (cents .entry)) count) count)) × (now (buf .exit) ≡ over (laminationLines (inArrays (now (from .entry)) (now (to .entry)) (now (cents .entry)) count) count) (now (buf .entry))) ⌝ }
 {
     let mut at = 0;
     let mut i = 0;

@@ -5,7 +5,7 @@ ghost use Prim.Native.Nat.{_≤_};
 ghost use lib.ListN.{replicate};
 ghost use Rattle.lookup.specs.Parts.{Indexed, parametersHeld, amountsHeld};
 ghost use Rattle.formulas.specs.Levels.{laminations, amount};
-ghost use Rattle.reference.specs.Packed.{padded};
+ghost use Rattle.arrays.specs.Packed.{padded};
 use costs::maintenance::adders;
 use costs::maintenance::maintenance;
 use costs::thermal::bottom;

@@ -1,4 +1,4 @@
-// The reference levels at an hour, in arrays. How lines are packed into them is in specs/, its laws in proofs/.
+// The reference levels at an hour, in arrays.
 mod laminations;
 mod profile;
 
@@ -12,35 +12,13 @@ ghost use Rattle.lookup.specs.Parts.{Indexed, Empty, parametersHeld, amountsHel
 ghost use Rattle.rules.specs.Fit.{holds};
 ghost use Rattle.rules.specs.Answer.{IsAccepted};
 ghost use Rattle.formulas.specs.Exact.{microDollars, cents as centsOf};
-ghost use Rattle.formulas.specs.Levels.{parametersIn, profile, linesOf, levels};
-ghost use Rattle.reference.specs.Packed.{padded, singleLevels, hourOf, singleSum, amountOf, packed, noLevels, levelsAnswer};
+ghost use Rattle.formulas.specs.Levels.{parametersIn, linesOf, levels};
+ghost use Rattle.arrays.specs.Packed.{padded, singleLevels, hourOf, singleSum, amountOf, packed, packedAt, noLevels};
+ghost use Rattle.reference.specs.Answer.{levelsAnswer};
 use arithmetic::Money;
+use arrays::HourLevels;
+use arrays::SingleLevels;
 use records::Answer;
-
-// The levels at an hour: up to 20 laminations with from and to in 0.1 MW and their level, and the other levels where the
-// technology holds them, 0 where it doesn't; all levels in cents.
-pub struct HourLevels {
-    pub technology: u8,
-    pub profile: usize,
-    pub count: usize,
-    pub from: [u64; 20],
-    pub to: [u64; 20],
-    pub cents: [u64; 20],
-    pub start: u64,
-    pub noload: u64,
-    pub reserve: u64,
-}
-
-// What they are beside their laminations. Between layers the laminations are in lent arrays: handed on as values they would be copied at
-// each step.
-pub struct SingleLevels {
-    pub technology: u8,
-    pub profile: usize,
-    pub count: usize,
-    pub start: u64,
-    pub noload: u64,
-    pub reserve: u64,
-}
 
 // The answer to a dossier with its levels at an hour: all zero where it is refused.
 pub struct LevelsAnswer {
@@ -113,7 +91,7 @@ pub fn hour_levels(
     cents: &mut [u64],
 ) -> SingleLevels
     requires { ⌜ IsAccepted (now d) × Indexed (now d) (now index) × (now from ≡ replicate 20 0) × (now to ≡ replicate 20 0) × (now cents ≡ replicate 20 0) ⌝ }
-    ensures { λ r. ⌜ hourOf r (now (from .exit)) (now (to .exit)) (now (cents .exit)) ≡ packed (technology (parametersIn (now (d .entry)))) (profile (parametersIn (now (d .entry))) hour) (levels (now (d .entry)) hour) ⌝ }
+    ensures { λ r. ⌜ hourOf r (now (from .exit)) (now (to .exit)) (now (cents .exit)) ≡ packedAt (now (d .entry)) hour ⌝ }
 {
     let p = profile::profile(d, index, hour);
     let technology = parameters::technology(d, index);
@@ -180,7 +158,7 @@ fn no_levels() -> HourLevels
 // The levels of an accepted dossier at an hour, with their laminations.
 fn whole_levels(d: &[u8], index: &[u16], hour: u32) -> HourLevels
     requires { ⌜ IsAccepted (now d) × Indexed (now d) (now index) ⌝ }
-    ensures { λ r. ⌜ r ≡ packed (technology (parametersIn (now (d .entry)))) (profile (parametersIn (now (d .entry))) hour) (levels (now (d .entry)) hour) ⌝ }
+    ensures { λ r. ⌜ r ≡ packedAt (now (d .entry)) hour ⌝ }
 {
     let mut from = [0u64; 20];
     let mut to = [0u64; 20];

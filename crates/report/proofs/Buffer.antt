@@ -8,9 +8,9 @@ use Rattle.records.specs.Answers.{orElse, isAccepted}
 use Rattle.records.specs.Dossier.{records}
 use Rattle.station.specs.Parameters.{parameters}
 use Rattle.rules.specs.Answer.{answer}
-use Rattle.reference.specs.declared.HourLevels.{HourLevels}
+use Rattle.arrays.specs.declared.HourLevels.{HourLevels}
 use Rattle.formulas.specs.Levels.{profile, levels, shown}
-use Rattle.reference.specs.Packed.{unpacked}
+use Rattle.arrays.specs.Packed.{unpacked}
 use Rattle.layout.specs.declared.Written.{Written}
 use Rattle.layout.specs.declared.Written.the-variants.{Refused}
 use Rattle.lines.specs.Parts.{packedReport}

@@ -8,12 +8,11 @@ use lib.ListN.{length, getD, drop, length-map}
 use Rattle.records.specs.declared.Answer.{Answer}
 use Rattle.records.specs.declared.Answer.the-variants.{Accepted, Refused}
 use Rattle.records.specs.Answers.{orElse, refuseIf, isAccepted}
-use Rattle.station.specs.Parameters.{technology}
 use Rattle.rules.specs.Answer.{answer}
-use Rattle.reference.specs.declared.HourLevels.{HourLevels}
-use Rattle.formulas.specs.Levels.{parametersIn, Line, amount, profile, levels}
-use Rattle.reference.specs.Packed.{energyLines, padded, packed}
-use Rattle.reference.proofs.Packed.{handed-count}
+use Rattle.arrays.specs.declared.HourLevels.{HourLevels}
+use Rattle.formulas.specs.Levels.{Line, amount}
+use Rattle.arrays.specs.Packed.{arraysOf, energyLines, padded, packed, packedAt}
+use Rattle.arrays.proofs.Packed.{handed-count}
 use Rattle.words.specs.Words.{Blank, wordsOf, wordsAnswer, wordsAfter}
 
 -- what a call for dossier d at hour h answers, and what it leaves of words that held e
@@ -22,7 +21,7 @@ Told d h e a w = (a ≡ wordsAnswer d h (length e)) × (w ≡ wordsAfter d h e)
 
 module _ (d : List ℕ) (h : ℕ) (e : List ℕ) where
   pub told-words : (r : HourLevels) {w : List ℕ} → answer d ≡ Accepted → 66 ≤ length e
-      → r ≡ packed (technology (parametersIn d)) (profile (parametersIn d) h) (levels d h) → w ≡ wordsOf r ++ drop 66 e
+      → r ≡ packedAt d h → w ≡ wordsOf r ++ drop 66 e
       → Told d h e Accepted w
   unfolding wordsAnswer wordsAfter orElse refuseIf isAccepted
   told-words r a l p q = rw (a, le-ltb (length e) 66 l, ← p) (refl, q)
@@ -50,7 +49,7 @@ padded-past (suc k) (suc i) (x ∷ l) h = padded-past k i l (omega arith)
 column-past : (g : Line → ℕ) (l : List Line) (i : ℕ) → length l ≤ i → getD (padded 20 (map g l)) i 0 ≡ 0
 column-past g l i h = padded-past 20 i (map g l) (rw length-map h)
 
-packed-blank : (t p : ℕ) (l : List Line) → packed t p l .count ≤ 20 → Blank (packed t p l)
+packed-blank : (t p : ℕ) (l : List Line) → packed t p l .count ≤ 20 → Blank (arraysOf (packed t p l))
 unfolding packed
 packed-blank t p l h =
     record {
@@ -58,6 +57,6 @@ packed-blank t p l h =
       none = λ i g. rw (column-past (λ x. x .from) (energyLines l) i g, column-past (λ x. x .to) (energyLines l) i g, column-past (λ x. amount x) (energyLines l) i g) refl;
     }
 
-pub handed-blank : (d : List ℕ) (h : ℕ) {r : HourLevels} → r ≡ packed (technology (parametersIn d)) (profile (parametersIn d) h) (levels d h) → Blank r
+pub handed-blank : (d : List ℕ) (h : ℕ) {r : HourLevels} → r ≡ packedAt d h → Blank (arraysOf r)
 handed-blank d h {r} e =
-    subst Blank (sym e) (packed-blank _ _ _ (subst (λ (x : HourLevels). x .count ≤ 20) e (handed-count d h r e)))
+    subst (λ (x : HourLevels). Blank (arraysOf x)) (sym e) (packed-blank _ _ _ (subst (λ (x : HourLevels). x .count ≤ 20) e (handed-count d h r e)))

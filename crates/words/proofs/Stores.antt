@@ -6,29 +6,23 @@ use native.Mathlib.Numerals.{add-one}
 use native.Mathlib.Omega.{arith}
 use lib.ListN.{length, getD, take, drop, set, replicate, length-append, length-drop, length-set, length-replicate, getD-replicate, replicate-append-replicate}
 use lib.Seq.{drop-cons, getD-take}
-use Rattle.reference.specs.declared.HourLevels.{HourLevels}
+use Rattle.arrays.specs.declared.HourLevels.{HourLevels}
 use Rattle.text.specs.Text.{over}
 use Rattle.text.proofs.Over.{Wrote, byte}
-use Rattle.reference.specs.Packed.{inArrays}
+use Rattle.arrays.specs.Packed.{Arrays, arraysOf}
 use Rattle.words.specs.Words.{heldBits, laminationWords, Blank, wordsTo, wordsOf}
 
 -- ---- how many there are
 
-pub wordsTo-length : (r : HourLevels) (n : ℕ) → length (wordsTo r n) ≡ 3 * n + 2
+pub wordsTo-length : (q : ℕ) (r : Arrays) (n : ℕ) → length (wordsTo q r n) ≡ 3 * n + 2
 unfolding wordsTo
-wordsTo-length r zero = refl
-wordsTo-length r (suc n) = simp length-append (omega (arith, wordsTo-length r n))
-
--- the arrays tell all of them but the last four
-told-by-arrays : (r : HourLevels) (n : ℕ) → wordsTo (inArrays (r .from) (r .to) (r .cents) (r .profile) (r .count)) n ≡ wordsTo r n
-unfolding wordsTo
-told-by-arrays r zero = refl
-told-by-arrays r (suc n) = ap (λ (l : List ℕ). l ++ laminationWords r n) (told-by-arrays r n)
+wordsTo-length q r zero = refl
+wordsTo-length q r (suc n) = simp length-append (omega (arith, wordsTo-length q r n))
 
 -- always 66
 pub wordsOf-length : (r : HourLevels) → length (wordsOf r) ≡ 66
 unfolding wordsOf
-wordsOf-length r = simp length-append (omega (arith, wordsTo-length r 20))
+wordsOf-length r = simp length-append (omega (arith, wordsTo-length (r .profile) (arraysOf r) 20))
 
 -- ---- stores
 
@@ -64,25 +58,25 @@ add-two : (n : ℕ) → n + 2 ≡ suc (suc n)
 add-two n = omega arith
 
 -- the first two, which the loop over the places starts from
-abbrev begun : HourLevels → List ℕ → List ℕ
-begun r e = set (set e 0 (r .profile)) 1 (r .count)
+abbrev begun : ℕ → Arrays → List ℕ → List ℕ
+begun q r e = set (set e 0 q) 1 (r .count)
 
-pub first-words : (r : HourLevels) (e : List ℕ) → 62 ≤ length e → Wrote (wordsTo r 0) (begun r e) 2 (begun r e)
+pub first-words : (q : ℕ) (r : Arrays) (e : List ℕ) → 62 ≤ length e → Wrote (wordsTo q r 0) (begun q r e) 2 (begun q r e)
 unfolding wordsTo
-first-words r [] h = absurd (omega arith)
-first-words r (x ∷ []) h = absurd (omega arith)
-first-words r (x ∷ y ∷ e) h = (refl, refl)
+first-words q r [] h = absurd (omega arith)
+first-words q r (x ∷ []) h = absurd (omega arith)
+first-words q r (x ∷ y ∷ e) h = (refl, refl)
 
-begun-rest : (r : HourLevels) (e : List ℕ) (n : ℕ) → drop (n + 2) (begun r e) ≡ drop (n + 2) e
-begun-rest r e n = rw (add-two n) (go e)
+begun-rest : (q : ℕ) (r : Arrays) (e : List ℕ) (n : ℕ) → drop (n + 2) (begun q r e) ≡ drop (n + 2) e
+begun-rest q r e n = rw (add-two n) (go e)
   where
-    go : (e : List ℕ) → drop (suc (suc n)) (begun r e) ≡ drop (suc (suc n)) e
+    go : (e : List ℕ) → drop (suc (suc n)) (begun q r e) ≡ drop (suc (suc n)) e
     go [] = refl
     go (x ∷ []) = refl
     go (x ∷ y ∷ e) = refl
 
 -- the places behind the laminations have nothing, as the words that were there
-module _ (r : HourLevels) (h : Blank r) (e : List ℕ) (k : 62 ≤ length e) (z : take 62 e ≡ replicate 62 0) where
+module _ (q : ℕ) (r : Arrays) (h : Blank r) (e : List ℕ) (k : 62 ≤ length e) (z : take 62 e ≡ replicate 62 0) where
   nothing : (j : ℕ) → j < 62 → getD e j 0 ≡ 0
   nothing j g = sym (getD-take 62 e j 0 g) ∙ ap (λ (l : List ℕ). getD l j 0) z ∙ getD-replicate 62 j 0 0 g
 
@@ -91,52 +85,52 @@ module _ (r : HourLevels) (h : Blank r) (e : List ℕ) (k : 62 ≤ length e) (z 
       let a : suc (suc (suc (3 * i + 2))) ≡ 3 * (i + 1) + 2 = omega arith in
       rw (drop-cons e (3 * i + 2) 0 (omega arith), drop-cons e (suc (3 * i + 2)) 0 (omega arith), drop-cons e (suc (suc (3 * i + 2))) 0 (omega arith), nothing (3 * i + 2) (omega arith), nothing (suc (3 * i + 2)) (omega arith), nothing (suc (suc (3 * i + 2))) (omega arith), a) refl
 
-  blank-places : (m i : ℕ) → i + m ≡ 20 → r .count ≤ i → wordsTo r i ++ drop (3 * i + 2) e ≡ wordsTo r 20 ++ drop 62 e
+  blank-places : (m i : ℕ) → i + m ≡ 20 → r .count ≤ i → wordsTo q r i ++ drop (3 * i + 2) e ≡ wordsTo q r 20 ++ drop 62 e
   unfolding wordsTo
   blank-places zero i f g = let a : i ≡ 20 = omega arith in rw a refl
   blank-places (suc m) i f g =
-      ap (λ (l : List ℕ). wordsTo r i ++ l) (three-left i (omega arith))
-      ∙ sym (append-assoc (wordsTo r i) (0 ∷ 0 ∷ 0 ∷ []) (drop (3 * (i + 1) + 2) e))
-      ∙ ap (λ (l : List ℕ). wordsTo r i ++ l ++ drop (3 * (i + 1) + 2) e) (sym (h .none i g))
+      ap (λ (l : List ℕ). wordsTo q r i ++ l) (three-left i (omega arith))
+      ∙ sym (append-assoc (wordsTo q r i) (0 ∷ 0 ∷ 0 ∷ []) (drop (3 * (i + 1) + 2) e))
+      ∙ ap (λ (l : List ℕ). wordsTo q r i ++ l ++ drop (3 * (i + 1) + 2) e) (sym (h .none i g))
       ∙ one-more (blank-places m (i + 1) (omega arith) (omega arith))
     where
-      one-more : wordsTo r (i + 1) ++ drop (3 * (i + 1) + 2) e ≡ wordsTo r 20 ++ drop 62 e → wordsTo r i ++ laminationWords r i ++ drop (3 * (i + 1) + 2) e ≡ wordsTo r 20 ++ drop 62 e
-      one-more q = ap (λ (n : ℕ). wordsTo r n ++ drop (3 * (i + 1) + 2) e) (sym (add-one i)) ∙ q
+      one-more : wordsTo q r (i + 1) ++ drop (3 * (i + 1) + 2) e ≡ wordsTo q r 20 ++ drop 62 e → wordsTo q r i ++ laminationWords r i ++ drop (3 * (i + 1) + 2) e ≡ wordsTo q r 20 ++ drop 62 e
+      one-more u = ap (λ (n : ℕ). wordsTo q r n ++ drop (3 * (i + 1) + 2) e) (sym (add-one i)) ∙ u
 
   -- and what it ends with
-  pub all-places : {i : ℕ} {w : List ℕ} → i ≡ r .count → Wrote (wordsTo r i) (begun r e) (3 * i + 2) w → w ≡ wordsTo r 20 ++ drop 62 e
-  all-places {i} f (p, q) =
-      q ∙ rw (wordsTo-length r i, begun-rest r e (3 * i)) (blank-places (20 - i) i (omega (arith, h .few)) (omega arith))
+  pub all-places : {i : ℕ} {w : List ℕ} → i ≡ r .count → Wrote (wordsTo q r i) (begun q r e) (3 * i + 2) w → w ≡ wordsTo q r 20 ++ drop 62 e
+  all-places {i} f (p, u) =
+      u ∙ rw (wordsTo-length q r i, begun-rest q r e (3 * i)) (blank-places (20 - i) i (omega (arith, h .few)) (omega arith))
 
 -- those of one place more
-pub next-words : (r : HourLevels) (e : List ℕ) (i : ℕ) {w : List ℕ} → i < 20 → 62 ≤ length e → Wrote (wordsTo r i) (begun r e) (3 * i + 2) w
-    → Wrote (wordsTo r (i + 1)) (begun r e) (3 * (i + 1) + 2) (set (set (set w (3 * i + 2) (getD (r .from) i 0)) (3 * i + 2 + 1) (getD (r .to) i 0)) (3 * i + 2 + 2) (getD (r .cents) i 0))
+pub next-words : (q : ℕ) (r : Arrays) (e : List ℕ) (i : ℕ) {w : List ℕ} → i < 20 → 62 ≤ length e → Wrote (wordsTo q r i) (begun q r e) (3 * i + 2) w
+    → Wrote (wordsTo q r (i + 1)) (begun q r e) (3 * (i + 1) + 2) (set (set (set w (3 * i + 2) (getD (r .from) i 0)) (3 * i + 2 + 1) (getD (r .to) i 0)) (3 * i + 2 + 2) (getD (r .cents) i 0))
 unfolding wordsTo
-next-words r e i h k p =
+next-words q r e i h k p =
     let l : 3 * (i + 1) + 2 ≡ 3 * i + 2 + 3 = omega arith in
-    let b : 3 * i + 2 + 2 < length (begun r e) = rw (length-set, length-set) (omega arith) in
-    rw (l, add-one i) (three (wordsTo r i) (begun r e) (getD (r .from) i 0) (getD (r .to) i 0) (getD (r .cents) i 0) b p)
+    let b : 3 * i + 2 + 2 < length (begun q r e) = rw (length-set, length-set) (omega arith) in
+    rw (l, add-one i) (three (wordsTo q r i) (begun q r e) (getD (r .from) i 0) (getD (r .to) i 0) (getD (r .cents) i 0) b p)
 
 -- the list is as long as it was
-pub wrote-length : (r : HourLevels) (e : List ℕ) (i : ℕ) {w : List ℕ} → i ≤ 20 → 62 ≤ length e → Wrote (wordsTo r i) (begun r e) (3 * i + 2) w → length w ≡ length e
-wrote-length r e i h k (p, q) =
-    rw (q, length-append, length-drop, length-set, length-set) (omega (arith, wordsTo-length r i))
+pub wrote-length : (q : ℕ) (r : Arrays) (e : List ℕ) (i : ℕ) {w : List ℕ} → i ≤ 20 → 62 ≤ length e → Wrote (wordsTo q r i) (begun q r e) (3 * i + 2) w → length w ≡ length e
+wrote-length q r e i h k (p, u) =
+    rw (u, length-append, length-drop, length-set, length-set) (omega (arith, wordsTo-length q r i))
 
 -- so after the words are cleared and the laminations put
 pub placed : (r : HourLevels) (e : List ℕ) {l w : List ℕ} → l ≡ replicate 62 0 ++ drop 62 e
-    → w ≡ wordsTo (inArrays (r .from) (r .to) (r .cents) (r .profile) (r .count)) 20 ++ drop 62 l → w ≡ wordsTo r 20 ++ drop 62 e
-placed r e p q = q ∙ rw (p, told-by-arrays r 20) refl
+    → w ≡ wordsTo (r .profile) (arraysOf r) 20 ++ drop 62 l → w ≡ wordsTo (r .profile) (arraysOf r) 20 ++ drop 62 e
+placed r e p q = q ∙ rw p refl
 
-pub placed-length : (r : HourLevels) (e : List ℕ) {w : List ℕ} → 62 ≤ length e → w ≡ wordsTo r 20 ++ drop 62 e → length w ≡ length e
-placed-length r e h q = rw (q, length-append, length-drop) (omega (arith, wordsTo-length r 20))
+pub placed-length : (r : HourLevels) (e : List ℕ) {w : List ℕ} → 62 ≤ length e → w ≡ wordsTo (r .profile) (arraysOf r) 20 ++ drop 62 e → length w ≡ length e
+placed-length r e h q = rw (q, length-append, length-drop) (omega (arith, wordsTo-length (r .profile) (arraysOf r) 20))
 
 -- the last four
-pub last-words : (r : HourLevels) (e : List ℕ) {b : ℕ} {w : List ℕ} → 66 ≤ length e → b ≡ heldBits (r .technology) → w ≡ wordsTo r 20 ++ drop 62 e
+pub last-words : (r : HourLevels) (e : List ℕ) {b : ℕ} {w : List ℕ} → 66 ≤ length e → b ≡ heldBits (r .technology) → w ≡ wordsTo (r .profile) (arraysOf r) 20 ++ drop 62 e
     → set (set (set (set w 62 b) 63 (r .start)) 64 (r .noload)) 65 (r .reserve) ≡ wordsOf r ++ drop 66 e
 unfolding wordsOf
 last-words r e {b} {w} h f q =
-    let x : List ℕ = wordsTo r 20 in
-    let p : Wrote x e 62 w = rw (wordsTo-length r 20) (refl, q) in
+    let x : List ℕ = wordsTo (r .profile) (arraysOf r) 20 in
+    let p : Wrote x e 62 w = rw (wordsTo-length (r .profile) (arraysOf r) 20) (refl, q) in
     let s = byte (x ++ (b ∷ []) ++ (r .start ∷ []) ++ (r .noload ∷ [])) e (r .reserve) (omega arith)
     (byte (x ++ (b ∷ []) ++ (r .start ∷ [])) e (r .noload) (omega arith)
     (byte (x ++ (b ∷ [])) e (r .start) (omega arith)

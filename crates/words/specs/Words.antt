@@ -7,34 +7,32 @@ use lib.Dec.{ltb}
 use lib.ListN.{length, getD, drop}
 use Rattle.records.specs.declared.Answer.{Answer}
 use Rattle.records.specs.Answers.{orElse, refuseIf, isAccepted}
-use Rattle.station.specs.Parameters.{technology}
 use Rattle.rules.specs.Fit.{energy, start, noLoad, reserve, holds}
 use Rattle.rules.specs.Answer.{answer}
-use Rattle.reference.specs.declared.HourLevels.{HourLevels}
-use Rattle.formulas.specs.Levels.{parametersIn, profile, levels}
-use Rattle.reference.specs.Packed.{packed}
+use Rattle.arrays.specs.declared.HourLevels.{HourLevels}
+use Rattle.arrays.specs.Packed.{Arrays, arraysOf, packedAt}
 
 -- the levels that a technology holds as bits: 1 energy, 2 start, 4 no-load, 8 reserve
 unfoldable pub heldBits : ℕ → ℕ
 heldBits t = cond (holds t energy) 1 0 + cond (holds t start) 2 0 + cond (holds t noLoad) 4 0 + cond (holds t reserve) 8 0
 
 -- from, to and level of the lamination at place i of the arrays, from 0
-abbrev pub laminationWords : HourLevels → ℕ → List ℕ
+abbrev pub laminationWords : Arrays → ℕ → List ℕ
 laminationWords r i = getD (r .from) i 0 ∷ getD (r .to) i 0 ∷ getD (r .cents) i 0 ∷ []
 
--- past its laminations an hour's levels have nothing
-pub record Blank (r : HourLevels) : Type 0 where
+-- past their laminations the arrays have nothing
+pub record Blank (r : Arrays) : Type 0 where
   pub few : r .count ≤ 20
   pub none : (i : ℕ) → r .count ≤ i → laminationWords r i ≡ 0 ∷ 0 ∷ 0 ∷ []
 
 -- the profile, the number of laminations, and the words of the first n places
-unfoldable pub wordsTo : HourLevels → ℕ → List ℕ
-wordsTo r zero = r .profile ∷ r .count ∷ []
-wordsTo r (suc n) = wordsTo r n ++ laminationWords r n
+unfoldable pub wordsTo : ℕ → Arrays → ℕ → List ℕ
+wordsTo p r zero = p ∷ r .count ∷ []
+wordsTo p r (suc n) = wordsTo p r n ++ laminationWords r n
 
 -- all 66 words: those of the 20 places, the held levels, and the start, no-load and reserve levels in cents
 unfoldable pub wordsOf : HourLevels → List ℕ
-wordsOf r = wordsTo r 20 ++ (heldBits (r .technology) ∷ r .start ∷ r .noload ∷ r .reserve ∷ [])
+wordsOf r = wordsTo (r .profile) (arraysOf r) 20 ++ (heldBits (r .technology) ∷ r .start ∷ r .noload ∷ r .reserve ∷ [])
 
 -- the answer to a dossier at an hour into n words: 15 where they are too few
 unfoldable pub wordsAnswer : List ℕ → ℕ → ℕ → Answer
@@ -44,4 +42,4 @@ wordsAnswer d h n = orElse (answer d) (refuseIf (ltb n 66) 15 0)
 unfoldable pub wordsAfter : List ℕ → ℕ → List ℕ → List ℕ
 wordsAfter d h w =
     cond (isAccepted (wordsAnswer d h (length w)))
-    (wordsOf (packed (technology (parametersIn d)) (profile (parametersIn d) h) (levels d h)) ++ drop 66 w) w
+    (wordsOf (packedAt d h) ++ drop 66 w) w

@@ -5,12 +5,12 @@ ghost use mathlib.Core.List.{_++_};
 ghost use Prim.Native.Nat.{_≤_};
 ghost use lib.ListN.{length, take, drop, replicate};
 ghost use Rattle.lookup.specs.Parts.{Empty};
-ghost use Rattle.reference.specs.Packed.{hourOf, inArrays};
+ghost use Rattle.arrays.specs.Packed.{hourOf, inArrays};
 ghost use Rattle.words.specs.Words.{heldBits, Blank, wordsTo, wordsOf, wordsAnswer, wordsAfter};
+use arrays::SingleLevels;
 use fit::level_held;
 use lists::choose;
 use records::Answer;
-use reference::SingleLevels;
 
 // The levels that a technology holds, a bit each.
 fn held_bits(technology: u8) -> u64
@@ -44,8 +44,8 @@ fn put_laminations<'a>(
     count: usize,
     words: &mut [u64],
 )
-    requires { ⌜ (62 ≤ length (now words)) × (take 62 (now words) ≡ replicate 62 0) × Blank (inArrays (now from) (now to) (now cents) profile count) ⌝ }
-    ensures { λ r. ⌜ now (words .exit) ≡ wordsTo (inArrays (now (from .entry)) (now (to .entry)) (now (cents .entry)) profile count) 20 ++ drop 62 (now (words .entry)) ⌝ }
+    requires { ⌜ (62 ≤ length (now words)) × (take 62 (now words) ≡ replicate 62 0) × Blank (inArrays (now from) (now to) (now cents) count) ⌝ }
+    ensures { λ r. ⌜ now (words .exit) ≡ wordsTo profile (inArrays (now (from .entry)) (now (to .entry)) (now (cents .entry)) count) 20 ++ drop 62 (now (words .entry)) ⌝ }
 {
     words[0] = profile as u64;
     words[1] = count as u64;
@@ -67,7 +67,7 @@ fn put_words<'a>(
     cents: &'a [u64; 20],
     words: &mut [u64],
 )
-    requires { ⌜ (66 ≤ length (now words)) × Blank (hourOf lv (now from) (now to) (now cents)) ⌝ }
+    requires { ⌜ (66 ≤ length (now words)) × Blank (inArrays (now from) (now to) (now cents) (lv .count)) ⌝ }
     ensures { λ r. ⌜ now (words .exit) ≡ wordsOf (hourOf lv (now (from .entry)) (now (to .entry)) (now (cents .entry))) ++ drop 66 (now (words .entry)) ⌝ }
 {
     clear_words(words);

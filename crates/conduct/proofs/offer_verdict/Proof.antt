@@ -6,7 +6,7 @@ use Rattle.records.specs.Dossier.{records}
 use Rattle.station.specs.Parameters.{parameters}
 use Rattle.formulas.specs.Levels.{levels}
 use Rattle.verdicts.specs.Refusals.{offerRefusal}
-use Rattle.reference.proofs.Packed.{handed-shown, handed-count}
+use Rattle.arrays.proofs.Packed.{handed-shown, handed-count}
 use Rattle.verdicts.proofs.Settled.{offer-accepted, offer-refused}
 use Rattle.conduct.proofs.Turns.{last-highest, offer-formed}
 use Rattle.conduct.proofs.Outer.{offer-tested}

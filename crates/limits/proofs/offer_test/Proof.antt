@@ -3,8 +3,7 @@ use mathlib.Core.Path.{_≡_, refl, _∙_}
 use Prim.Native.Nat.{_-_, _/_, _≤_}
 use native.Mathlib.Omega.{arith}
 use lib.ListN.{length}
-use Rattle.reference.specs.declared.HourLevels.{HourLevels}
-use Rattle.reference.specs.Packed.{unpacked, inArrays}
+use Rattle.arrays.specs.Packed.{Arrays, laminationsFrom, inArrays}
 use Rattle.verdicts.specs.Test.{before}
 use Rattle.limits.specs.Thresholds.{offerShown}
 use Rattle.limits.proofs.Turns.{all-left, before-next}
@@ -14,15 +13,15 @@ use Rattle.limits.proofs.offer_test.Tie as tie
 
 abbrev Inv-loop : tie.InvT-loop
 Inv-loop from to cents count t offer least pairs low₀ k₀ low k =
-    let l = unpacked (inArrays from to cents 0 count) in
+    let l = laminationsFrom (inArrays from to cents count) 0 count in
     (k ≤ pairs) × (pairs ≤ 20) × (low ≡ before offer k) × (offerShown t l offer k (pairs - k) ≡ offerShown t l offer 0 pairs)
 
 abbrev μ-loop : tie.MeasureT-loop
 μ-loop from to cents count t offer least pairs low₀ k₀ low k = pairs - k
 
 -- what the arrays tell
-abbrev lv-of : tie.Start Inv-loop μ-loop → HourLevels
-lv-of c = inArrays (c .args .from .now) (c .args .to .now) (c .args .cents .now) 0 (c .args .count)
+abbrev lv-of : tie.Start Inv-loop μ-loop → Arrays
+lv-of c = inArrays (c .args .from .now) (c .args .to .now) (c .args .cents .now) (c .args .count)
 
 loop-holds : tie.Need-loop-holds Inv-loop μ-loop
 unfolding before
@@ -53,7 +52,7 @@ returns-2 c =
     let i = c .before .loop in
     let s = c .before .before .before .before in
     let o = s .args .offer .now in
-    pair-end (s .args .t) (unpacked (lv-of s)) o (length o / 6) (i .k) (c .loop-test .left) ∙ i .inv .3
+    pair-end (s .args .t) (laminationsFrom (lv-of s) 0 (s .args .count)) o (length o / 6) (i .k) (c .loop-test .left) ∙ i .inv .3
 
 pub offer-test-spec : {M : Type 1} → statement M
 offer-test-spec =

@@ -4,7 +4,7 @@ use mathlib.Core.Bool.{false}
 use Prim.Native.Nat.{ℕ, _-_, _/_}
 use native.Mathlib.Omega.{arith}
 use lib.ListN.{length}
-use Rattle.reference.specs.Packed.{unpacked, inArrays}
+use Rattle.arrays.specs.Packed.{laminationsFrom, inArrays}
 use Rattle.verdicts.specs.Test.{priceAt}
 use Rattle.limits.specs.Thresholds.{failsAt, offerShown, leastOf}
 use Rattle.limits.proofs.Turns.{all-left}
@@ -16,14 +16,14 @@ returns : tie.Need-returns
 returns c =
     let a = c .before .before .args in
     let n = length (a .offer .now) / 6 in
-    let l = unpacked (inArrays (a .from .now) (a .to .now) (a .cents .now) 0 (a .count)) in
+    let l = laminationsFrom (inArrays (a .from .now) (a .to .now) (a .cents .now) (a .count)) 0 (a .count) in
     pair-end (a .t) l (a .offer .now) n 0 (omega (arith, c .if1 .taken)) ∙ all-left (offerShown (a .t) l (a .offer .now) 0) n
 
 returns-3 : tie.Need-returns-3
 returns-3 c =
     let b = c .before .before .before .before .before .before in
     let o = b .args .offer .now in
-    let r = inArrays (b .args .from .now) (b .args .to .now) (b .args .cents .now) 0 (b .args .count) in
+    let r = inArrays (b .args .from .now) (b .args .to .now) (b .args .cents .now) (b .args .count) in
     let e : failsAt (b .args .t) (priceAt o (length o / 6 - 1)) (leastOf (r .cents) (r .count)) ≡ false =
     ap₂ (λ (p x : ℕ). failsAt (b .args .t) p x) (sym (c .before .before .price-at .ensures .0)) (sym (c .before .before .before .least-level .ensures)) ∙ sym (c .before .fails .ensures) ∙ c .if2 .left
     in

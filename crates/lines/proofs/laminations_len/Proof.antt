@@ -5,22 +5,21 @@ use Prim.Native.Nat.{ℕ, _≤_, _-_}
 use native.Mathlib.Omega.{arith}
 use borrow.Author.Needs.{needs}
 use lib.ListN.{length}
-use Rattle.reference.specs.declared.HourLevels.{HourLevels}
-use Rattle.reference.specs.Packed.{inArrays}
+use Rattle.arrays.specs.Packed.{Arrays, inArrays}
 use Rattle.lines.specs.Parts.{laminationLines}
 use Rattle.lines.proofs.Levels.{no-line, next-length, laminations-within, line-fits}
 use Rattle.lines.proofs.laminations_len.Statement.{statement}
 use Rattle.lines.proofs.laminations_len.Tie as tie
 
 abbrev Inv-loop : tie.InvT-loop
-Inv-loop from to cents count len₀ i₀ len i = (i ≤ count) × (len ≡ length (laminationLines (inArrays from to cents 0 0) i))
+Inv-loop from to cents count len₀ i₀ len i = (i ≤ count) × (len ≡ length (laminationLines (inArrays from to cents count) i))
 
 abbrev μ-loop : tie.MeasureT-loop
 μ-loop from to cents count len₀ i₀ len i = count - i
 
 -- what the arrays tell
-abbrev lv-of : tie.Start Inv-loop μ-loop → HourLevels
-lv-of c = inArrays (c .args .from .now) (c .args .to .now) (c .args .cents .now) 0 0
+abbrev lv-of : tie.Start Inv-loop μ-loop → Arrays
+lv-of c = inArrays (c .args .from .now) (c .args .to .now) (c .args .cents .now) (c .args .count)
 
 loop-holds : tie.Need-loop-holds Inv-loop μ-loop
 loop-holds c = (omega arith, ap length (sym (no-line (lv-of c))))

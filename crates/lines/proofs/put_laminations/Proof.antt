@@ -6,8 +6,7 @@ use native.Mathlib.Omega.{arith}
 use borrow.Author.Needs.{needs}
 use lib.ListN.{length}
 use Rattle.text.proofs.Over.{Wrote}
-use Rattle.reference.specs.declared.HourLevels.{HourLevels}
-use Rattle.reference.specs.Packed.{inArrays}
+use Rattle.arrays.specs.Packed.{Arrays, inArrays}
 use Rattle.lines.specs.Parts.{laminationLines}
 use Rattle.lines.proofs.Levels.{lineAt, no-line, line-fits, turn}
 use Rattle.lines.proofs.put_laminations.Statement.{statement}
@@ -15,16 +14,16 @@ use Rattle.lines.proofs.put_laminations.Tie as tie
 
 abbrev Inv-loop : tie.InvT-loop
 Inv-loop buf₀ from to cents count at₀ i₀ buf at i =
-    (i ≤ count) × (length buf ≡ length buf₀) × Wrote (laminationLines (inArrays from to cents 0 0) i) buf₀ at buf
+    (i ≤ count) × (length buf ≡ length buf₀) × Wrote (laminationLines (inArrays from to cents count) i) buf₀ at buf
 
 abbrev μ-loop : tie.MeasureT-loop
 μ-loop buf₀ from to cents count at₀ i₀ buf at i = count - i
 
 -- what the arrays tell
-abbrev told : tie.Start Inv-loop μ-loop → HourLevels
-told c = inArrays (c .args .from .now) (c .args .to .now) (c .args .cents .now) 0 0
+abbrev told : tie.Start Inv-loop μ-loop → Arrays
+told c = inArrays (c .args .from .now) (c .args .to .now) (c .args .cents .now) (c .args .count)
 
-abbrev lv-of : tie.In-loop Inv-loop μ-loop → HourLevels
+abbrev lv-of : tie.In-loop Inv-loop μ-loop → Arrays
 lv-of c = told (c .before .before .before)
 
 abbrev i-of : tie.In-loop Inv-loop μ-loop → ℕ

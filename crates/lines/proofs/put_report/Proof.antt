@@ -7,12 +7,12 @@ use native.Mathlib.Omega.{arith}
 use borrow.Author.Needs.{needs}
 use lib.ListN.{length}
 use Rattle.text.proofs.Over.{then}
-use Rattle.reference.specs.declared.HourLevels.{HourLevels}
-use Rattle.reference.specs.Packed.{hourOf}
-use Rattle.lines.specs.Parts.{packedReport, otherLines}
+use Rattle.arrays.specs.declared.HourLevels.{HourLevels}
+use Rattle.arrays.specs.Packed.{arraysOf, hourOf}
+use Rattle.lines.specs.Parts.{packedReport, laminationLines, otherLines}
 use Rattle.layout.specs.Report.{profileLine}
 use Rattle.lines.proofs.Fits.{put-none, put-whole}
-use Rattle.lines.proofs.Levels.{linesInArrays, report-is, report-length, report-within}
+use Rattle.lines.proofs.Levels.{report-is, report-length, report-within}
 use Rattle.lines.proofs.put_report.Statement.{statement}
 use Rattle.lines.proofs.put_report.Tie as tie
 
@@ -24,7 +24,7 @@ abbrev first-line : tie.Start → List ℕ
 first-line c = profileLine (c .args .lv .profile)
 
 abbrev energy-lines : tie.Start → List ℕ
-energy-lines c = linesInArrays (lv-of c)
+energy-lines c = laminationLines (arraysOf (lv-of c)) (c .args .lv .count)
 
 abbrev other-lines : tie.Start → List ℕ
 other-lines c = otherLines (c .args .lv .technology) (c .args .lv .start) (c .args .lv .noload) (c .args .lv .reserve)

@@ -10,7 +10,8 @@ use Rattle.formulas.specs.Levels.{parametersIn}
 use Rattle.rules.proofs.Sound.{accepted-sound}
 use Rattle.requirements.proofs.Curve.{storage-window}
 use Rattle.reference.proofs.Accepted.{technology-low, hours-fit, places-fit}
-use Rattle.reference.proofs.Packed.{levels-packed, nuclear-packed, storage-packed, hydro-packed, one-handed}
+use Rattle.arrays.proofs.Packed.{nuclear-packed, storage-packed, hydro-packed, one-handed}
+use Rattle.reference.proofs.AtHour.{levels-packed}
 use Rattle.reference.proofs.hour_levels.Statement.{statement}
 use Rattle.reference.proofs.hour_levels.Tie as tie
 

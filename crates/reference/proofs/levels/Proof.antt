@@ -1,5 +1,5 @@
 use Rattle.rules.proofs.Draws.{overlong}
-use Rattle.reference.proofs.Packed.{levels-refused}
+use Rattle.reference.proofs.AtHour.{levels-refused}
 use borrow.Author.Needs.{needs}
 use Rattle.reference.proofs.levels.Statement.{statement}
 use Rattle.reference.proofs.levels.Tie as tie

@@ -1,6 +1,6 @@
 use borrow.Author.Needs.{needs}
 use mathlib.Core.Path.{sym, _∙_}
-use Rattle.reference.proofs.Packed.{levels-accepted, levels-refused}
+use Rattle.reference.proofs.AtHour.{levels-accepted, levels-refused}
 use Rattle.reference.proofs.levels_in.Statement.{statement}
 use Rattle.reference.proofs.levels_in.Tie as tie
 

@@ -2,8 +2,8 @@ use borrow.Author.Needs.{needs}
 use mathlib.Core.Path.{ap}
 use Prim.Native.Nat.{ℕ}
 use native.Mathlib.Omega.{arith}
-use Rattle.reference.specs.Packed.{singleLevels}
-use Rattle.reference.proofs.Packed.{twenty, first-set}
+use Rattle.arrays.specs.Packed.{singleLevels}
+use Rattle.arrays.proofs.Packed.{twenty, first-set}
 use Rattle.reference.proofs.one_lamination.Statement.{statement}
 use Rattle.reference.proofs.one_lamination.Tie as tie
 

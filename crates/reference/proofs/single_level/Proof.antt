@@ -1,7 +1,7 @@
 use borrow.Author.Needs.{needs}
 use mathlib.Core.Path.{ap, _∙_}
 use Rattle.formulas.specs.Exact.{cents}
-use Rattle.reference.proofs.Single.{single-amount}
+use Rattle.reference.proofs.AtHour.{single-amount}
 use Rattle.reference.proofs.single_level.Statement.{statement}
 use Rattle.reference.proofs.single_level.Tie as tie
 

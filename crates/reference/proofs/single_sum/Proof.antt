@@ -1,6 +1,6 @@
 use borrow.Author.Needs.{needs}
 use borrow.Author.Tests.{eq-eqb, ne-eqb}
-use Rattle.reference.specs.Packed.{singleSum}
+use Rattle.arrays.specs.Packed.{singleSum}
 use Rattle.reference.proofs.single_sum.Statement.{statement}
 use Rattle.reference.proofs.single_sum.Tie as tie
 

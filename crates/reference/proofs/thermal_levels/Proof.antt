@@ -3,7 +3,7 @@ use mathlib.Core.Path.{refl, ap, sym, _∙_}
 use Prim.Native.Nat.{ℕ, _-_}
 use Rattle.costs.proofs.Always.{points-always}
 use Rattle.formulas.specs.Exact.{cents}
-use Rattle.reference.proofs.Packed.{thermal-packed}
+use Rattle.arrays.proofs.Packed.{thermal-packed}
 use Rattle.reference.proofs.thermal_levels.Statement.{statement}
 use Rattle.reference.proofs.thermal_levels.Tie as tie
 

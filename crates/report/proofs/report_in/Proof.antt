@@ -3,7 +3,7 @@ use mathlib.Core.Path.{_≡_, refl, sym, _∙_}
 use borrow.Author.Needs.{needs}
 use Rattle.records.specs.declared.Answer.{Answer}
 use Rattle.rules.specs.Answer.{answer}
-use Rattle.reference.proofs.Packed.{handed-shown, handed-count, handed-profile}
+use Rattle.arrays.proofs.Packed.{handed-shown, handed-count, handed-profile}
 use Rattle.report.proofs.Buffer.{packed-is, told-levels, told-refusal}
 use Rattle.report.proofs.report_in.Statement.{statement}
 use Rattle.report.proofs.report_in.Tie as tie

@@ -6,8 +6,7 @@ use native.Mathlib.Omega.{arith}
 use borrow.Author.Needs.{needs}
 use lib.ListN.{length, set}
 use Rattle.text.proofs.Over.{Wrote}
-use Rattle.reference.specs.declared.HourLevels.{HourLevels}
-use Rattle.reference.specs.Packed.{inArrays}
+use Rattle.arrays.specs.Packed.{Arrays, inArrays}
 use Rattle.words.specs.Words.{wordsTo}
 use Rattle.words.proofs.Stores.{within, first-words, next-words, wrote-length, all-places}
 use Rattle.words.proofs.put_laminations.Statement.{statement}
@@ -15,20 +14,20 @@ use Rattle.words.proofs.put_laminations.Tie as tie
 
 abbrev Inv-loop : tie.InvT-loop
 Inv-loop from to cents profile count words₀ i₀ words i =
-    (i ≤ count) × Wrote (wordsTo (inArrays from to cents profile count) i) words₀ (3 * i + 2) words
+    (i ≤ count) × Wrote (wordsTo profile (inArrays from to cents count) i) words₀ (3 * i + 2) words
 
 abbrev μ-loop : tie.MeasureT-loop
 μ-loop from to cents profile count words₀ i₀ words i = count - i
 
 -- what the arrays tell
-abbrev lv-of : tie.Start Inv-loop μ-loop → HourLevels
-lv-of c = inArrays (c .args .from .now) (c .args .to .now) (c .args .cents .now) (c .args .profile) (c .args .count)
+abbrev lv-of : tie.Start Inv-loop μ-loop → Arrays
+lv-of c = inArrays (c .args .from .now) (c .args .to .now) (c .args .cents .now) (c .args .count)
 
 slice-write-words-2 : tie.Need-slice-write-words-2 Inv-loop μ-loop
 slice-write-words-2 c = within (c .args .words .now) 0 (c .args .profile) (omega arith)
 
 loop-holds : tie.Need-loop-holds Inv-loop μ-loop
-loop-holds c = (omega arith, first-words (lv-of c) (c .args .words .now) (c .pre .0))
+loop-holds c = (omega arith, first-words (c .args .profile) (lv-of c) (c .args .words .now) (c .pre .0))
 
 abbrev At : Type 0
 At = tie.At-loop Inv-loop μ-loop
@@ -40,7 +39,7 @@ few c = c .before .pre .2 .few
 -- a turn leaves the list as long as it was
 words-long : (c : At) → length (c .loop .words) ≡ length (c .before .args .words .now)
 words-long c =
-    wrote-length (lv-of (c .before)) (c .before .args .words .now) (c .loop .i) (omega (arith, c .loop .inv .0, few c)) (c .before .pre .0) (c .loop .inv .1)
+    wrote-length (c .before .args .profile) (lv-of (c .before)) (c .before .args .words .now) (c .loop .i) (omega (arith, c .loop .inv .0, few c)) (c .before .pre .0) (c .loop .inv .1)
 
 mul-at : tie.Need-mul-at Inv-loop μ-loop
 mul-at c = omega (arith, few (c .before))
@@ -65,7 +64,7 @@ slice-write-words-5 c =
 loop-again : tie.Need-loop-again Inv-loop μ-loop
 loop-again c =
     let l = c .before .before .before .before in
-    (omega arith, next-words (lv-of (l .before)) (l .before .args .words .now) (l .loop .i) (omega (arith, few l)) (l .before .pre .0) (l .loop .inv .1))
+    (omega arith, next-words (l .before .args .profile) (lv-of (l .before)) (l .before .args .words .now) (l .loop .i) (omega (arith, few l)) (l .before .pre .0) (l .loop .inv .1))
 
 same-length : tie.Need-same-length Inv-loop μ-loop
 same-length c = omega (arith, words-long (c .before))
@@ -73,7 +72,7 @@ same-length c = omega (arith, words-long (c .before))
 returns : tie.Need-returns Inv-loop μ-loop
 returns c =
     let a = c .before .before in
-    all-places (lv-of a) (a .pre .2) (a .args .words .now) (a .pre .0) (a .pre .1) (omega (arith, c .before .loop .inv .0, c .loop-test .left)) (c .before .loop .inv .1)
+    all-places (a .args .profile) (lv-of a) (a .pre .2) (a .args .words .now) (a .pre .0) (a .pre .1) (omega (arith, c .before .loop .inv .0, c .loop-test .left)) (c .before .loop .inv .1)
 
 pub put-laminations-spec : {M : Type 1} → statement M
 put-laminations-spec =

@@ -5,8 +5,8 @@ use Prim.Native.Nat.{ℕ, _≤_}
 use native.Mathlib.Omega.{arith}
 use borrow.Author.Needs.{needs}
 use lib.ListN.{length, take, drop, set, length-set}
-use Rattle.reference.specs.declared.HourLevels.{HourLevels}
-use Rattle.reference.specs.Packed.{hourOf}
+use Rattle.arrays.specs.declared.HourLevels.{HourLevels}
+use Rattle.arrays.specs.Packed.{arraysOf, hourOf}
 use Rattle.words.specs.Words.{wordsTo}
 use Rattle.words.proofs.Stores.{within, placed, placed-length, last-words}
 use Rattle.words.proofs.put_words.Statement.{statement}
@@ -24,8 +24,7 @@ start c = entry (c .before .before .before .before)
 
 put-laminations-requires : tie.Need-put-laminations-requires
 put-laminations-requires c κs =
-    let h = entry c .pre .1 in
-    (omega (arith, entry c .pre .0), ap (take 62) (c .before .before .before .clear-words .ensures), record { few = h .few; none = h .none })
+    (omega (arith, entry c .pre .0), ap (take 62) (c .before .before .before .clear-words .ensures), entry c .pre .1)
 
 -- what the function was given
 abbrev lv-of : tie.After-held-bits → HourLevels
@@ -54,7 +53,7 @@ slice-write-words-4 : tie.Need-slice-write-words-4
 slice-write-words-4 c = within (words-2 c) 64 _ (within (words-1 c) 63 _ (within (words-0 c) 62 _ (omega arith)))
 
 -- what stands once the laminations are put
-stands : (c : tie.After-held-bits) → words-0 c ≡ wordsTo (lv-of c) 20 ++ drop 62 (given c)
+stands : (c : tie.After-held-bits) → words-0 c ≡ wordsTo (lv-of c .profile) (arraysOf (lv-of c)) 20 ++ drop 62 (given c)
 stands c =
     let p = c .before .before .before in
     placed (lv-of c) (given c) (p .before .before .before .before .clear-words .ensures) (p .put-laminations .ensures)

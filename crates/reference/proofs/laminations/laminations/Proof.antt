@@ -7,8 +7,8 @@ use lib.ListN.{length, take, set}
 use Rattle.lookup.specs.Parts.{held}
 use Rattle.station.specs.Parameters.{parameters, amounts, output}
 use Rattle.formulas.specs.Levels.{Line, amount, lamination, laminations}
-use Rattle.reference.specs.Packed.{padded}
-use Rattle.reference.proofs.Packed.{row-more, row-ends, row-length, laminations-length, lamination-at}
+use Rattle.arrays.specs.Packed.{padded}
+use Rattle.arrays.proofs.Packed.{row-more, row-ends, row-length, laminations-length, lamination-at}
 use Rattle.reference.proofs.laminations.laminations.Statement.{statement}
 use Rattle.reference.proofs.laminations.laminations.Tie as tie
 

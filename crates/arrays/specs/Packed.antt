@@ -4,24 +4,36 @@ use mathlib.Core.List.{List, [], _∷_, _++_, map}
 use Prim.Native.Nat.{ℕ, zero, suc, _+_}
 use lib.Dec.{eqb}
 use lib.ListN.{length, getD, replicate}
-use Rattle.records.specs.Answers.{isAccepted}
 use Rattle.station.specs.Parameters.{Parameters, Amounts, technology}
 use Rattle.rules.specs.Fit.{energy, start, noLoad, reserve, holds}
-use Rattle.rules.specs.Answer.{answer}
-use Rattle.reference.specs.declared.HourLevels.{HourLevels}
-use Rattle.reference.specs.declared.SingleLevels.{SingleLevels}
-use Rattle.reference.specs.declared.LevelsAnswer.{LevelsAnswer}
+use Rattle.arrays.specs.declared.HourLevels.{HourLevels}
+use Rattle.arrays.specs.declared.SingleLevels.{SingleLevels}
 use Rattle.formulas.specs.Exact.{Sum}
 use Rattle.formulas.specs.Levels.{parametersIn, profile, Line, amount, adders, startCost, noLoadCost, Shown, shownAs, levels}
 
 -- ---- from the arrays to lines
 
+-- laminations in arrays: how many, and from, to and level of each
+pub record Arrays : Type 0 where
+  pub count : ℕ
+  pub from : List ℕ
+  pub to : List ℕ
+  pub cents : List ℕ
+
+-- n laminations in arrays a of from, b of to and x of levels
+abbrev pub inArrays : List ℕ → List ℕ → List ℕ → ℕ → Arrays
+inArrays a b x n = record { count = n; from = a; to = b; cents = x }
+
+-- those of an hour's levels
+abbrev pub arraysOf : HourLevels → Arrays
+arraysOf r = inArrays (r .from) (r .to) (r .cents) (r .count)
+
 -- the lamination at place i of the arrays, from 0
-abbrev pub laminationAt : HourLevels → ℕ → Shown
+abbrev pub laminationAt : Arrays → ℕ → Shown
 laminationAt r i = shownAs energy (suc i) (getD (r .from) i 0) (getD (r .to) i 0) (getD (r .cents) i 0)
 
 -- n laminations from place i on
-unfoldable pub laminationsFrom : HourLevels → ℕ → ℕ → List Shown
+unfoldable pub laminationsFrom : Arrays → ℕ → ℕ → List Shown
 laminationsFrom r i zero = []
 laminationsFrom r i (suc n) = laminationAt r i ∷ laminationsFrom r (suc i) n
 
@@ -32,7 +44,7 @@ singleOf t v x = cond (holds t v) (shownAs v 0 0 0 x ∷ []) []
 -- all lines that an answer shows
 unfoldable pub unpacked : HourLevels → List Shown
 unpacked r =
-    laminationsFrom r 0 (r .count)
+    laminationsFrom (arraysOf r) 0 (r .count)
     ++ singleOf (r .technology) start (r .start)
     ++ singleOf (r .technology) noLoad (r .noload)
     ++ singleOf (r .technology) reserve (r .reserve)
@@ -68,10 +80,6 @@ singleLevels t p n s z r = record { technology = t; profile = p; count = n; star
 abbrev pub hourOf : SingleLevels → List ℕ → List ℕ → List ℕ → HourLevels
 hourOf r a b x = hourLevels (r .technology) (r .profile) (r .count) a b x (r .start) (r .noload) (r .reserve)
 
--- levels of which the laminations alone are told, at profile p, n of them
-abbrev pub inArrays : List ℕ → List ℕ → List ℕ → ℕ → ℕ → HourLevels
-inArrays a b x p n = hourLevels 0 p n a b x 0 0 0
-
 -- the levels l of technology t and profile p, packed
 unfoldable pub packed : ℕ → ℕ → List Line → HourLevels
 packed t p l =
@@ -83,20 +91,14 @@ packed t p l =
     (amountOf noLoad l)
     (amountOf reserve l)
 
+-- the levels of dossier d at hour h, packed
+abbrev pub packedAt : List ℕ → ℕ → HourLevels
+packedAt d h = packed (technology (parametersIn d)) (profile (parametersIn d) h) (levels d h)
+
 -- the sum of a level v without laminations, where it is held
 unfoldable pub singleSum : Parameters → Amounts → ℕ → ℕ → Sum
 singleSum s m p v = cond (eqb v start) (startCost s m p) (cond (eqb v noLoad) (noLoadCost s m p) (adders m p reserve))
 
--- ---- the answer to a dossier, with its levels at an hour
-
--- a refused call shows no level
+-- what a refused call shows
 abbrev pub noLevels : HourLevels
 noLevels = hourLevels 0 0 0 (replicate 20 0) (replicate 20 0) (replicate 20 0) 0 0 0
-
--- both: refused, or accepted with its levels
-unfoldable pub levelsAnswer : List ℕ → ℕ → LevelsAnswer
-levelsAnswer d h =
-    record {
-      answer = answer d;
-      levels = cond (isAccepted (answer d)) (packed (technology (parametersIn d)) (profile (parametersIn d) h) (levels d h)) noLevels;
-    }

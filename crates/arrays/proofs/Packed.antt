@@ -12,20 +12,14 @@ use lib.Seq.{take-all}
 use Rattle.lists.specs.Tests.{countTo, among}
 use Rattle.lists.proofs.Tests.{split}
 use Rattle.records.specs.Table.{HP}
-use Rattle.records.specs.declared.Answer.the-variants.{Accepted, Refused}
-use Rattle.records.specs.Answers.{isAccepted}
-use Rattle.records.specs.Dossier.{records}
-use Rattle.station.specs.Parameters.{Parameters, Amounts, parameters, amounts, technology, capacity}
+use Rattle.station.specs.Parameters.{Parameters, Amounts, technology, capacity}
 use Rattle.rules.specs.Fit.{energy, start, noLoad, reserve, levelsOf, holds}
 use Rattle.rules.specs.Curve.{points}
-use Rattle.rules.specs.Answer.{answer}
-use Rattle.reference.specs.declared.HourLevels.{HourLevels}
-use Rattle.reference.specs.declared.SingleLevels.{SingleLevels}
-use Rattle.lookup.specs.Parts.{Indexed, parametersHeld, amountsHeld}
-use Rattle.lookup.proofs.Held.{parameters-held, amounts-held}
+use Rattle.arrays.specs.declared.HourLevels.{HourLevels}
+use Rattle.arrays.specs.declared.SingleLevels.{SingleLevels}
 use Rattle.formulas.specs.Exact.{Sum, quotient, microDollars, cents}
 use Rattle.formulas.specs.Levels.{parametersIn, amountsIn, Line, amount, adders, startCost, noLoadCost, nuclearEnergy, storageEnergy, hydroEnergy, lamination, laminations, oneLamination, single, profile, linesOf, lines, levels, Shown, shownAs, shown}
-use Rattle.reference.specs.Packed.{laminationsFrom, singleOf, unpacked, energyLines, amountOf, padded, hourLevels, singleLevels, hourOf, packed, noLevels, levelsAnswer}
+use Rattle.arrays.specs.Packed.{Arrays, arraysOf, laminationsFrom, singleOf, unpacked, energyLines, amountOf, padded, hourLevels, singleLevels, hourOf, packed, packedAt}
 
 -- ---- an array filled from the front
 
@@ -143,14 +137,6 @@ pub one-handed :
     → hourLevels t p 1 (replicate 20 0) b' x' 0 0 z ≡ h → hourOf r a b x ≡ h
 one-handed r a b x e = rw (r, a, b, x) e
 
--- at an hour: the index at hand is the dossier's
-pub levels-packed : {d ix : List ℕ} → Indexed d ix → (h : ℕ) {q : ℕ} {r : HourLevels} → q ≡ profile (parametersIn d) h
-    → r ≡ packed (technology (parametersHeld d ix)) q (linesOf (parametersHeld d ix) (amountsHeld d ix) q)
-    → r ≡ packed (technology (parametersIn d)) (profile (parametersIn d) h) (levels d h)
-unfolding levels lines
-levels-packed i h {q} e r =
-    rw (← e) (r ∙ ap₂ (λ (s : Parameters) (m : Amounts). packed (technology s) q (linesOf s m q)) (parameters-held i) (amounts-held i))
-
 -- ---- and unpacked again
 
 padded-at : (k i : ℕ) (l : List ℕ) → i < k → getD (padded k l) i 0 ≡ getD l i 0
@@ -169,7 +155,7 @@ module _ (s : Parameters) (m : Amounts) (p n : ℕ) (fits : n ≤ 20) where
       ∙ padded-at 20 i (map g (laminations s m p 1 n [])) (omega arith)
       ∙ sym (lamination-at s m p g 1 n i (suc i) h (omega arith))
 
-  rows : (r : HourLevels) → r .from ≡ padded 20 (map (λ x. x .from) (laminations s m p 1 n [])) → r .to ≡ padded 20 (map (λ x. x .to) (laminations s m p 1 n [])) → r .cents ≡ padded 20 (map (λ x. amount x) (laminations s m p 1 n []))
+  rows : (r : Arrays) → r .from ≡ padded 20 (map (λ x. x .from) (laminations s m p 1 n [])) → r .to ≡ padded 20 (map (λ x. x .to) (laminations s m p 1 n [])) → r .cents ≡ padded 20 (map (λ x. amount x) (laminations s m p 1 n []))
       → (i k : ℕ) → i + k ≤ n → laminationsFrom r i k ≡ map shown (laminations s m p (suc i) k [])
   unfolding laminationsFrom laminations
   rows r a b c i zero h = refl
@@ -209,7 +195,7 @@ module _ (s : Parameters) (m : Amounts) (p : ℕ) where
       let x : Sum = startCost s m p in
       let y : Sum = noLoadCost s m p in
       let z : Sum = adders m p reserve in
-      rw (thermal-lines e, packed-laminations s m (technology s) p n x y z, e, rows s m p n (points-high s) (filled s m (technology s) p n x y z) refl refl refl 0 n (omega arith), shown-others s m p 1 n (others x y z))
+      rw (thermal-lines e, packed-laminations s m (technology s) p n x y z, e, rows s m p n (points-high s) (arraysOf (filled s m (technology s) p n x y z)) refl refl refl 0 n (omega arith), shown-others s m p 1 n (others x y z))
       (simp append-assoc)
 
   nuclear-unpacked : eqb (technology s) 1 ≡ false → eqb (technology s) 2 ≡ true → unpacked (packed (technology s) p (linesOf s m p)) ≡ map shown (linesOf s m p)
@@ -251,7 +237,7 @@ module _ (s : Parameters) (m : Amounts) (p : ℕ) where
 
 -- ---- what `hour_levels` hands over
 
-module _ (d : List ℕ) (h : ℕ) (r : HourLevels) (e : r ≡ packed (technology (parametersIn d)) (profile (parametersIn d) h) (levels d h)) where
+module _ (d : List ℕ) (h : ℕ) (r : HourLevels) (e : r ≡ packedAt d h) where
   pub handed-shown : unpacked r ≡ map shown (levels d h)
   unfolding levels lines
   handed-shown = ap unpacked e ∙ unpacked-levels (parametersIn d) (amountsIn d) (profile (parametersIn d) h)
@@ -267,13 +253,3 @@ module _ (d : List ℕ) (h : ℕ) (r : HourLevels) (e : r ≡ packed (technology
   pub handed-profile : r .profile ≡ profile (parametersIn d) h
   unfolding packed
   handed-profile = ap (λ (x : HourLevels). x .profile) e
-
--- ---- the answer with the levels
-
-pub levels-accepted : (d : List ℕ) (h : ℕ) {l : HourLevels} → answer d ≡ Accepted → l ≡ packed (technology (parametersIn d)) (profile (parametersIn d) h) (levels d h) → record { answer = Accepted; levels = l } ≡ levelsAnswer d h
-unfolding levelsAnswer isAccepted
-levels-accepted d h e f = rw (e, f) refl
-
-pub levels-refused : (d : List ℕ) (h n p : ℕ) {l : HourLevels} → answer d ≡ Refused n p → l ≡ noLevels → record { answer = Refused n p; levels = l } ≡ levelsAnswer d h
-unfolding levelsAnswer isAccepted
-levels-refused d h n p e f = rw (e, f) refl

@@ -1,21 +1,18 @@
 -- A level without laminations, where it is held: it stands among the lines of a thermal station, or it is reserve behind one lamination.
-use mathlib.Core.Path.{_≡_, refl, ap₂, sym, _∙_}
+use mathlib.Core.Path.{_≡_, refl, sym}
 use mathlib.Core.Bool.{Bool, true, false, cond, _||_, false≢true}
 use mathlib.Core.List.{List, [], _∷_}
 use Prim.Native.Nat.{ℕ, zero, suc, _-_, _≤_}
 use native.Mathlib.Omega.{arith}
 use lib.Dec.{eqb}
 use Rattle.lists.specs.Tests.{among}
-use Rattle.records.specs.Dossier.{records}
-use Rattle.station.specs.Parameters.{Parameters, Amounts, parameters, technology}
+use Rattle.station.specs.Parameters.{Parameters, Amounts, technology}
 use Rattle.rules.specs.Fit.{energy, start, noLoad, reserve, levelsOf, holds}
 use Rattle.rules.specs.Curve.{points}
-use Rattle.lookup.specs.Parts.{Indexed, parametersHeld, amountsHeld}
-use Rattle.lookup.proofs.Held.{parameters-held, amounts-held}
 use Rattle.formulas.specs.Exact.{Sum, microDollars, cents}
-use Rattle.formulas.specs.Levels.{parametersIn, amountsIn, Line, adders, startCost, noLoadCost, nuclearEnergy, storageEnergy, hydroEnergy, laminations, oneLamination, single, profile, linesOf, lines, levels}
-use Rattle.reference.specs.Packed.{amountOf, singleSum}
-use Rattle.reference.proofs.Packed.{others, amount-laminations}
+use Rattle.formulas.specs.Levels.{Line, adders, startCost, noLoadCost, nuclearEnergy, storageEnergy, hydroEnergy, laminations, oneLamination, single, linesOf}
+use Rattle.arrays.specs.Packed.{amountOf, singleSum}
+use Rattle.arrays.proofs.Packed.{others, amount-laminations}
 
 -- a kind of level other than energy
 pub by-kind : (P : ℕ → Type 0) → P start → P noLoad → P reserve → (v : ℕ) → 2 ≤ v → v ≤ 4 → P v
@@ -67,15 +64,9 @@ module _ (s : Parameters) (m : Amounts) (p : ℕ) where
     held-lines v l u h = by-tests v l u (eqb (technology s) 1) (eqb (technology s) 2) (eqb (technology s) 3) (eqb (technology s) 4) h
 
   -- its amount is its sum in cents
-  sum-amount : (v : ℕ) → 2 ≤ v → v ≤ 4 → holds (technology s) v ≡ true → cents (microDollars (singleSum s m p v)) ≡ amountOf v (linesOf s m p)
+  pub sum-amount : (v : ℕ) → 2 ≤ v → v ≤ 4 → holds (technology s) v ≡ true → cents (microDollars (singleSum s m p v)) ≡ amountOf v (linesOf s m p)
   unfolding singleSum amountOf oneLamination single
   sum-amount =
       held-lines (λ v l. cents (microDollars (singleSum s m p v)) ≡ amountOf v l)
       (λ v n. by-kind (λ (u : ℕ). cents (microDollars (singleSum s m p u)) ≡ amountOf u (thermalLines n)) (sym (amount-laminations s m p 1 n 2 _ refl)) (sym (amount-laminations s m p 1 n 3 _ refl)) (sym (amount-laminations s m p 1 n 4 _ refl)) v)
       (λ e. refl)
-
--- at an hour
-pub single-amount : {d ix : List ℕ} → Indexed d ix → (h v : ℕ) {q : ℕ} → q ≡ profile (parameters (records d)) h → 2 ≤ v → v ≤ 4 → holds (technology (parametersIn d)) v ≡ true
-    → cents (microDollars (singleSum (parametersHeld d ix) (amountsHeld d ix) q v)) ≡ amountOf v (levels d h)
-unfolding levels lines
-single-amount {d} i h v {q} e l u g = ap₂ (λ (s : Parameters) (m : Amounts). cents (microDollars (singleSum s m q v))) (parameters-held i) (amounts-held i) ∙ rw e (sum-amount (parametersIn d) (amountsIn d) (profile (parametersIn d) h) v l u g)
