@@ -1,4 +1,4 @@
--- Numbers in bytes: "Fields are big-endian and unsigned; prices marked s are 4-byte two's complement."
+-- Numbers in bytes.
 use mathlib.Core.Bool.{cond}
 use mathlib.Core.List.{List, [], _∷_}
 use Prim.Native.Nat.{ℕ, zero, suc, _+_, _*_, _-_, _/_, _%_}
@@ -6,7 +6,7 @@ use lib.Dec.{ltb}
 use lib.IntN.{ℤ, pos, negsuc}
 use lib.ListN.{getD}
 
--- the number in the w bytes from byte o on, the first the highest; a byte past the end counts as 0
+-- "Fields are big-endian and unsigned": the number in the w bytes from byte o on, the first the highest; a byte past the end counts as 0
 unfoldable pub number : ℕ → ℕ → List ℕ → ℕ
 number o zero r = 0
 number o (suc w) r = number o w r * 256 + getD r (o + w) 0
@@ -20,7 +20,7 @@ bytesOnto (suc w) n l = bytesOnto w (n / 256) ((n % 256) ∷ l)
 unfoldable pub bytesOf : ℕ → ℕ → List ℕ
 bytesOf w n = bytesOnto w n []
 
--- two's complement: the signed number that four bytes mean, given the number that they are without a sign
+-- "prices marked s are 4-byte two's complement": the signed number that four bytes mean, given the number that they are without a sign
 unfoldable pub signed : ℕ → ℤ
 signed n = cond (ltb n 2147483648) (pos n) (negsuc (4294967295 - n))
 

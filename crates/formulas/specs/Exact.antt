@@ -1,5 +1,5 @@
 -- A formula is written once, as a `Sum`, and read twice: with each division to the nearest micro-dollar (the level), and exactly
--- (the exact level). So "the exact level takes the same formulas" is true because there is one set of formulas.
+-- (the exact level). Both take the same formulas, because there is one set of formulas.
 use mathlib.Core.Bool.{cond}
 use Prim.Native.Nat.{ℕ, zero, suc, _+_, _*_, _/_, _≤_, _<_, max}
 use lib.Dec.{leb, eqb}
@@ -9,7 +9,7 @@ infixl 60 _⊕_
 -- a sum of micro-dollars, as the paper's formulas build it
 pub data Sum : Type 0 where
   whole : ℕ → Sum  -- an amount as it stands
-  share : ℕ → ℕ → Sum  -- one whole number ratio another; 0 where the divisor is 0, as of a record that is not there
+  share : ℕ → ℕ → Sum  -- one whole number over another; 0 where the divisor is 0, as of a record that is not there
   _⊕_ : Sum → Sum → Sum  -- plus
   total : ℕ → (ℕ → Sum) → Sum  -- of items 1 to n
   perThousand : Sum → ℕ → Sum  -- "× 1,000 / efficiency"
@@ -17,7 +17,7 @@ pub data Sum : Type 0 where
 
 -- ---- the level: "Each division now goes to nearest, half up", in micro-dollars
 
--- n ratio d to the nearest: n / d and a half more, whose fraction is dropped; 0 where d is 0
+-- n over d to the nearest: n / d and a half more, whose fraction is dropped; 0 where d is 0
 unfoldable pub quotient : ℕ → ℕ → ℕ
 quotient n d = (2 * n + d) / (2 * d)
 
@@ -34,18 +34,18 @@ microDollars (greater a b) = max (microDollars a) (microDollars b)
 unfoldable pub cents : ℕ → ℕ
 cents s = quotient s 10000
 
--- ---- the exact level: "It is one whole number ratio another, and distances to it are compared by multiplying across."
+-- ---- the exact level: "It is one whole number over another, and distances to it are compared by multiplying across."
 
--- one whole number ratio another
+-- one whole number over another
 pub record Fraction : Type 0 where
   pub num : ℕ
   pub den : ℕ
 
--- n ratio d
+-- n over d
 abbrev pub ratio : ℕ → ℕ → Fraction
 ratio n d = record { num = n; den = d }
 
--- two fractions added, ratio the product of their divisors
+-- two fractions added, over the product of their divisors
 unfoldable pub plus : Fraction → Fraction → Fraction
 plus a b = ratio (a .num * b .den + b .num * a .den) (a .den * b .den)
 
@@ -58,7 +58,7 @@ sumOver (suc n) f = plus (sumOver n f) (f (suc n))
 unfoldable pub greaterOf : Fraction → Fraction → Fraction
 greaterOf a b = cond (leb (a .num * b .den) (b .num * a .den)) b a
 
--- a sum "with no division dropped and no cent rounded"
+-- "The exact level takes the same formulas with no division dropped and no cent rounded"
 unfoldable pub exact : Sum → Fraction
 exact (whole n) = ratio n 1
 exact (share n d) = cond (eqb d 0) (ratio 0 1) (ratio n d)

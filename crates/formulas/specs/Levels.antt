@@ -33,7 +33,7 @@ unfoldable pub profileOf : Parameters → ℕ → ℕ → ℕ
 profileOf s h zero = 1
 profileOf s h (suc n) = let r = profileOf s h n in cond (covers s h (suc n)) (requested s (suc n)) r
 
--- of all 16
+-- "profile choice": of all 16
 unfoldable pub profile : Parameters → ℕ → ℕ
 profile s h = profileOf s h 16
 
@@ -99,11 +99,12 @@ highestSum s m = sumHighest (fullHours s) (listTo (window s) (hourPrice m)) - 21
 unfoldable pub opportunityCost : Parameters → Amounts → Sum
 opportunityCost s m = share (highestSum s m * 10000) (fullHours s)
 
--- "The greater is taken."
+-- "Storage, one lamination"; "The greater is taken."
 unfoldable pub storageEnergy : Parameters → Amounts → ℕ → Sum
 storageEnergy s m p = greater (shortRunCost s m p) (opportunityCost s m)
 
--- "The place from the top" is "the window divided by 50, fraction dropped, in the exact level too"
+-- "the place from the top" is "the window divided by 50, fraction dropped, in the exact level too", "as the 58th highest of 2,928"; "request 1's place still
+-- drop theirs"
 unfoldable pub forecastPlace : Parameters → ℕ
 forecastPlace s = window s / 50
 
@@ -111,7 +112,7 @@ forecastPlace s = window s / 50
 unfoldable pub forecastPrice : Parameters → Amounts → ℕ
 forecastPrice s m = fromTop (forecastPlace s) (listTo (window s) (placePrice m)) - 2147483648
 
--- that price, cents in micro-dollars, "plus AD and MM"
+-- "Energy is the greater of 0 and that price, plus AD and MM, in one lamination": cents in micro-dollars
 unfoldable pub hydroEnergy : Parameters → Amounts → ℕ → Sum
 hydroEnergy s m p = whole (forecastPrice s m * 10000) ⊕ adders m p energy ⊕ maintenance s m p
 
@@ -150,7 +151,7 @@ oneLamination s x = line energy 1 0 (capacity s) x
 unfoldable pub single : ℕ → Sum → Line
 single v x = line v 0 0 0 x
 
--- the levels of a profile, by technology
+-- "energy, start-up, speed no-load and reserve levels" of a profile, by technology
 unfoldable pub linesOf : Parameters → Amounts → ℕ → List Line
 linesOf s m p =
     cond (eqb (technology s) thermal)
@@ -199,6 +200,6 @@ pub record NoLower (a b : Line) : Type 0 where
   pub to : a .to ≡ b .to
   pub amount : amount a ≤ amount b
 
--- a level beside its exact level
+-- a level beside its exact level, "for every technology"; "the promised distances hold here too"
 abbrev pub CloseLine : Line → Type 0
 CloseLine x = Close (amount x) (exact (x .sum))

@@ -13,7 +13,7 @@ pub record Week : Type 0 where
   pub parameters : Parameters
   pub amounts : Amounts
 
--- Equation 3: the sum of prices times power "is divided by the total power scheduled over the seven-day period"; 0 if below 0, as document 01 has it
+-- Equation 3: prices times power, added up, over the power scheduled in "the rolling seven-day period"; 0 if below 0, as document 01 has it
 unfoldable pub calculated : Week → ℕ
 calculated w = quotient (chargingSum (w .parameters) (w .amounts) * 10000) (totalEnergy (w .parameters))
 
@@ -22,7 +22,8 @@ unfoldable pub lastNonZero : List Week → ℕ
 lastNonZero [] = 0
 lastNonZero (w ∷ l) = cond (eqb (calculated w) 0) (lastNonZero l) (calculated w)
 
--- "If no charging has been conducted during the previous seven-day period, the IESO uses the last non-zero value": of a week, and those before it
+-- "If no charging has been conducted during the previous seven-day period, the IESO uses the last non-zero value": of a week, and those before it. "Document
+-- 002 carries the last non-zero charging cost over a week without charging"
 unfoldable pub memoCost : Week → List Week → ℕ
 memoCost w before = cond (eqb (totalEnergy (w .parameters)) 0) (lastNonZero before) (calculated w)
 
@@ -37,7 +38,7 @@ unfoldable pub toSend : List Week → ℕ
 toSend [] = 0
 toSend (w ∷ l) = cond (eqb (costOf w) 0) (lastCost (w .amounts)) (costOf w)
 
--- each of some weeks has the LC that those before it leave to send
+-- each of some weeks has the LC that those before it leave to send, as "A battery idle for a week compares with the memo from then on" wants
 pub data Sent : List Week → Type 0 where
   first : Sent []
   next : {w : Week} {l : List Week} → lastCost (w .amounts) ≡ toSend l → Sent l → Sent (w ∷ l)

@@ -1,4 +1,4 @@
--- Sums over keys, and the highest of a list, "repeated prices counted each".
+-- Sums over keys, and the highest of a list or its place from the top.
 use mathlib.Core.Bool.{cond}
 use mathlib.Core.List.{List, [], _∷_}
 use Prim.Native.Nat.{ℕ, zero, suc, _+_, max, min}
@@ -25,7 +25,8 @@ unfoldable pub insert : ℕ → List ℕ → List ℕ
 insert x [] = x ∷ []
 insert x (y ∷ l) = max x y ∷ insert (min x y) l
 
--- a list from its highest to its lowest; the laws `falling-falls` and `falling-count` say that it is
+-- a list from its highest to its lowest; the laws `falling-falls` and `falling-count` say that it is; "hours 1 to the window, repeated prices counted each",
+-- "places 1 to the window with repeated prices counted each"
 unfoldable pub falling : List ℕ → List ℕ
 falling [] = []
 falling (x ∷ l) = insert x (falling l)

@@ -39,7 +39,7 @@ levelLine x =
     (cond (eqb (x .level) noLoad) (amountLine noLoadWord (x .cents))
     (amountLine reserveWord (x .cents))))
 
--- "Levels a technology lacks have no line."
+-- "line by line"; "Levels a technology lacks have no line."
 unfoldable pub levelLines : List Shown → List ℕ
 levelLines [] = []
 levelLines (x ∷ l) = levelLine x ++ levelLines l
@@ -48,7 +48,7 @@ levelLines (x ∷ l) = levelLine x ++ levelLines l
 unfoldable pub reportText : ℕ → List Shown → List ℕ
 reportText p l = profileLine p ++ levelLines l
 
--- the report of a dossier at an hour
+-- the report of a dossier at an hour, "a text report"
 unfoldable pub report : List ℕ → ℕ → List ℕ
 report d h = reportText (profile (parameters (records d)) h) (map shown (levels d h))
 
@@ -67,11 +67,11 @@ unfoldable pub written : Answer → ℕ → Written
 written Accepted n = Bytes n
 written (Turned k p) n = Refused k p
 
--- the answer to a report into a buffer of n bytes: 15 is last in the order
+-- the answer to a report into a buffer of n bytes: "10, 11, 15"
 unfoldable pub reportAnswer : List ℕ → ℕ → ℕ → Answer
 reportAnswer d h n = orElse (answer d) (shortFor (report d h) n)
 
--- the buffer after it
+-- the buffer after it: "so does the report buffer to its last byte"
 unfoldable pub bufferAfter : List ℕ → ℕ → List ℕ → List ℕ
 bufferAfter d h buf = bufferWith (reportAnswer d h (length buf)) (report d h) buf
 

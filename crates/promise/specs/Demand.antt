@@ -12,22 +12,23 @@ use Rattle.formulas.specs.Levels.{levels, NoLower, CloseLine}
 use Rattle.verdicts.specs.declared.Verdict.{Verdict}
 use Rattle.verdicts.specs.Verdict.{numbers, onOffer, onPrice}
 
--- e is a raise of d: the limits are those of d's technology
+-- "One dossier is a raise of another": the limits are those of d's technology
 abbrev pub Raise : List ℕ → List ℕ → Type 0
 Raise d e = RaiseFor (technology (parameters (records d))) d e
 
--- a verdict passes, in the paper's numbers
+-- a verdict passes, in the paper's numbers: "The promises use that definition."
 abbrev pub Passed : Verdict → Type 0
 Passed v = numbers v ≡ 0 ∷ []
 
--- what a raise keeps: e is accepted; at every hour its levels stand beside those of d and none is lower; what passed passes
+-- what a raise keeps: e is accepted; "Demand 3 sets the levels of the two side by side at each hour", and none is lower; what passed passes
 pub record RaiseKeeps (d e : List ℕ) : Type 0 where
   pub accepted : IsAccepted e
   pub higher : (h : ℕ) → Pairwise NoLower (levels d h) (levels e h)
   pub offers : (h c : ℕ) (o : List ℕ) → Passed (onOffer d h c o) → Passed (onOffer e h c o)
   pub prices : (h v c : ℕ) (price : ℤ) → Passed (onPrice d h v c price) → Passed (onPrice e h v c price)
 
--- every raise of an accepted dossier keeps that, and every level of an accepted dossier is close to its exact level
+-- "It is one claim about dossiers as bytes, not one for each technology or formula": every raise of an accepted dossier keeps that, and every level of an
+-- accepted dossier is close to its exact level
 pub record Demand3 : Type 0 where
   pub raise : (d e : List ℕ) → IsAccepted d → Raise d e → RaiseKeeps d e
   pub distance : (d : List ℕ) → IsAccepted d → (h : ℕ) → Each CloseLine (levels d h)

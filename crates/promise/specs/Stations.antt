@@ -24,9 +24,9 @@ made k i vs = rowOf k .first ∷ rowOf k .second ∷ bytesOf 4 i ++ valuesIn (ro
 unfoldable pub pair : ℕ → ℕ → List ℕ
 pair quantity price = bytesOf 2 quantity ++ bytesOf 4 price
 
--- ---- case R1: thermal, all issues 1; all but its fuel price and its first adder
+-- ---- "Case R1 (thermal, hour 0, profile 1, all issues 1)"
 
--- its records
+-- its records; its fuel price and first adder are given
 abbrev pub r1With : ℕ → ℕ → List (List ℕ)
 r1With fuel adder =
     made RS 1 (1 ∷ 1000 ∷ 1000 ∷ 500000 ∷ 100000 ∷ 0 ∷ 0 ∷ 0 ∷ 0 ∷ [])  -- capacity 100.0, factor 1,000, start heat, no-load heat
@@ -50,7 +50,7 @@ r1Raised = r1With 4100000 1510000
 abbrev pub r1Tested : List (List ℕ)
 r1Tested = r1 ++ (made TH 1 (1 ∷ 1 ∷ 50 ∷ 2500 ∷ 0 ∷ []) ∷ [])
 
--- "R1's five lines"
+-- "profile 1 energy 1 0.0 100.0 42.30 start 3300.00 no-load 500.00 reserve 0.25", a line each
 abbrev pub r1Lines : List ℕ
 r1Lines =
     112 ∷ 114 ∷ 111 ∷ 102 ∷ 105 ∷ 108 ∷ 101 ∷ 32 ∷ 49 ∷ 10  -- profile 1

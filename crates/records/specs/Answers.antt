@@ -1,4 +1,4 @@
--- Answers: "An answer is number and place, nothing else."
+-- Answers: accepted, or refused with number and place.
 use mathlib.Core.Bool.{Bool, true, false, cond}
 use mathlib.Core.List.{List, [], _∷_}
 use Prim.Native.Nat.{ℕ}
@@ -24,12 +24,12 @@ unfoldable pub isAccepted : Answer → Bool
 isAccepted Accepted = true
 isAccepted (Refused n p) = false
 
--- an answer in numbers, as other languages get it: 0 accepted; 2 refused, with the paper's number and place
+-- "An answer is number and place, nothing else": in numbers, as other languages get it, 0 accepted; 2 refused, with the paper's number and place
 unfoldable pub answerNumbers : Answer → List ℕ
 answerNumbers Accepted = 0 ∷ []
 answerNumbers (Refused n p) = 2 ∷ n ∷ p ∷ []
 
--- the paper's number of an answer, 0 where it refuses nothing
+-- "this paper's number" of an answer, 0 where it refuses nothing
 unfoldable pub numberOf : Answer → ℕ
 numberOf Accepted = 0
 numberOf (Refused n p) = n

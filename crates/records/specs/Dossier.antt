@@ -1,4 +1,4 @@
--- The dossier: "records, back to back"; which of its bytes are money; 1, 2 and 3 in turn.
+-- The dossier: its records; which of its bytes are money; 1, 2 and 3 in turn.
 use mathlib.Core.Bool.{Bool, false, cond}
 use mathlib.Core.List.{List, [], _∷_}
 use Prim.Native.Nat.{ℕ, zero, suc, _+_, _-_}
@@ -23,7 +23,7 @@ recordsIn zero d = []
 recordsIn (suc f) [] = []
 recordsIn (suc f) (b ∷ d) = firstOf (b ∷ d) ∷ recordsIn f (restOf (b ∷ d))
 
--- the records of a dossier
+-- "records, back to back": the records of a dossier
 unfoldable pub records : List ℕ → List (List ℕ)
 records d = recordsIn (length d) d
 
@@ -43,6 +43,6 @@ unfoldable pub firstDrawn : (ℕ → List ℕ → Answer) → ℕ → List (List
 firstDrawn test p [] = Accepted
 firstDrawn test p (r ∷ l) = orElse (test p r) (firstDrawn test (p + length r) l)
 
--- "records in turn with 1, 2, 3", the first at place p; "Place: record start"
+-- "records in turn with 1, 2, 3", the first at place p; "Place: record start for 1 to 4"
 unfoldable pub scan : ℕ → List (List ℕ) → Answer
 scan p l = firstDrawn (λ q r. drawn (fault r) q) p l

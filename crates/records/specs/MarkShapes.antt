@@ -1,4 +1,4 @@
--- The code's table of marks and what it reads there: "const table by kind: length, key width, lowest and highest key fields".
+-- The code's table of marks and what it reads there.
 -- All of it follows from the table of marks.
 use mathlib.Core.Bool.{Bool, cond, _&&_}
 use mathlib.Core.List.{List, [], _∷_, map}
@@ -14,7 +14,7 @@ use Rattle.records.specs.Record.{head, widths, isKey, keyIn}
 abbrev pub keyBound : (Field → ℕ) → Row → ℕ → ℕ
 keyBound g x i = cond (isKey (getD (x .fields) i noField .role)) (g (getD (x .fields) i noField)) 0
 
--- the whole length, the key's width, the lowest and the highest of the key fields
+-- "const table by kind: length, key width, lowest and highest key fields": the whole length, the key's width, the bounds of the key fields
 unfoldable pub shape : Row → MarkShape
 shape x =
     record {

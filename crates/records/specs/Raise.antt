@@ -1,5 +1,4 @@
--- A raise: "alike in every byte outside the money amounts, and each money amount, read with its sign, whether its record
--- is current or not, stays or rises within its limit".
+-- A raise: which dossiers are as another with its money amounts risen.
 use mathlib.Core.Path.{_≡_}
 use mathlib.Core.Bool.{true, false, cond}
 use mathlib.Core.List.{List}
@@ -20,11 +19,11 @@ pub data Rise (limit a b : ℕ) : Type 0 where
 unfoldable pub limitOf : ℕ → Field → ℕ
 limitOf t f = cond (among t (f .usedBy)) (f .highest) 0
 
--- each money amount of a record stays or rises within its limit, at technology t
+-- "each money amount, read with its sign, whether its record is current or not, stays or rises within its limit", at technology t
 abbrev pub Rising : ℕ → List ℕ → List ℕ → Type 0
 Rising t r s = (i : ℕ) → isMoney (fieldOf (mark r) i .role) ≡ true → Rise (limitOf t (fieldOf (mark r) i)) (value (mark r) i r) (value (mark r) i s)
 
--- one dossier is a raise of another, at technology t
+-- one dossier is a raise of another, "if both are equally long and alike in every byte outside the money amounts", at technology t
 pub record RaiseFor (t : ℕ) (d e : List ℕ) : Type 0 where
   pub long : length d ≡ length e
   pub alike : (i : ℕ) → moneyAt d i ≡ false → getD d i 0 ≡ getD e i 0

@@ -30,7 +30,7 @@ head = 6
 
 -- ---- where the fields lie
 
--- the bytes of some fields
+-- "Bytes per field in brackets": the bytes of some fields
 unfoldable pub widths : List Field → ℕ
 widths [] = 0
 widths (f ∷ l) = f .width + widths l

@@ -5,7 +5,8 @@ use mathlib.Core.List.{List, [], _∷_}
 use Prim.Native.Nat.{ℕ}
 use lib.ListN.{getD}
 
--- the part that a field plays: it belongs to the key, it is a money moneyTo, or neither
+-- the part that a field plays: it belongs to the key, it is a money amount, or neither. "The money amounts are FU's fuel and emission, AD's amount, MM's C,
+-- and HR's and CH's price"
 pub data Role : Type 0 where
   key plain money : Role
 
@@ -14,8 +15,8 @@ pub record Field : Type 0 where
   pub width : ℕ  -- in bytes
   pub lowest : ℕ  -- of its range; a price's plus 2^31
   pub highest : ℕ
-  pub orZero : Bool  -- its range is "0 or" lowest to highest
-  pub isSigned : Bool  -- "prices marked s are 4-byte two's complement"
+  pub orZero : Bool  -- its range is 0, or lowest to highest
+  pub isSigned : Bool  -- two's complement, as a price is
   pub role : Role
   pub usedBy : List ℕ  -- the technologies that use it; of any other it is 0
   pub positive : Bool  -- where it is used, it is above 0
@@ -39,11 +40,11 @@ nuclear = 2
 abbrev pub storage : ℕ
 storage = 3
 
--- document 02, request 1: 4 hydroelectric
+-- "Technology 4 uses the window"
 abbrev pub hydro : ℕ
 hydro = 4
 
--- all four
+-- "thermal, nuclear and storage resources", and hydroelectric
 abbrev pub allTechnologies : List ℕ
 allTechnologies = thermal ∷ nuclear ∷ storage ∷ hydro ∷ []
 
@@ -58,7 +59,7 @@ fieldAs w lo hi zero? signed? part techs above? =
 abbrev pub field : ℕ → ℕ → ℕ → Field
 field w lo hi = fieldAs w lo hi false false plain allTechnologies false
 
--- "to" a highest value: from 0
+-- from 0 to a highest value
 abbrev pub upTo : ℕ → ℕ → Field
 upTo w hi = field w 0 hi
 
@@ -66,7 +67,7 @@ upTo w hi = field w 0 hi
 abbrev pub any4 : Field
 any4 = upTo 4 4294967295
 
--- "0 or" lowest to highest
+-- 0, or lowest to highest
 abbrev pub zeroOr : ℕ → ℕ → ℕ → Field
 zeroOr w lo hi = fieldAs w lo hi true false plain allTechnologies false
 
@@ -74,11 +75,11 @@ zeroOr w lo hi = fieldAs w lo hi true false plain allTechnologies false
 abbrev pub keyed : ℕ → ℕ → ℕ → Field
 keyed w lo hi = fieldAs w lo hi false false key allTechnologies false
 
--- a money moneyTo, from 0
+-- a money amount, from 0
 abbrev pub moneyTo : ℕ → ℕ → Field
 moneyTo w hi = fieldAs w 0 hi false false money allTechnologies false
 
--- a price: "-200,000 to 200,000 cents per MWh"; it is a money moneyTo
+-- "Prices are -200,000 to 200,000 cents per MWh"; they are money amounts, and "Forecast prices are money amounts" too
 abbrev pub price : Field
 price = fieldAs 4 2147283648 2147683648 false true money allTechnologies false
 
@@ -104,7 +105,9 @@ row a b techs l = record { first = a; second = b; fields = l; technologies = tec
 abbrev pub noRow : Row
 noRow = row 0 0 allTechnologies []
 
--- RS, 31 bytes; no key
+-- "RS, 31 bytes: technology (1): 1 thermal, 2 nuclear, 3 storage; capacity (2), 0.1 MW, 1 to 20,000; performance factor (2), thousandths, 0 or 500 to 2,000;
+-- start heat (4), MJ per start, and no-load heat (4), MJ per hour, each to 20,000,000; incremental fuel (4), mg of uranium per MWh, to 1,000,000; state of
+-- charge (4), 0.1 MWh, to 1,000,000; charging efficiency (2), thousandths, 0 or 500 to 1,000; window (2), hours, to 168. No key."
 abbrev pub rs : Row
 rs =
     row 82 83 allTechnologies
@@ -119,7 +122,7 @@ rs =
     ∷ needed (storage ∷ hydro ∷ []) (upTo 2 4000)  -- 8 window, hours; to 168 unless hydro (`agrees`)
     ∷ [])
 
--- HP, 13
+-- "HP, 13: key point 1 to 21 (1); output (2), 0.1 MW, to 20,000; heat (4), MJ/h, to 20,000,000."
 abbrev pub hp : Row
 hp =
     row 72 80 (thermal ∷ [])
@@ -128,7 +131,7 @@ hp =
     ∷ upTo 4 20000000  -- 2 heat, MJ/h
     ∷ [])
 
--- FU, 15
+-- "FU, 15: key profile 1 to 4 (1); fuel (4) and emission (4), each to 400,000,000 micro-dollars."; of hydroelectric "with both prices 0"
 abbrev pub fu : Row
 fu =
     row 70 85 allTechnologies
@@ -137,17 +140,19 @@ fu =
     ∷ only (thermal ∷ []) (moneyTo 4 400000000)  -- 2 emission, micro-dollars per GJ
     ∷ [])
 
--- AD, 17
+-- "AD, 17: key profile (1), cost (1): 1 scheduled, 2 unscheduled, 3 consumables and operating, 4 third-party, 5 prorated start-up, and level (1): 1 energy, 2
+-- start, 3 no-load, 4 reserve; amount (8), micro-dollars, to 10^12."
 abbrev pub ad : Row
 ad =
     row 65 68 allTechnologies
     (keyed 1 1 4  -- 0 profile
     ∷ keyed 1 1 5  -- 1 cost: 1 scheduled, 2 unscheduled, 3 consumables and operating, 4 third-party, 5 prorated start-up
     ∷ keyed 1 1 4  -- 2 level: 1 energy, 2 start, 3 no-load, 4 reserve
-    ∷ moneyTo 8 1000000000000  -- 3 moneyTo, micro-dollars
+    ∷ moneyTo 8 1000000000000  -- 3 amount, micro-dollars
     ∷ [])
 
--- MM, 24
+-- "MM, 24: key profile (1), item 1 to 8 (1); cost C (8), cents, to 10^11; output W (2), 0.1 MW, 1 to 20,000; interval T (4), hours, 1 to 1,000,000; hours per
+-- start S (2), 0.1 h, to 10,000."
 abbrev pub mm : Row
 mm =
     row 77 77 allTechnologies
@@ -159,7 +164,7 @@ mm =
     ∷ only (thermal ∷ []) (upTo 2 10000)  -- 5 hours per start S, 0.1 h
     ∷ [])
 
--- RQ, 16
+-- "RQ, 16: key request 1 to 16 (1); first and last hour (4 each, first not after last); profile (1), 0 meaning withdrawn, to 4."
 abbrev pub rq : Row
 rq =
     row 82 81 allTechnologies
@@ -169,7 +174,7 @@ rq =
     ∷ upTo 1 4  -- 3 profile, 0 meaning withdrawn
     ∷ [])
 
--- HR, 11
+-- "HR, 11: key hour 1 to 168 (1); price s."
 abbrev pub hr : Row
 hr =
     row 72 82 (storage ∷ [])
@@ -177,7 +182,7 @@ hr =
     ∷ price  -- 1 price
     ∷ [])
 
--- CH, 16
+-- "CH, 16: key interval 1 to 2,016 (2); price s; energy (4), kWh, to 1,000,000."
 abbrev pub ch : Row
 ch =
     row 67 72 (storage ∷ [])
@@ -186,7 +191,8 @@ ch =
     ∷ upTo 4 1000000  -- 2 energy, kWh
     ∷ [])
 
--- TH, 18
+-- "TH, 18: key condition 1 to 3 (1): narrow, broad, global, and level 1 to 4 (1); percent (2) to 10,000; margin (4), cents, 4,294,967,295 meaning none; floor
+-- (4), cents, any."
 abbrev pub th : Row
 th =
     row 84 72 allTechnologies
@@ -197,7 +203,7 @@ th =
     ∷ any4  -- 4 floor, cents, any
     ∷ [])
 
--- FP, 12; document 02, request 1
+-- "a new mark FP, 12 bytes after the usual plan: place (2) 1 to 4,000 as key, price as elsewhere."
 abbrev pub fp : Row
 fp =
     row 70 80 (hydro ∷ [])
@@ -205,60 +211,60 @@ fp =
     ∷ price  -- 1 price
     ∷ [])
 
--- LC, 10; document 02, request 2; no key
+-- "A new mark LC, 10 bytes, no key, holds that cost (4) in micro-dollars, to 2,000,000,000."; "LC is one of the amounts that may be raised"
 abbrev pub lc : Row
 lc =
     row 76 67 (storage ∷ [])
     (moneyTo 4 2000000000  -- 0 cost, micro-dollars per MWh
     ∷ [])
 
--- all of them
+-- all of them: "A constant table holds each mark's whole length and key bounds."
 unfoldable pub table : List Row
 table = rs ∷ hp ∷ fu ∷ ad ∷ mm ∷ rq ∷ hr ∷ ch ∷ th ∷ fp ∷ lc ∷ []
 
 -- ---- a mark is named by its place in the table, from 1; 0 is an unknown mark
 
--- the station itself
+-- the station itself: "RS, 31 bytes"
 abbrev pub RS : ℕ
 RS = 1
 
--- a point of the heat curve
+-- a point of the heat curve: "HP, 13"
 abbrev pub HP : ℕ
 HP = 2
 
--- fuel and emission of a profile
+-- fuel and emission of a profile: "FU, 15"
 abbrev pub FU : ℕ
 FU = 3
 
--- a cost that joins a level
+-- a cost that joins a level: "AD, 17"
 abbrev pub AD : ℕ
 AD = 4
 
--- an item of major maintenance
+-- an item of major maintenance: "MM, 24"
 abbrev pub MM : ℕ
 MM = 5
 
--- a request of a profile for some hours
+-- a request of a profile for some hours: "RQ, 16"
 abbrev pub RQ : ℕ
 RQ = 6
 
--- a price of the window
+-- a price of the window: "HR, 11"
 abbrev pub HR : ℕ
 HR = 7
 
--- an interval of charging
+-- an interval of charging: "CH, 16"
 abbrev pub CH : ℕ
 CH = 8
 
--- a threshold of the test
+-- a threshold of the test: "TH, 18"
 abbrev pub TH : ℕ
 TH = 9
 
--- a price of the forecast
+-- a price of the forecast: "a new mark FP, 12 bytes"
 abbrev pub FP : ℕ
 FP = 10
 
--- the last charging cost
+-- the last charging cost: "A new mark LC, 10 bytes, no key"
 abbrev pub LC : ℕ
 LC = 11
 

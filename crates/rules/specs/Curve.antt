@@ -6,7 +6,7 @@ use Rattle.lists.specs.Tests.{allTo, countTo}
 use Rattle.records.specs.Table.{thermal, storage, hydro, HP, FU, RQ, HR, FP}
 use Rattle.station.specs.Parameters.{Parameters, technology, capacity, charge, window, output, heat, requested}
 
--- how many points there are
+-- how many points there are: "21 points and 22"
 unfoldable pub points : Parameters → ℕ
 points s = countTo 21 (s .has HP)
 
@@ -14,7 +14,8 @@ points s = countTo 21 (s .has HP)
 unfoldable pub rise : (ℕ → ℕ) → ℕ → ℕ
 rise f i = f (i + 1) - f i
 
--- n points, 2 or more, "numbered from 1 without gap", output rising, heat not falling, slope not falling (compared by multiplying across), "last output" the capacity
+-- none of "points fewer than 2, not numbered from 1 without gap, output not rising, heat falling, slope falling, or last output not the capacity"; slopes are
+-- compared by multiplying across
 unfoldable pub curveHolds : Parameters → ℕ → Bool
 curveHolds s n =
     leb 2 n && allTo n (s .has HP)
@@ -22,23 +23,23 @@ curveHolds s n =
     && allTo (n - 2) (λ i. leb (rise (heat s) i * rise (output s) (i + 1)) (rise (heat s) (i + 1) * rise (output s) i))
     && eqb (output s n) (capacity s)
 
--- what 7 asks: "for thermal", the curve
+-- what 7 asks: "7 for thermal", the curve
 unfoldable pub curveFits : Parameters → Bool
 curveFits s = not (eqb (technology s) thermal) || curveHolds s (points s)
 
--- what 8 asks: an FU "for profile 1" and for each "named in a current RQ"; 0 names none
+-- not "8 no FU for profile 1 or for one named in a current RQ"; 0 names none; of hydroelectric too "FU is still needed"
 unfoldable pub fuelHolds : Parameters → Bool
 fuelHolds s = s .has FU 1 && allTo 16 (λ n. not (s .has RQ n) || eqb (requested s n) 0 || s .has FU (requested s n))
 
--- X: "state of charge / capacity without fraction"
+-- "X being state of charge / capacity without fraction"; "X stays whole"; "X and request 1's place still drop theirs"
 unfoldable pub fullHours : Parameters → ℕ
 fullHours s = charge s / capacity s
 
--- X is neither 0 nor above the window, and no window hour is missing
+-- not "X is 0 or above the window, or a window hour missing"
 unfoldable pub hoursHold : Parameters → Bool
 hoursHold s = ltb 0 (fullHours s) && leb (fullHours s) (window s) && allTo (window s) (s .has HR)
 
--- what 9 asks: "for storage", the window
+-- what 9 asks: "9 for storage", the window
 unfoldable pub windowFits : Parameters → Bool
 windowFits s = not (eqb (technology s) storage) || hoursHold s
 

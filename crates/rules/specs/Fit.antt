@@ -1,4 +1,4 @@
--- "6 current record unfit for the technology".
+-- 6: what a technology may have, and the first current record that it may not.
 use mathlib.Core.Bool.{Bool, true, cond, _&&_, _||_, not}
 use mathlib.Core.List.{List, [], _∷_}
 use Prim.Native.Nat.{ℕ, _≤_}
@@ -14,7 +14,7 @@ use Rattle.station.specs.Current.{current}
 
 -- ---- the levels by number
 
--- "1 energy"
+-- "level (1): 1 energy"
 abbrev pub energy : ℕ
 energy = 1
 
@@ -48,17 +48,19 @@ levelsOf t =
 unfoldable pub holds : ℕ → ℕ → Bool
 holds t v = among v (levelsOf t)
 
--- "Other such RS fields are 0; used ones are above 0, except the heats"; "Emission is 0 unless thermal"; "S is 0 unless thermal"
+-- "Thermal uses performance factor and both heats; nuclear performance factor and incremental fuel; storage charge, efficiency and window. Other such RS
+-- fields are 0; used ones are above 0, except the heats"; "other RS fields are 0 as before"; "Emission is 0 unless thermal"; "S is 0 unless thermal"
 unfoldable pub fieldFits : ℕ → Field → ℕ → Bool
 fieldFits t f x = cond (among t (f .usedBy)) (not (f .positive) || ltb 0 x) (eqb x 0)
 
--- the level is held, "for AD and TH alike"; "Cost 5 is nuclear and level 1"
+-- the level is held: "storage 1 and 4, for AD and TH alike", "levels 1 and 4 are held, for AD and TH alike"; "Cost 5 is nuclear and level 1"
 unfoldable pub ruleFits : ℕ → ℕ → List ℕ → Bool
 ruleFits t k r =
     cond (eqb k AD) (holds t (value AD 2 r) && (not (eqb (value AD 1 r) 5) || (eqb t nuclear && eqb (value AD 2 r) energy)))
     (cond (eqb k TH) (holds t (value TH 1 r)) true)
 
--- a record of mark k fits technology t: "HP is thermal only; HR and CH storage only", FP hydroelectric and LC storage only; its fields and its level
+-- a record of mark k fits technology t: "HP is thermal only; HR and CH storage only"; "an FP at another technology is 6"; "LC is a storage record"; its
+-- fields and its level
 unfoldable pub fits : ℕ → ℕ → List ℕ → Bool
 fits t k r =
     among t (rowOf k .technologies) && (allBelow (length (rowOf k .fields)) (λ i. fieldFits t (fieldOf k i) (value k i r)) && ruleFits t k r)
@@ -67,6 +69,6 @@ fits t k r =
 unfoldable pub isCurrent : List (List ℕ) → List ℕ → Bool
 isCurrent all r = eqb (issue r) (issue (current (mark r) (keyOf r) all))
 
--- 6 at the start of the "first in the dossier" that is current and does not fit
+-- "6 current record unfit for the technology", at the start of the "first in the dossier" that is
 unfoldable pub unfit : ℕ → List (List ℕ) → Answer
 unfit t l = firstDrawn (λ p r. refuseIf (isCurrent l r && not (fits t (mark r) r)) 6 p) 0 l

@@ -26,7 +26,7 @@ unfoldable pub currentFrom : ℕ → ℕ → List ℕ → List (List ℕ) → Li
 currentFrom k n b [] = b
 currentFrom k n b (r ∷ l) = currentFrom k n (better k n b r) l
 
--- the current record of a mark and key among some records, empty where there is none
+-- "The current record is found by mark and key": of some records, empty where there is none
 unfoldable pub current : ℕ → ℕ → List (List ℕ) → List ℕ
 current k n l = currentFrom k n [] l
 
@@ -61,11 +61,11 @@ twins p seen (r ∷ l) = orElse (refuseIf (anyTwin r seen) 4 p) (twins (p + leng
 
 -- ---- the lookup
 
--- "At most 60,000 bytes of records"
+-- "At most 60,000 bytes of records"; "60,000 and 60,001 bytes"
 abbrev pub longest : ℕ
 longest = 60_000
 
--- "13; records in turn with 1, 2, 3; then 4"
+-- "13 dossier too long"; "13; records in turn with 1, 2, 3; then 4"
 unfoldable pub readable : List ℕ → Answer
 readable d =
     orElse (refuseIf (ltb longest (length d)) 13 0)

@@ -35,150 +35,150 @@ Higher a b = (k n i : ℕ) → a .of k n i ≤ b .of k n i
 
 -- ---- RS
 
--- 1 thermal, 2 nuclear, 3 storage, 4 hydroelectric
+-- "technology (1): 1 thermal, 2 nuclear, 3 storage", 4 hydroelectric
 abbrev pub technology : Parameters → ℕ
 technology s = s .says RS 0 0
 
--- in 0.1 MW
+-- "capacity (2), 0.1 MW"
 abbrev pub capacity : Parameters → ℕ
 capacity s = s .says RS 0 1
 
--- performance factor, thousandths
+-- "performance factor (2), thousandths"
 abbrev pub factor : Parameters → ℕ
 factor s = s .says RS 0 2
 
--- MJ per start
+-- "start heat (4), MJ per start"
 abbrev pub startHeat : Parameters → ℕ
 startHeat s = s .says RS 0 3
 
--- MJ per hour
+-- "no-load heat (4), MJ per hour"
 abbrev pub noLoadHeat : Parameters → ℕ
 noLoadHeat s = s .says RS 0 4
 
--- mg of uranium per MWh
+-- "incremental fuel (4), mg of uranium per MWh"
 abbrev pub incrementalFuel : Parameters → ℕ
 incrementalFuel s = s .says RS 0 5
 
--- state of charge, 0.1 MWh
+-- "state of charge (4), 0.1 MWh"
 abbrev pub charge : Parameters → ℕ
 charge s = s .says RS 0 6
 
--- charging efficiency, thousandths
+-- "charging efficiency (2), thousandths"
 abbrev pub efficiency : Parameters → ℕ
 efficiency s = s .says RS 0 7
 
--- hours
+-- "window (2), hours", or places of the forecast
 abbrev pub window : Parameters → ℕ
 window s = s .says RS 0 8
 
 -- ---- HP, by point
 
--- in 0.1 MW
+-- "output (2), 0.1 MW"
 abbrev pub output : Parameters → ℕ → ℕ
 output s i = s .says HP i 1
 
--- MJ/h
+-- "heat (4), MJ/h"
 abbrev pub heat : Parameters → ℕ → ℕ
 heat s i = s .says HP i 2
 
 -- ---- FU, by profile
 
--- micro-dollars
+-- micro-dollars. "Fuel is per GJ (thermal), per kg of uranium (nuclear) or, for storage, the non-commodity charging cost per MWh."
 abbrev pub fuel : Amounts → ℕ → ℕ
 fuel m p = m .of FU p 1
 
--- micro-dollars per GJ
+-- micro-dollars. "Emission is per GJ."
 abbrev pub emission : Amounts → ℕ → ℕ
 emission m p = m .of FU p 2
 
 -- ---- AD, by profile, cost and level
 
--- the key of a profile, cost and level
+-- "key profile (1), cost (1)" and level
 abbrev pub adderKey : ℕ → ℕ → ℕ → ℕ
 adderKey p c v = p * 65536 + c * 256 + v
 
--- micro-dollars
+-- "amount (8), micro-dollars"
 abbrev pub adder : Amounts → ℕ → ℕ → ℕ → ℕ
 adder m p c v = m .of AD (adderKey p c v) 3
 
 -- ---- MM, by profile and item
 
--- the key of a profile and item
+-- "key profile (1), item 1 to 8 (1)"
 abbrev pub itemKey : ℕ → ℕ → ℕ
 itemKey p j = p * 256 + j
 
--- cents
+-- "cost C (8), cents"
 abbrev pub costC : Amounts → ℕ → ℕ → ℕ
 costC m p j = m .of MM (itemKey p j) 2
 
--- 0.1 MW
+-- "output W (2), 0.1 MW"
 abbrev pub outputW : Parameters → ℕ → ℕ → ℕ
 outputW s p j = s .says MM (itemKey p j) 3
 
--- hours
+-- "interval T (4), hours"
 abbrev pub intervalT : Parameters → ℕ → ℕ → ℕ
 intervalT s p j = s .says MM (itemKey p j) 4
 
--- 0.1 h
+-- "hours per start S (2), 0.1 h"
 abbrev pub hoursPerStartS : Parameters → ℕ → ℕ → ℕ
 hoursPerStartS s p j = s .says MM (itemKey p j) 5
 
 -- ---- RQ, by request
 
--- of a request
+-- "first and last hour (4 each, first not after last)"
 abbrev pub firstHour : Parameters → ℕ → ℕ
 firstHour s n = s .says RQ n 1
 
--- of a request
+-- "first and last hour (4 each, first not after last)"
 abbrev pub lastHour : Parameters → ℕ → ℕ
 lastHour s n = s .says RQ n 2
 
--- the profile that a request asks for, 0 meaning withdrawn
+-- "profile (1), 0 meaning withdrawn"
 abbrev pub requested : Parameters → ℕ → ℕ
 requested s n = s .says RQ n 3
 
 -- ---- HR, by hour of the window
 
--- cents per MWh, plus 2^31
+-- "key hour 1 to 168 (1); price s", cents per MWh plus 2^31
 abbrev pub hourPrice : Amounts → ℕ → ℕ
 hourPrice m n = m .of HR n 1
 
 -- ---- CH, by interval
 
--- cents per MWh, plus 2^31
+-- "key interval 1 to 2,016 (2); price s", cents per MWh plus 2^31
 abbrev pub chargePrice : Amounts → ℕ → ℕ
 chargePrice m n = m .of CH n 1
 
--- kWh
+-- "energy (4), kWh"
 abbrev pub chargeEnergy : Parameters → ℕ → ℕ
 chargeEnergy s n = s .says CH n 2
 
 -- ---- TH, by condition and level
 
--- the key of a condition and level
+-- "key condition 1 to 3 (1): narrow, broad, global, and level 1 to 4 (1)"
 abbrev pub thresholdKey : ℕ → ℕ → ℕ
 thresholdKey c v = c * 256 + v
 
--- of the level
+-- "percent (2)"
 abbrev pub percent : Parameters → ℕ → ℕ → ℕ
 percent s c v = s .says TH (thresholdKey c v) 2
 
--- cents, 4,294,967,295 meaning none
+-- "margin (4), cents, 4,294,967,295 meaning none"
 abbrev pub margin : Parameters → ℕ → ℕ → ℕ
 margin s c v = s .says TH (thresholdKey c v) 3
 
--- cents
+-- "floor (4), cents"
 abbrev pub floor : Parameters → ℕ → ℕ → ℕ
 floor s c v = s .says TH (thresholdKey c v) 4
 
 -- ---- FP, by place of the forecast
 
--- cents per MWh, plus 2^31
+-- "place (2) 1 to 4,000 as key, price as elsewhere", cents per MWh plus 2^31
 abbrev pub placePrice : Amounts → ℕ → ℕ
 placePrice m n = m .of FP n 1
 
 -- ---- LC
 
--- the last charging cost, micro-dollars per MWh
+-- "holds that cost (4) in micro-dollars", per MWh
 abbrev pub lastCost : Amounts → ℕ
 lastCost m = m .of LC 0 0

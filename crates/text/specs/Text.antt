@@ -5,7 +5,7 @@ use Prim.Native.Nat.{ℕ, zero, suc, _+_, _/_, _%_}
 use lib.Dec.{ltb}
 use lib.ListN.{length, drop}
 
--- what a buffer holds after a text was written at its front: the bytes past the text stay
+-- "Written to the unused tail of a lent buffer": what a buffer holds after a text was written at its front; the bytes past the text stay
 abbrev pub over : List ℕ → List ℕ → List ℕ
 over text buf = text ++ drop (length text) buf
 
@@ -18,7 +18,7 @@ unfoldable pub decimalIn : ℕ → ℕ → List ℕ
 decimalIn zero n = []
 decimalIn (suc f) n = cond (ltb n 10) (digit n) (decimalIn f (n / 10) ++ digit (n % 10))
 
--- n in decimal; 20 digits are enough for 64 bits
+-- "Amounts have no leading zeros but a lone one before the point"; 20 digits are enough for 64 bits
 unfoldable pub decimal : ℕ → List ℕ
 decimal n = decimalIn 20 n
 
@@ -26,41 +26,41 @@ decimal n = decimalIn 20 n
 abbrev pub point : List ℕ
 point = 46 ∷ []
 
--- outputs, kept in tenths of a MW: a point before the last digit
+-- "outputs in MW", kept in tenths of a MW: a point before the last digit
 unfoldable pub tenths : ℕ → List ℕ
 tenths n = decimal (n / 10) ++ point ++ digit (n % 10)
 
--- levels, kept in cents: a point before the last two digits
+-- "levels are in dollars", kept in cents: a point before the last two digits
 unfoldable pub hundredths : ℕ → List ℕ
 hundredths n = tenths (n / 10) ++ digit (n % 10)
 
 -- The words of the report, with the spaces about them.
 
--- "profile "
+-- `profile `
 abbrev pub profileWord : List ℕ
 profileWord = 112 ∷ 114 ∷ 111 ∷ 102 ∷ 105 ∷ 108 ∷ 101 ∷ 32 ∷ []
 
--- "energy "
+-- `energy `
 abbrev pub energyWord : List ℕ
 energyWord = 101 ∷ 110 ∷ 101 ∷ 114 ∷ 103 ∷ 121 ∷ 32 ∷ []
 
--- "start "
+-- `start `
 abbrev pub startWord : List ℕ
 startWord = 115 ∷ 116 ∷ 97 ∷ 114 ∷ 116 ∷ 32 ∷ []
 
--- "no-load "
+-- `no-load `
 abbrev pub noLoadWord : List ℕ
 noLoadWord = 110 ∷ 111 ∷ 45 ∷ 108 ∷ 111 ∷ 97 ∷ 100 ∷ 32 ∷ []
 
--- "reserve "
+-- `reserve `
 abbrev pub reserveWord : List ℕ
 reserveWord = 114 ∷ 101 ∷ 115 ∷ 101 ∷ 114 ∷ 118 ∷ 101 ∷ 32 ∷ []
 
--- "refused "
+-- `refused `
 abbrev pub refusedWord : List ℕ
 refusedWord = 114 ∷ 101 ∷ 102 ∷ 117 ∷ 115 ∷ 101 ∷ 100 ∷ 32 ∷ []
 
--- " at "
+-- ` at `
 abbrev pub atWord : List ℕ
 atWord = 32 ∷ 97 ∷ 116 ∷ 32 ∷ []
 

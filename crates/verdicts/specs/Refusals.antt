@@ -14,11 +14,11 @@ use Rattle.station.specs.Parameters.{Parameters, technology, capacity, threshol
 use Rattle.rules.specs.Fit.{energy, holds}
 use Rattle.verdicts.specs.Test.{quantity, priceAt, before}
 
--- "12 level not 1 to 4, not held by the technology, or 1 put to the single-price test"
+-- "12 level not 1 to 4, not held by the technology, or 1 put to the single-price test", at place "else 0"
 unfoldable pub levelRefusal : Parameters → ℕ → Answer
 levelRefusal s v = refuseIf (eqb v energy || not (holds (technology s) v)) 12 0
 
--- "14 condition not 1 to 3 or no TH for it and the level"
+-- "14 condition not 1 to 3 or no TH for it and the level", at place "else 0"
 unfoldable pub conditionRefusal : Parameters → ℕ → ℕ → Answer
 conditionRefusal s v c = refuseIf (not (between 1 3 c && s .has TH (thresholdKey c v))) 14 0
 
@@ -27,7 +27,7 @@ unfoldable pub priceBefore : List ℕ → ℕ → ℕ
 priceBefore o zero = 0
 priceBefore o (suc k) = priceAt o k
 
--- "quantities rise strictly from above 0, prices don't fall", and are in range
+-- "quantities rise strictly from above 0, prices don't fall"; not "a pair's price out of range, or a quantity or price against the rule above"
 unfoldable pub pairHolds : List ℕ → ℕ → Bool
 pairHolds o k = every (ltb (before o k) (quantity o k) ∷ inRange price (priceAt o k) ∷ leb (priceBefore o k) (priceAt o k) ∷ [])
 
@@ -41,7 +41,7 @@ unfoldable pub aboveCapacity : Parameters → List ℕ → ℕ → ℕ → Answe
 aboveCapacity s o k zero = Accepted
 aboveCapacity s o k (suc n) = orElse (refuseIf (ltb (capacity s) (quantity o k)) 11 (6 * k)) (aboveCapacity s o (k + 1) n)
 
--- 10 at "offer length if that isn't 6 to 120 in sixes"
+-- "10 malformed offer: its length", at "offer length if that isn't 6 to 120 in sixes": "20 pairs and 21"
 unfoldable pub lengthRefusal : List ℕ → Answer
 lengthRefusal o = refuseIf (not (between 6 120 (length o) && eqb (length o % 6) 0)) 10 (length o)
 

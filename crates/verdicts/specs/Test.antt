@@ -14,7 +14,8 @@ use Rattle.verdicts.specs.declared.Verdict.the-variants.{Passes, Fails}
 abbrev pub noMargin : ℕ
 noMargin = 4294967295
 
--- "lesser of level + level × percent / 100 (fraction dropped) and level + margin, if there is one", in cents
+-- "lesser of level + level × percent / 100 (fraction dropped) and level + margin, if there is one", in cents; "The conduct limit's percentage" drops its
+-- fraction
 unfoldable pub limit : ℕ → ℕ → ℕ → ℕ
 limit level percent margin =
     cond (eqb margin noMargin)
@@ -29,7 +30,8 @@ fails level percent margin floor price = leb (floor + bias) price && ltb (limit 
 unfoldable pub failsUnder : Parameters → ℕ → ℕ → ℕ → ℕ → Bool
 failsUnder s c v price x = fails x (percent s c v) (margin s c v) (floor s c v) price
 
--- a price tried at each line of kind v that it meets: the first that it fails, named with pair k; or else what follows
+-- "It fails if it fails in any lamination it overlaps": a price tried at each line of kind v that it meets, the first that it fails named with pair k; or
+-- else what follows
 unfoldable pub failing : ℕ → (ℕ → ℕ → Bool) → (ℕ → Bool) → ℕ → List Line → Verdict → Verdict
 failing v meets test k [] rest = rest
 failing v meets test k (x ∷ l) rest =
@@ -51,7 +53,7 @@ unfoldable pub before : List ℕ → ℕ → ℕ
 before o zero = 0
 before o (suc k) = quantity o k
 
--- a pair and a lamination "overlap by more than a point"
+-- a pair and a lamination that it "overlaps by more than a point"
 unfoldable pub overlap : ℕ → ℕ → ℕ → ℕ → Bool
 overlap low high from to = ltb (max low from) (min high to)
 

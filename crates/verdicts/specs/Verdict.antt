@@ -15,12 +15,12 @@ use Rattle.verdicts.specs.declared.Verdict.the-variants.{Passes, Fails, 
 use Rattle.verdicts.specs.Test.{offerFrom, priceTest}
 use Rattle.verdicts.specs.Refusals.{offerRefusal, priceRefusal}
 
--- a refusal comes before the test
+-- a refusal comes before the test: "one that draws no refusal and doesn't fail passes"
 unfoldable pub settle : Answer → Verdict → Verdict
 settle Accepted v = v
 settle (Turned n p) v = Refused n p
 
--- a verdict in the paper's numbers: 0 passes; 1 fails, with pair and lamination; 2 refused, with number and place
+-- "a definition gives this paper's number and values for each case": 0 passes; 1 fails, with pair and lamination; 2 refused, with number and place
 unfoldable pub numbers : Verdict → List ℕ
 numbers Passes = 0 ∷ []
 numbers (Fails k i) = 1 ∷ k ∷ i ∷ []
@@ -34,10 +34,10 @@ offerVerdict s c l o = settle (offerRefusal s c o) (offerFrom s c l o 0 (length 
 unfoldable pub priceVerdict : Parameters → ℕ → ℕ → List Line → ℕ → Verdict
 priceVerdict s v c l price = settle (priceRefusal s v c) (priceTest s c v price l)
 
--- on an energy offer, of a dossier at an hour and under a condition
+-- on an energy offer, of a dossier at an hour and under a condition: "the conduct test"
 unfoldable pub onOffer : List ℕ → ℕ → ℕ → List ℕ → Verdict
 onOffer d h c o = settle (answer d) (offerVerdict (parameters (records d)) c (levels d h) o)
 
--- on a signed price in cents, of a dossier at an hour, for a level and under a condition
+-- on a signed price in cents, of a dossier at an hour, for a level and under a condition: "An energy offer and a single price are both offers"
 unfoldable pub onPrice : List ℕ → ℕ → ℕ → ℕ → ℤ → Verdict
 onPrice d h v c price = settle (answer d) (priceVerdict (parameters (records d)) v c (levels d h) (biasedOf price))
