@@ -10,16 +10,15 @@
 //! is wrong.
 //!
 //! --write leaves each dossier in the folder, and with them the smallest of each technology, some
-//! batteries that charged now and then and some dossiers that are refused, behind hour, condition
-//! and offer, as anchor/ratio reads them, which is kept beside this repository and takes the inputs
+//! batteries that charged now and then and some dossiers that are refused, behind what the calls
+//! are asked, as anchor/ratio reads them, which is kept beside this repository and takes the inputs
 //! that lie beside it. From the root of the repository, this times them beside the fastest unproved
-//! C, but for those that the C doesn't know:
+//! C:
 //!
 //!     mkdir -p target/anchor
 //!     cp ../shared/anchor/ratio ../shared/anchor/*.c target/anchor
 //!     cargo run --profile timed --offline --quiet --manifest-path rust/Cargo.toml -p bench \
 //!         --example sizes -- 1 --write target/anchor/inputs
-//!     rm target/anchor/inputs/hydro-*
 //!     target/anchor/ratio --rounds 31
 
 mod calls;
@@ -28,7 +27,7 @@ mod times;
 use calls::{status, Input, CONDITION, HOUR, NAMES};
 use model::make::sized::sized;
 use model::make::small::{charged, least, refused, small};
-use model::table::{Technology, TECHNOLOGIES};
+use model::table::{Technology, RESERVE, TECHNOLOGIES};
 use std::fs;
 use std::process::ExitCode;
 use times::{cells, head, rounds, row, row_of, Times};
@@ -47,12 +46,19 @@ fn arguments<'a>(words: &[&'a str]) -> Result<(usize, Option<&'a str>), String> 
     Ok((rounds(count)?, folder))
 }
 
-/// Writes what the calls are put to, but for the single price.
+/// Writes what the calls are put to: hour, condition, set of conditions, level, whether it is
+/// refused, how many dossiers, the mark and key to look up, the offer behind its length, and the
+/// dossier. A name begins with the first request whose C knows the station.
 fn write(folder: &str, name: &str, input: &Input) -> Result<(), String> {
+    let level = input.single.map_or(RESERVE, |(level, _)| level);
+    let refused = u8::from(name.starts_with("refused"));
+    let set = 1 << (CONDITION - 1);
+    let asked = [CONDITION, set, level, refused, 1];
     let length = (input.offer.len() as u16).to_be_bytes();
-    let ahead = [&HOUR.to_be_bytes()[..], &[CONDITION], &length].concat();
+    let ahead = [&HOUR.to_be_bytes()[..], &asked, b"FU\0\0\0\x01", &length].concat();
     let bytes = [&ahead[..], &input.offer, &input.dossier].concat();
-    let path = format!("{folder}/{name}");
+    let request = u8::from(name.starts_with("hydro"));
+    let path = format!("{folder}/{request:02}-00-{name}");
     let written = fs::create_dir_all(folder).and_then(|()| fs::write(&path, bytes));
     written.map_err(|fault| format!("{path}: {fault}"))
 }

@@ -19,7 +19,7 @@ pub struct Input {
     pub dossier: Vec<u8>,
     pub offer: Vec<u8>,
     /// The last level that the station holds beside energy, if it does, and a price for it.
-    single: Option<(u8, i32)>,
+    pub single: Option<(u8, i32)>,
 }
 
 impl Input {
