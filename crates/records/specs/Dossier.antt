@@ -23,7 +23,7 @@ recordsIn zero d = []
 recordsIn (suc f) [] = []
 recordsIn (suc f) (b ∷ d) = firstOf (b ∷ d) ∷ recordsIn f (restOf (b ∷ d))
 
--- "records, back to back": the records of a dossier
+-- the records of a dossier, "back to back"
 unfoldable pub records : List ℕ → List (List ℕ)
 records d = recordsIn (length d) d
 

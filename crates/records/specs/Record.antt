@@ -72,7 +72,7 @@ keyOf r = number head (keyWidth (mark r)) r
 
 -- ---- the money
 
--- whether a field is a money amount
+-- "The money amounts are FU's fuel and emission, AD's amount, MM's C, and HR's and CH's price": whether a field is one
 abbrev pub isMoney : Role → Bool
 isMoney key = false
 isMoney plain = false

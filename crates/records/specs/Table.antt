@@ -5,8 +5,7 @@ use mathlib.Core.List.{List, [], _∷_}
 use Prim.Native.Nat.{ℕ}
 use lib.ListN.{getD}
 
--- the part that a field plays: it belongs to the key, it is a money amount, or neither. "The money amounts are FU's fuel and emission, AD's amount, MM's C,
--- and HR's and CH's price"
+-- the part that a field plays: it belongs to the key, it is a money amount, or neither
 pub data Role : Type 0 where
   key plain money : Role
 
