@@ -22,7 +22,8 @@ use Rattle.station.specs.Declared.{CurrentOf, absent, standing}
 use Rattle.station.proofs.Current.{current-found}
 use Rattle.station.proofs.Parameters.{says-high}
 use Rattle.index.specs.Slots.{slot, narrow}
-use Rattle.index.proofs.Slots.{slot-narrow, in-key, low, high, limits}
+use Rattle.index.proofs.KeyBounds.{in-key}
+use Rattle.index.proofs.Slots.{slot-narrow, low, high, limits}
 use Rattle.lookup.specs.declared.Part.{Part}
 use Rattle.lookup.specs.Parts.{part, placeAt, currentPart, Indexed}
 use Rattle.lookup.proofs.Parts.{place-current, slot-tells, interval-key}

@@ -7,37 +7,37 @@ use native.Mathlib.Numerals.{add-one}
 use native.Mathlib.Omega.{arith}
 use lib.Bits.{bitOr}
 use lib.Dec.{ltb, eqb}
-use lib.ListN.{length, getD, take, drop, length-take, length-drop, drop-of-length-le, List·getD-eq-default}
-use lib.Seq.{drop-drop}
+use lib.ListN.{length, getD, take, drop, List·getD-eq-default}
 use borrow.Author.Tests.{ltb-true, ltb-false, eqb-true, eq-eqb}
 use Rattle.lists.specs.Lists.{Each, done, also, Member, here, there}
 use Rattle.lists.specs.Tests.{allBelow, allTo}
-use Rattle.lists.proofs.Lists.{member-each}
+use Rattle.lists.proofs.Lists.{each-both, member-each}
 use Rattle.lists.proofs.Tests.{and-true, and-left, and-right, split, below-at, below-same, to-at, at-to, or-none}
 use Rattle.fields.specs.Numbers.{number}
 use Rattle.fields.proofs.Numbers.{number-join}
+use Rattle.records.specs.declared.Answer.{Answer}
 use Rattle.records.specs.declared.Answer.the-variants.{Accepted, Refused}
-use Rattle.records.specs.Table.{table, rowOf, fieldOf, AD, TH}
+use Rattle.records.specs.Table.{table, rowOf, fieldOf, thermal, nuclear, storage, hydro, RS, HP, FU, AD, MM, HR, CH, TH, FP, LC}
 use Rattle.records.specs.declared.MarkShape.{MarkShape}
 use Rattle.records.specs.MarkShapes.{shape, shapeOf}
 use Rattle.records.specs.Record.{mark, size, issue, keyIn, keyWidth, keyOf, value, rangesHold, fault}
 use Rattle.records.specs.Answers.{orElse, refuseIf}
-use Rattle.records.specs.declared.Found.the-variants.{Record}
-use Rattle.records.specs.Walk.{found}
-use Rattle.records.specs.Dossier.{firstOf, restOf, recordsIn, records, firstDrawn, scan}
+use Rattle.records.specs.Dossier.{records, firstDrawn, scan}
 use Rattle.records.proofs.Record.{mark-nil, size-ge, faultless}
 use Rattle.records.proofs.MarkShapes.{shape-width}
 use Rattle.records.proofs.Answers.{orElse-parts}
-use Rattle.records.proofs.Dossier.{first-mark, first-length, records-step, scan-each}
+use Rattle.records.proofs.Dossier.{scan-each}
 use Rattle.records.proofs.Read.{number-take, value-take}
+use Rattle.records.proofs.Over.{tail, Over, begins, ends, its-known, its-fault, its-mark, its-length as record-length, its-found, within, answers, goes-on as goes-over}
 use Rattle.station.specs.Current.{current, twin, twins, readable}
 use Rattle.station.specs.Parameters.{parameters, technology}
 use Rattle.station.specs.Declared.{CurrentOf, absent, standing, Distinct}
 use Rattle.station.proofs.Current.{current-found, matches-self}
 use Rattle.station.proofs.Twins.{twins-distinct}
 use Rattle.index.specs.Slots.{narrow, slotAt, slot, slotsEmpty}
-use Rattle.index.proofs.Slots.{Spans, InKey, in-key, at-mark, low, high, limits, in-empty}
-use Rattle.index.proofs.Turn.{tail, its-slot as found-slot}
+use Rattle.index.proofs.KeyBounds.{Spans, InKey, in-key, at-mark}
+use Rattle.index.proofs.Slots.{low, high, limits, in-empty}
+use Rattle.index.proofs.Turn.{its-slot as found-slot}
 use Rattle.lookup.specs.Parts.{part, partAt, Indexed, Complete, UpTo}
 use Rattle.lookup.proofs.Parts.{part-current, current-none, current-in-empty, slot-fits, item-key}
 use Rattle.rules.specs.Fit.{Known, holds, fieldFits, ruleFits, fits, isCurrent, unfit}
@@ -55,8 +55,8 @@ rule-take t k s = go (eqb k AD) refl (eqb k TH) refl
     at j i e = rw e (value-take j i s)
 
     go : (a : Bool) → eqb k AD ≡ a → (b : Bool) → eqb k TH ≡ b
-        → cond a (holds t (value AD 2 (take (size k) s)) && (not (eqb (value AD 1 (take (size k) s)) 5) || (eqb t 2 && eqb (value AD 2 (take (size k) s)) 1))) (cond b (holds t (value TH 1 (take (size k) s))) true)
-        ≡ cond a (holds t (value AD 2 s) && (not (eqb (value AD 1 s) 5) || (eqb t 2 && eqb (value AD 2 s) 1))) (cond b (holds t (value TH 1 s)) true)
+        → cond a (holds t (value AD 2 (take (size k) s)) && (not (eqb (value AD 1 (take (size k) s)) 5) || (eqb t nuclear && eqb (value AD 2 (take (size k) s)) 1))) (cond b (holds t (value TH 1 (take (size k) s))) true)
+        ≡ cond a (holds t (value AD 2 s) && (not (eqb (value AD 1 s) 5) || (eqb t nuclear && eqb (value AD 2 s) 1))) (cond b (holds t (value TH 1 s)) true)
     go true e b f = rw (at AD 1 (eqb-true k AD e), at AD 2 (eqb-true k AD e)) refl
     go false e true f = rw (at TH 1 (eqb-true k TH f)) refl
     go false e false f = refl
@@ -125,54 +125,54 @@ module _ (t : ℕ) (d ix rs : List ℕ) (top : ℕ) where
   empty-fit : (k n : ℕ) → eqb (getD ix (slot k n) 0) 0 ≡ true → Fit k n
   empty-fit k n e s _ _ _ _ z = absurd (false≢true (sym z ∙ e))
 
-  module _ (known : Known t) (same : rs ≡ current 1 0 (records d)) (e : allFit t d ix rs top ≡ true) where
-    placed : eqb t 4 || not (ltb narrow (length ix)) ≡ true
+  module _ (known : Known t) (same : rs ≡ current RS 0 (records d)) (e : allFit t d ix rs top ≡ true) where
+    placed : eqb t hydro || not (ltb narrow (length ix)) ≡ true
     unfolding allFit
     placed = and-left _ _ e
 
-    parts : (fits t 1 rs && pointsFit t ix && profilesFit t d && allTo 4 (levelFits t ix) ≡ true) × (proratedFit t ix ≡ true) × (pricedFit t ix top ≡ true)
+    parts : (fits t RS rs && pointsFit t ix && profilesFit t d && allTo 4 (levelFits t ix) ≡ true) × (proratedFit t ix ≡ true) × (pricedFit t ix top ≡ true)
     unfolding allFit
-    parts = three _ _ _ (and-right (eqb t 4 || not (ltb narrow (length ix))) _ e)
+    parts = three _ _ _ (and-right (eqb t hydro || not (ltb narrow (length ix))) _ e)
 
-    first-parts : (fits t 1 rs && pointsFit t ix ≡ true) × (profilesFit t d ≡ true) × (allTo 4 (levelFits t ix) ≡ true)
+    first-parts : (fits t RS rs && pointsFit t ix ≡ true) × (profilesFit t d ≡ true) × (allTo 4 (levelFits t ix) ≡ true)
     first-parts = three _ _ _ (parts .0)
 
-    fit-rs : (n : ℕ) → InKey 1 n → Fit 1 n
+    fit-rs : (n : ℕ) → InKey RS n → Fit RS n
     unfolding Spans shapeOf shape rowOf table
     fit-rs n q s _ _ c _ _ =
         let z : n ≡ 0 = omega (arith, q .spans) in
-        subst (λ (r : List ℕ). fits t 1 r ≡ true) (same ∙ ap (λ (i : ℕ). current 1 i (records d)) (sym z) ∙ c) (and-left (fits t 1 rs) (pointsFit t ix) (first-parts .0))
+        subst (λ (r : List ℕ). fits t RS r ≡ true) (same ∙ ap (λ (i : ℕ). current RS i (records d)) (sym z) ∙ c) (and-left (fits t RS rs) (pointsFit t ix) (first-parts .0))
 
-    fit-hp : (n : ℕ) → InKey 2 n → Fit 2 n
+    fit-hp : (n : ℕ) → InKey HP n → Fit HP n
     unfolding low high
     fit-hp n q =
-        split (eqb t 1)
+        split (eqb t thermal)
         (λ w s _ _ _ _ _. sym (fits-hp t s known) ∙ w)
-        (λ w. empty-fit 2 n (in-empty ix 1 21 (slot 2 n) (or-right (eqb t 1) _ w (and-right (fits t 1 rs) (pointsFit t ix) (first-parts .0))) (omega (arith, limits 2 n q)) (omega (arith, limits 2 n q))))
+        (λ w. empty-fit HP n (in-empty ix 1 21 (slot HP n) (or-right (eqb t thermal) _ w (and-right (fits t RS rs) (pointsFit t ix) (first-parts .0))) (omega (arith, limits HP n q)) (omega (arith, limits HP n q))))
 
     -- FU and MM of a profile, of a station that is not thermal
-    profile-parts : eqb t 1 ≡ false → (p : ℕ) → 1 ≤ p → p ≤ 4 → (fits t 3 (current 3 p (records d)) ≡ true) × (itemsFit t d p ≡ true)
+    profile-parts : eqb t thermal ≡ false → (p : ℕ) → 1 ≤ p → p ≤ 4 → (fits t FU (current FU p (records d)) ≡ true) × (itemsFit t d p ≡ true)
     unfolding profilesFit
     profile-parts w p a b =
-        let z = to-at 4 (λ p. fits t 3 (current 3 p (records d)) && itemsFit t d p) (or-right (eqb t 1) _ w (first-parts .1)) p a b in
-        (and-left _ _ z, and-right (fits t 3 (current 3 p (records d))) _ z)
+        let z = to-at 4 (λ p. fits t FU (current FU p (records d)) && itemsFit t d p) (or-right (eqb t thermal) _ w (first-parts .1)) p a b in
+        (and-left _ _ z, and-right (fits t FU (current FU p (records d))) _ z)
 
-    fit-fu : (n : ℕ) → InKey 3 n → Fit 3 n
+    fit-fu : (n : ℕ) → InKey FU n → Fit FU n
     unfolding Spans shapeOf shape rowOf table
     fit-fu n q =
-        split (eqb t 1)
-        (λ w s _ _ _ _ _. sym (fits-fu t s known) ∙ rw (eqb-true t 1 w) refl)
-        (λ w s _ _ c _ _. subst (λ (r : List ℕ). fits t 3 r ≡ true) c (profile-parts w n (omega (arith, q .spans)) (omega (arith, q .spans)) .0))
+        split (eqb t thermal)
+        (λ w s _ _ _ _ _. sym (fits-fu t s known) ∙ rw (eqb-true t thermal w) refl)
+        (λ w s _ _ c _ _. subst (λ (r : List ℕ). fits t FU r ≡ true) c (profile-parts w n (omega (arith, q .spans)) (omega (arith, q .spans)) .0))
 
-    fit-mm : (n : ℕ) → InKey 5 n → Fit 5 n
+    fit-mm : (n : ℕ) → InKey MM n → Fit MM n
     unfolding itemsFit Spans shapeOf shape rowOf table
     fit-mm n q =
-        split (eqb t 1)
+        split (eqb t thermal)
         (λ w s _ _ _ _ _. sym (fits-mm t s known) ∙ rw w refl)
         (λ w s _ _ c _ _.
         let z = profile-parts w (n / 256) (omega (arith, q .spans)) (omega (arith, q .spans)) .1 in
         let k : n / 256 * 256 + n % 256 ≡ n = omega arith in
-        subst (λ (r : List ℕ). fits t 5 r ≡ true) (ap (λ (i : ℕ). current 5 i (records d)) k ∙ c) (to-at 8 (λ j. fits t 5 (current 5 (n / 256 * 256 + j) (records d))) z (n % 256) (omega (arith, q .spans)) (omega (arith, q .spans))))
+        subst (λ (r : List ℕ). fits t MM r ≡ true) (ap (λ (i : ℕ). current MM i (records d)) k ∙ c) (to-at 8 (λ j. fits t MM (current MM (n / 256 * 256 + j) (records d))) z (n % 256) (omega (arith, q .spans)) (omega (arith, q .spans))))
 
     -- a level that is not held has no slot of AD and none of TH
     unheld : (v : ℕ) → holds t v ≡ false → 1 ≤ v → v ≤ 4 → (fourthsEmpty ix (25 + v) 20 ≡ true) × (fourthsEmpty ix (153 + v) 3 ≡ true)
@@ -181,49 +181,49 @@ module _ (t : ℕ) (d ix rs : List ℕ) (top : ℕ) where
         let z = or-right (holds t v) _ w (to-at 4 (levelFits t ix) (first-parts .2) v a b) in
         (and-left _ _ z, and-right (fourthsEmpty ix (25 + v) 20) _ z)
 
-    fit-th : (n : ℕ) → InKey 9 n → Fit 9 n
+    fit-th : (n : ℕ) → InKey TH n → Fit TH n
     unfolding slot keyWidth keyIn Spans shapeOf shape rowOf table
     fit-th n q =
         split (holds t (n % 256))
         (λ w s g i _ _ _. held-th t s known g (rw (← i) at w))
-        (λ w. empty-fit 9 n (in-fourths ix (153 + n % 256) 3 (n / 256 - 1) (slot 9 n) (unheld (n % 256) w (omega (arith, q .spans)) (omega (arith, q .spans)) .1) (omega (arith, q .spans)) (omega (arith, q .spans))))
+        (λ w. empty-fit TH n (in-fourths ix (153 + n % 256) 3 (n / 256 - 1) (slot TH n) (unheld (n % 256) w (omega (arith, q .spans)) (omega (arith, q .spans)) .1) (omega (arith, q .spans)) (omega (arith, q .spans))))
 
     -- an AD of cost 5 would stand in one of four slots of its profile
-    prorated : eqb t 2 ≡ false → (n : ℕ) → InKey 4 n → n / 256 % 256 ≡ 5 → eqb (getD ix (slot 4 n) 0) 0 ≡ true
+    prorated : eqb t nuclear ≡ false → (n : ℕ) → InKey AD n → n / 256 % 256 ≡ 5 → eqb (getD ix (slot AD n) 0) 0 ≡ true
     unfolding slot Spans shapeOf shape rowOf table
     prorated w n q five =
         let p = n / 65536 - 1 in
-        in-empty ix (42 + 20 * p) 4 (slot 4 n) (below-at 4 (λ p. slotsEmpty ix (42 + 20 * p) 4) (or-right (eqb t 2) _ w (parts .1)) p (omega (arith, q .spans))) (omega (arith, q .spans, five)) (omega (arith, q .spans, five))
+        in-empty ix (42 + 20 * p) 4 (slot AD n) (below-at 4 (λ p. slotsEmpty ix (42 + 20 * p) 4) (or-right (eqb t nuclear) _ w (parts .1)) p (omega (arith, q .spans))) (omega (arith, q .spans, five)) (omega (arith, q .spans, five))
 
-    fit-ad : (n : ℕ) → InKey 4 n → Fit 4 n
+    fit-ad : (n : ℕ) → InKey AD n → Fit AD n
     unfolding slot keyWidth keyIn Spans shapeOf shape rowOf table
     fit-ad n q =
         split (holds t (n % 256))
         (λ w s g i _ _ z.
         held-ad t s known g (rw (← i) at w)
-        (λ five. split (eqb t 2) (eqb-true t 2) (λ x. absurd (false≢true (sym z ∙ prorated x n q (sym (ap (λ (m : ℕ). m / 256 % 256) i) ∙ five))))))
-        (λ w. empty-fit 4 n (in-fourths ix (25 + n % 256) 20 (5 * (n / 65536 - 1) + (n / 256 % 256 - 1)) (slot 4 n) (unheld (n % 256) w (omega (arith, q .spans)) (omega (arith, q .spans)) .0) (omega (arith, q .spans)) (omega (arith, q .spans))))
+        (λ five. split (eqb t nuclear) (eqb-true t nuclear) (λ x. absurd (false≢true (sym z ∙ prorated x n q (sym (ap (λ (m : ℕ). m / 256 % 256) i) ∙ five))))))
+        (λ w. empty-fit AD n (in-fourths ix (25 + n % 256) 20 (5 * (n / 65536 - 1) + (n / 256 % 256 - 1)) (slot AD n) (unheld (n % 256) w (omega (arith, q .spans)) (omega (arith, q .spans)) .0) (omega (arith, q .spans)) (omega (arith, q .spans))))
 
     -- HR, CH and LC: storage, or there is none
-    fit-priced : (k n : ℕ) → ((s : List ℕ) → eqb t 3 ≡ fits t k s) → 166 ≤ slot k n → slot k n < 2351 → Fit k n
+    fit-priced : (k n : ℕ) → ((s : List ℕ) → eqb t storage ≡ fits t k s) → 166 ≤ slot k n → slot k n < 2351 → Fit k n
     fit-priced k n f a b =
         split (ltb top 166)
         (λ w s _ _ _ g _. absurd (omega (arith, a, g, ltb-true top 166 w)))
         (λ w.
-        split (eqb t 3)
+        split (eqb t storage)
         (λ x s _ _ _ _ _. sym (f s) ∙ x)
         (λ x. empty-fit k n (in-empty ix 166 2185 (slot k n) (and-right (not (ltb (length ix) narrow)) _ (rw (w, x) at (parts .2))) a b)))
 
     -- a slot beyond the index is empty
-    fit-fp : (n : ℕ) → InKey 10 n → Fit 10 n
+    fit-fp : (n : ℕ) → InKey FP n → Fit FP n
     unfolding low
     fit-fp n q =
-        split (eqb t 4)
+        split (eqb t hydro)
         (λ w s _ _ _ _ _. sym (fits-fp t s known) ∙ w)
         (λ w.
         split (ltb narrow (length ix))
         (λ x. absurd (false≢true (rw (w, x) at placed)))
-        (λ x. empty-fit 10 n (rw (List·getD-eq-default ix 0 {n = slot 10 n} (omega (arith, ltb-false narrow (length ix) x, limits 10 n q))) refl)))
+        (λ x. empty-fit FP n (rw (List·getD-eq-default ix 0 {n = slot FP n} (omega (arith, ltb-false narrow (length ix) x, limits FP n q))) refl)))
 
     fit : (k n : ℕ) → InKey k n → Fit k n
     unfolding low high
@@ -235,11 +235,11 @@ module _ (t : ℕ) (d ix rs : List ℕ) (top : ℕ) where
         (fit-ad n)
         (fit-mm n)
         (λ q s _ _ _ _ _. sym (fits-rq t s known))
-        (λ q. fit-priced 7 n (λ s. fits-hr t s known) (omega (arith, limits 7 n q)) (omega (arith, limits 7 n q)))
-        (λ q. fit-priced 8 n (λ s. fits-ch t s known) (omega (arith, limits 8 n q)) (omega (arith, limits 8 n q)))
+        (λ q. fit-priced HR n (λ s. fits-hr t s known) (omega (arith, limits HR n q)) (omega (arith, limits HR n q)))
+        (λ q. fit-priced CH n (λ s. fits-ch t s known) (omega (arith, limits CH n q)) (omega (arith, limits CH n q)))
         (fit-th n)
         (fit-fp n)
-        (λ q. fit-priced 11 n (λ s. fits-lc t s known) (omega (arith, limits 11 n q)) (omega (arith, limits 11 n q)))
+        (λ q. fit-priced LC n (λ s. fits-lc t s known) (omega (arith, limits LC n q)) (omega (arith, limits LC n q)))
         p
 
     module _ (h : Indexed d ix) (complete : Complete d ix) (highest : UpTo d top) (distinct : Distinct (records d)) where
@@ -262,51 +262,51 @@ module _ (t : ℕ) (d ix rs : List ℕ) (top : ℕ) where
 -- ---- the tests of slots
 
 -- RS of a thermal station
-pub rs-thermal : (s : List ℕ) → ltb 0 (number 9 2 s) && eqb (number 19 4 s) 0 && eqb (number 23 4 s) 0 && eqb (number 27 2 s) 0 && eqb (number 29 2 s) 0 ≡ fits 1 1 s
+pub rs-thermal : (s : List ℕ) → ltb 0 (number 9 2 s) && eqb (number 19 4 s) 0 && eqb (number 23 4 s) 0 && eqb (number 27 2 s) 0 && eqb (number 29 2 s) 0 ≡ fits thermal RS s
 rs-thermal s =
-    subst (λ (b : Bool). b && eqb (number 19 4 s) 0 && eqb (number 23 4 s) 0 && eqb (number 27 2 s) 0 && eqb (number 29 2 s) 0 ≡ fits 1 1 s)
+    subst (λ (b : Bool). b && eqb (number 19 4 s) 0 && eqb (number 23 4 s) 0 && eqb (number 27 2 s) 0 && eqb (number 29 2 s) 0 ≡ fits thermal RS s)
     (and-true (ltb 0 (number 9 2 s) && true) ∙ and-true (ltb 0 (number 9 2 s)))
-    (fits-rs 1 s (omega arith, omega arith))
+    (fits-rs thermal s (omega arith, omega arith))
 
 pub fourths-next : (ix : List ℕ) (j i a : ℕ) → eqb a 0 ≡ fourthsEmpty ix j i → eqb (bitOr a (getD ix (j + 4 * i) 0)) 0 ≡ fourthsEmpty ix j (i + 1)
 unfolding fourthsEmpty allBelow
 fourths-next ix j i a e = or-none a (getD ix (j + 4 * i) 0) ∙ rw (e, add-one i) refl
 
 -- an index with slots for FP, of another station than a hydroelectric one
-pub other-wide : (t : ℕ) (d ix rs : List ℕ) (top : ℕ) → not (eqb t 4) && ltb narrow (length ix) ≡ true → false ≡ allFit t d ix rs top
+pub other-wide : (t : ℕ) (d ix rs : List ℕ) (top : ℕ) → not (eqb t hydro) && ltb narrow (length ix) ≡ true → false ≡ allFit t d ix rs top
 unfolding allFit
-other-wide t d ix rs top = go (eqb t 4) (ltb narrow (length ix))
+other-wide t d ix rs top = go (eqb t hydro) (ltb narrow (length ix))
   where
-    go : (a b : Bool) → not a && b ≡ true → false ≡ (a || not b) && (fits t 1 rs && pointsFit t ix && profilesFit t d && allTo 4 (levelFits t ix) && proratedFit t ix && pricedFit t ix top)
+    go : (a b : Bool) → not a && b ≡ true → false ≡ (a || not b) && (fits t RS rs && pointsFit t ix && profilesFit t d && allTo 4 (levelFits t ix) && proratedFit t ix && pricedFit t ix top)
     go true b e = absurd (false≢true e)
     go false true e = refl
     go false false e = absurd (false≢true e)
 
 -- and any other
-pub by-slots : (t : ℕ) (d ix rs : List ℕ) (top : ℕ) → not (eqb t 4) && ltb narrow (length ix) ≡ false → {x : Bool} → x ≡ fits t 1 rs && pointsFit t ix && profilesFit t d && allTo 4 (levelFits t ix) && proratedFit t ix && pricedFit t ix top → x ≡ allFit t d ix rs top
+pub by-slots : (t : ℕ) (d ix rs : List ℕ) (top : ℕ) → not (eqb t hydro) && ltb narrow (length ix) ≡ false → {x : Bool} → x ≡ fits t RS rs && pointsFit t ix && profilesFit t d && allTo 4 (levelFits t ix) && proratedFit t ix && pricedFit t ix top → x ≡ allFit t d ix rs top
 unfolding allFit
-by-slots t d ix rs top h {x = x} f = go (eqb t 4) (ltb narrow (length ix)) h
+by-slots t d ix rs top h {x = x} f = go (eqb t hydro) (ltb narrow (length ix)) h
   where
-    go : (a b : Bool) → not a && b ≡ false → x ≡ (a || not b) && (fits t 1 rs && pointsFit t ix && profilesFit t d && allTo 4 (levelFits t ix) && proratedFit t ix && pricedFit t ix top)
+    go : (a b : Bool) → not a && b ≡ false → x ≡ (a || not b) && (fits t RS rs && pointsFit t ix && profilesFit t d && allTo 4 (levelFits t ix) && proratedFit t ix && pricedFit t ix top)
     go true b e = f
     go false true e = absurd (false≢true (sym e))
     go false false e = f
 
 -- an item that is not there fits
-item-none : (t : ℕ) → Known t → fits t 5 [] ≡ true
+item-none : (t : ℕ) → Known t → fits t MM [] ≡ true
 unfolding number
-item-none t known = sym (fits-mm t [] known) ∙ go (eqb t 1)
+item-none t known = sym (fits-mm t [] known) ∙ go (eqb t thermal)
   where
     go : (b : Bool) → b || true ≡ true
     go true = refl
     go false = refl
 
 -- a profile whose slots of MM are empty has no item
-pub no-items : (t : ℕ) (d ix : List ℕ) (p : ℕ) → Known t → Indexed d ix → 1 ≤ p → p ≤ 4 → {j : ℕ} → j ≡ slot 5 (p * 256 + 1) → slotsEmpty ix j 8 ≡ true → true ≡ itemsFit t d p
+pub no-items : (t : ℕ) (d ix : List ℕ) (p : ℕ) → Known t → Indexed d ix → 1 ≤ p → p ≤ 4 → {j : ℕ} → j ≡ slot MM (p * 256 + 1) → slotsEmpty ix j 8 ≡ true → true ≡ itemsFit t d p
 unfolding itemsFit slot
-no-items t d ix p known h a b {j} q e = sym (at-to 8 (λ i. fits t 5 (current 5 (p * 256 + i) (records d))) one)
+no-items t d ix p known h a b {j} q e = sym (at-to 8 (λ i. fits t MM (current MM (p * 256 + i) (records d))) one)
   where
-    one : (i : ℕ) → 1 ≤ i → i ≤ 8 → fits t 5 (current 5 (p * 256 + i) (records d)) ≡ true
+    one : (i : ℕ) → 1 ≤ i → i ≤ 8 → fits t MM (current MM (p * 256 + i) (records d)) ≡ true
     one i c z =
         let k = item-key p i a b c z in
         rw (current-in-empty d ix h 5 (p * 256 + i) k (slot-fits d ix h 5 (p * 256 + i) refl k refl) j 8 e (omega (arith, q)) (omega (arith, q))) (item-none t known)
@@ -343,81 +343,67 @@ pub unfit-current : (d ix s : List ℕ) (f : Bool) → f ≡ false → {a b j n 
 unfolding notFit
 unfit-current d ix s f e ej en p q r = rw (e, q, r, p, ej, en, and-true (eqb (number 2 4 s) (number 2 4 (partAt d ix (slotAt (mark s) s) (size (mark s)))))) refl
 
--- from place p on the first unfit record is that of the whole, no record is at fault, and each has a slot
-pub record Left (t : ℕ) (d ix : List ℕ) (p : ℕ) : Type 0 where
-  pub answer : firstDrawn (λ q r. refuseIf (isCurrent (records d) r && not (fits t (mark r) r)) 6 q) p (records (drop p d)) ≡ unfit t (records d)
-  pub clean : Each (λ r. fault r ≡ 0) (records (drop p d))
-  pub slotted : Each (λ r. slot (mark r) (keyOf r) < length ix) (records (drop p d))
+-- 6 from a place on; there is no state
+abbrev sought : ℕ → List (List ℕ) → ℕ → ℕ → List (List ℕ) → Answer
+sought t all _ p l = firstDrawn (λ q r. refuseIf (isCurrent all r && not (fits t (mark r) r)) 6 q) p l
+
+-- a record without fault, for which the index has a slot
+abbrev Slotted : List ℕ → List ℕ → Type 0
+Slotted ix r = (fault r ≡ 0) × (slot (mark r) (keyOf r) < length ix)
+
+slotted-clean : (ix r : List ℕ) → Slotted ix r → fault r ≡ 0
+slotted-clean ix r e = e .0
+
+-- at place p of the loop
+abbrev pub Left : ℕ → List ℕ → List ℕ → ℕ → Type 0
+Left t d ix p = Over (Slotted ix) (sought t (records d)) 0 d p 0
 
 pub begin : (t : ℕ) (d ix : List ℕ) → Indexed d ix → Complete d ix → Left t d ix 0
-unfolding unfit
-begin t d ix h c = record { answer = refl; clean = scan-each 0 (records d) (h .clean); slotted = c }
+begin t d ix h c = begins (each-both (scan-each 0 (records d) (h .clean)) c)
 
 pub finish : (t : ℕ) (d ix : List ℕ) (p : ℕ) → length d ≤ p → Left t d ix p → Accepted ≡ unfit t (records d)
-unfolding firstDrawn records recordsIn
-finish t d ix p h left = rw (drop-of-length-le d {i = p} h) at (left .answer)
+unfolding firstDrawn unfit
+finish t d ix p h left = ends h left
 
-both-parts : {P : List ℕ → Type 0} {r : List ℕ} {l : List (List ℕ)} → Each P (r ∷ l) → P r × Each P l
-both-parts (also h e) = (h, e)
+module _ (t : ℕ) (d ix : List ℕ) (h : Indexed d ix) (p : ℕ) (inside : p < length d) (left : Left t d ix p) {n : ℕ} (en : n ≡ size (mark (take (length d - p) (drop p d)))) where
+  abbrev r : List ℕ
+  r = take n (drop p d)
 
-module _ (t : ℕ) (d ix : List ℕ) (h : Indexed d ix) (p : ℕ) (inside : p < length d) (left : Left t d ix p) where
-  step : records (drop p d) ≡ firstOf (drop p d) ∷ records (restOf (drop p d))
-  step = records-step (drop p d) (simp length-drop (omega arith))
+  abbrev s : List ℕ
+  s = drop p d
 
-  clean-parts : (fault (firstOf (drop p d)) ≡ 0) × Each (λ r. fault r ≡ 0) (records (restOf (drop p d)))
-  clean-parts = both-parts (subst (λ (l : List (List ℕ)). Each (λ r. fault r ≡ 0) l) step (left .clean))
+  pub its-length : (1 ≤ n) × (n ≤ length d - p)
+  its-length = within (slotted-clean ix) inside left en
 
-  slot-parts : (slot (mark (firstOf (drop p d))) (keyOf (firstOf (drop p d))) < length ix) × Each (λ r. slot (mark r) (keyOf r) < length ix) (records (restOf (drop p d)))
-  slot-parts = both-parts (subst (λ (l : List (List ℕ)). Each (λ r. slot (mark r) (keyOf r) < length ix) l) step (left .slotted))
+  clean : fault r ≡ 0
+  clean = its-fault (slotted-clean ix) inside left en
 
-  its-found : found (drop p d) ≡ Record (mark (drop p d)) (size (mark (drop p d)))
-  unfolding found
-  its-found = rw (eq-eqb (fault (firstOf (drop p d))) 0 (clean-parts .0)) refl
+  n-is : n ≡ size (mark s)
+  n-is = en ∙ ap (λ (x : List ℕ). size (mark x)) (tail d p)
 
-  its-slot : slot (mark (firstOf (drop p d))) (keyOf (firstOf (drop p d))) ≡ slotAt (mark (drop p d)) (drop p d)
-  unfolding firstOf
-  its-slot = found-slot (drop p d) (mark (drop p d)) (size (mark (drop p d))) its-found
+  its-slot : slot (mark r) (keyOf r) ≡ slotAt (mark s) s
+  its-slot = found-slot s (mark s) n (its-found (slotted-clean ix) inside left en)
 
-  pub slot-below : slotAt (mark (take (length d - p) (drop p d))) (take (length d - p) (drop p d)) < length ix
-  slot-below = rw (tail d p, ← its-slot) (slot-parts .0)
+  pub slot-below : slotAt (mark (take (length d - p) s)) (take (length d - p) s) < length ix
+  slot-below = rw (tail d p, ← its-slot) (its-known (slotted-clean ix) inside left en .1)
 
-  module _ {n : ℕ} (en : n ≡ size (mark (take (length d - p) (drop p d)))) where
-    n-is : n ≡ size (mark (drop p d))
-    n-is = en ∙ ap (λ (s : List ℕ). size (mark s)) (tail d p)
+  module _ {b f : Bool} (ef : f ≡ fits t (mark (take (length d - p) s)) (take (length d - p) s)) (eb : b ≡ notFit d ix (take (length d - p) s) f) where
+    part-is : partAt d ix (slotAt (mark s) s) (size (mark s)) ≡ current (mark r) (keyOf r) (records d)
+    part-is =
+        part-current d ix h (mark r) (keyOf r) (in-key r clean) (its-known (slotted-clean ix) inside left en .1) (sym its-slot) (ap size (sym (its-mark (slotted-clean ix) inside left en)))
 
-    pub its-length : (1 ≤ n) × (n ≤ length d - p)
-    unfolding firstOf
-    its-length =
-        let s : List ℕ = drop p d in
-        let w = first-length s (clean-parts .0) in
-        (omega (arith, n-is, size-ge (mark s)), omega (arith, n-is, w, length-take (size (mark s)) s, length-drop p d))
+    test : b ≡ isCurrent (records d) r && not (fits t (mark r) r)
+    unfolding isCurrent issue notFit
+    test =
+        let v : f ≡ fits t (mark r) r =
+        ef ∙ ap (λ (x : List ℕ). fits t (mark x) x) (tail d p) ∙ sym (fits-take t (mark s) s) ∙ ap (λ (m : ℕ). fits t (mark s) (take m s)) (sym n-is)
+        ∙ ap (λ (k : ℕ). fits t k r) (sym (its-mark (slotted-clean ix) inside left en)) in
+        eb ∙ rw (tail d p, part-is, v, number-take n 2 4 s (omega (arith, n-is, size-ge (mark s)))) refl
 
-    module _ {b f : Bool} (ef : f ≡ fits t (mark (take (length d - p) (drop p d))) (take (length d - p) (drop p d))) (eb : b ≡ notFit d ix (take (length d - p) (drop p d)) f) where
-      part-is : partAt d ix (slotAt (mark (drop p d)) (drop p d)) (size (mark (drop p d))) ≡ current (mark (firstOf (drop p d))) (keyOf (firstOf (drop p d))) (records d)
-      part-is =
-          let r : List ℕ = firstOf (drop p d) in
-          part-current d ix h (mark r) (keyOf r) (in-key r (clean-parts .0)) (slot-parts .0) (sym its-slot) (ap size (sym (first-mark (drop p d))))
+    pub refuses : b ≡ true → Refused 6 p ≡ unfit t (records d)
+    unfolding firstDrawn orElse refuseIf unfit
+    refuses e = answers (slotted-clean ix) inside left en (rw (sym test ∙ e) refl)
 
-      test : b ≡ isCurrent (records d) (firstOf (drop p d)) && not (fits t (mark (firstOf (drop p d))) (firstOf (drop p d)))
-      unfolding isCurrent issue firstOf notFit
-      test =
-          let s : List ℕ = drop p d in
-          let v : f ≡ fits t (mark (firstOf s)) (firstOf s) =
-          ef ∙ ap (λ (x : List ℕ). fits t (mark x) x) (tail d p) ∙ sym (fits-take t (mark s) s) ∙ ap (λ (k : ℕ). fits t k (firstOf s)) (sym (first-mark s)) in
-          eb ∙ rw (tail d p, part-is, v, number-take (size (mark s)) 2 4 s (size-ge (mark s))) refl
-
-      pub refuses : b ≡ true → Refused 6 p ≡ unfit t (records d)
-      unfolding firstDrawn orElse refuseIf
-      refuses e = rw (step, sym test ∙ e) at (left .answer)
-
-      pub goes-on : b ≡ false → Left t d ix (p + n)
-      unfolding firstDrawn orElse refuseIf restOf
-      goes-on e =
-          let s : List ℕ = drop p d in
-          let z = rw (step, sym test ∙ e, first-length s (clean-parts .0)) at (left .answer) in
-          rw n-is
-          (record {
-            answer = rw (← drop-drop (size (mark s)) p d) z;
-            clean = rw (← drop-drop (size (mark s)) p d) (clean-parts .1);
-            slotted = rw (← drop-drop (size (mark s)) p d) (slot-parts .1);
-          })
+    pub goes-on : b ≡ false → Left t d ix (p + n)
+    unfolding firstDrawn orElse refuseIf
+    goes-on e = goes-over (slotted-clean ix) inside left en (rw (sym test ∙ e, record-length (slotted-clean ix) inside left en) refl)

@@ -6,7 +6,7 @@ ghost use lib.Dec.{ltb, eqb};
 ghost use lib.ListN.{length};
 ghost use Rattle.fields.specs.Numbers.{number};
 ghost use Rattle.records.specs.declared.Answer.the-variants.{Accepted};
-ghost use Rattle.records.specs.Table.{kinds, RS};
+ghost use Rattle.records.specs.Table.{thermal, RS, FU, AD, MM, kinds};
 ghost use Rattle.records.specs.Record.{mark, size, keyWidth};
 ghost use Rattle.index.specs.Slots.{short, slotAt};
 ghost use Rattle.records.specs.Dossier.{records};
@@ -17,6 +17,7 @@ ghost use Rattle.rules.specs.Fit.{Known, fits, holds, unfit};
 ghost use Rattle.fit.specs.Looked.{tried, triedAs, fourthsEmpty, pointsFit, itemsFit, profilesFit, levelFits, proratedFit, pricedFit, allFit, notFit};
 use index::slots_empty;
 use records::Answer;
+use records::kinds;
 
 // A record's length, and whether it fits.
 pub struct Tried {
@@ -43,7 +44,7 @@ fn field_fits(used: bool, positive: bool, x: u32) -> bool
 // RS: what the technology uses is above 0, but for the heats, and the rest is 0.
 fn rs_fits(t: u8, s: &[u8]) -> bool
     requires { ⌜ Known t ⌝ }
-    ensures { λ r. ⌜ r ≡ fits t 1 (now (s .entry)) ⌝ }
+    ensures { λ r. ⌜ r ≡ fits t RS (now (s .entry)) ⌝ }
 {
     field_fits((t == 1) | (t == 2), true, fields::u16_at(s, 9) as u32)
         & field_fits(t == 1, false, fields::u32_at(s, 11))
@@ -56,7 +57,7 @@ fn rs_fits(t: u8, s: &[u8]) -> bool
 
 // The same of a thermal station: the commonest one is told sooner by what it doesn't use.
 fn rs_thermal(s: &[u8]) -> bool
-    ensures { λ r. ⌜ r ≡ fits 1 1 (now (s .entry)) ⌝ }
+    ensures { λ r. ⌜ r ≡ fits thermal RS (now (s .entry)) ⌝ }
 {
     (0 < fields::u16_at(s, 9))
         & (fields::u32_at(s, 19) == 0)
@@ -68,7 +69,7 @@ fn rs_thermal(s: &[u8]) -> bool
 // The current RS.
 fn station_fits(t: u8, rs: &[u8]) -> bool
     requires { ⌜ Known t ⌝ }
-    ensures { λ r. ⌜ r ≡ fits t 1 (now (rs .entry)) ⌝ }
+    ensures { λ r. ⌜ r ≡ fits t RS (now (rs .entry)) ⌝ }
 {
     if t == 1 {
         return rs_thermal(rs);
@@ -79,7 +80,7 @@ fn station_fits(t: u8, rs: &[u8]) -> bool
 // FU: a hydroelectric station has no fuel, and emission is thermal.
 fn fu_fits(t: u8, s: &[u8]) -> bool
     requires { ⌜ Known t ⌝ }
-    ensures { λ r. ⌜ r ≡ fits t 3 (now (s .entry)) ⌝ }
+    ensures { λ r. ⌜ r ≡ fits t FU (now (s .entry)) ⌝ }
 {
     ((t != 4) | (fields::u32_at(s, 7) == 0)) & ((t == 1) | (fields::u32_at(s, 11) == 0))
 }
@@ -87,7 +88,7 @@ fn fu_fits(t: u8, s: &[u8]) -> bool
 // AD: its level is held, and cost 5 is nuclear and level 1.
 fn ad_fits(t: u8, s: &[u8]) -> bool
     requires { ⌜ Known t ⌝ }
-    ensures { λ r. ⌜ r ≡ fits t 4 (now (s .entry)) ⌝ }
+    ensures { λ r. ⌜ r ≡ fits t AD (now (s .entry)) ⌝ }
 {
     let level = fields::u8_at(s, 8);
     level_held(t, level) & ((fields::u8_at(s, 7) != 5) | ((t == 2) & (level == 1)))
@@ -96,7 +97,7 @@ fn ad_fits(t: u8, s: &[u8]) -> bool
 // MM: hours for each start are thermal.
 fn mm_fits(t: u8, s: &[u8]) -> bool
     requires { ⌜ Known t ⌝ }
-    ensures { λ r. ⌜ r ≡ fits t 5 (now (s .entry)) ⌝ }
+    ensures { λ r. ⌜ r ≡ fits t MM (now (s .entry)) ⌝ }
 {
     (t == 1) | (fields::u16_at(s, 22) == 0)
 }
@@ -113,10 +114,10 @@ fn tried_keyless(t: u8, k: usize, s: &[u8]) -> Tried
     requires { ⌜ Known t × (k < kinds) × (keyWidth k ≡ 0) ⌝ }
     ensures { λ r. ⌜ r ≡ triedAs t k (now (s .entry)) ⌝ }
 {
-    if k == 1 {
+    if k == kinds::RS {
         return trial(records::RS.length, rs_fits(t, s));
     }
-    if k == 11 {
+    if k == kinds::LC {
         return trial(records::LC.length, t == 3);
     }
     trial(records::UNKNOWN.length, true)
@@ -128,31 +129,31 @@ fn tried_at(t: u8, s: &[u8]) -> Tried
     ensures { λ r. ⌜ r ≡ triedAs t (mark (now (s .entry))) (now (s .entry)) ⌝ }
 {
     let k = records::kind_at(s);
-    if k == 4 {
+    if k == kinds::AD {
         return trial(records::AD.length, ad_fits(t, s));
     }
-    if k == 5 {
+    if k == kinds::MM {
         return trial(records::MM.length, mm_fits(t, s));
     }
-    if k == 2 {
+    if k == kinds::HP {
         return trial(records::HP.length, t == 1);
     }
-    if k == 9 {
+    if k == kinds::TH {
         return trial(records::TH.length, level_held(t, fields::u8_at(s, 7)));
     }
-    if k == 3 {
+    if k == kinds::FU {
         return trial(records::FU.length, fu_fits(t, s));
     }
-    if k == 7 {
+    if k == kinds::HR {
         return trial(records::HR.length, t == 3);
     }
-    if k == 8 {
+    if k == kinds::CH {
         return trial(records::CH.length, t == 3);
     }
-    if k == 10 {
+    if k == kinds::FP {
         return trial(records::FP.length, t == 4);
     }
-    if k == 6 {
+    if k == kinds::RQ {
         return trial(records::RQ.length, true);
     }
     tried_keyless(t, k, s)

@@ -9,17 +9,16 @@ use lib.ListN.{length}
 use borrow.Author.Tests.{lt-ltb, le-ltb}
 use Rattle.fields.specs.Numbers.{number}
 use Rattle.fields.proofs.Numbers.{number-join}
-use Rattle.records.specs.declared.Found.{Found}
-use Rattle.records.specs.declared.Found.the-variants.{Record, Faulty}
 use Rattle.records.specs.Table.{table}
 use Rattle.records.specs.Record.{markIn, mark, size, rangesHold}
 use Rattle.records.specs.MarkShapes.{begins}
-use Rattle.records.specs.Walk.{found}
+use Rattle.records.specs.Walk.{Found, Record, Faulty, found}
 use Rattle.records.proofs.Read.{found-short, found-unknown, found-known, begun}
 use Rattle.index.specs.declared.Entry.{Entry}
+use Rattle.index.specs.declared.Reading.{Reading}
 use Rattle.index.specs.declared.Reading.the-variants.{Whole, Fault}
 use Rattle.index.specs.Slots.{slotAt}
-use Rattle.index.specs.Entries.{entry, entryAs, placed, readingOf, readingAs}
+use Rattle.index.specs.Entries.{entry, entryAs, placed, checked, readingOf, readingAs}
 
 -- ---- a key of two and three one-byte fields
 
@@ -36,13 +35,9 @@ module _ (k : ℕ) (s : List ℕ) where
   unfolding readingAs
   as-short h = rw (lt-ltb (length s) (size k) h) refl
 
-  pub as-whole : {e : Entry} → size k ≤ length s → rangesHold k s ≡ true → e ≡ entryAs k s → Whole e ≡ readingAs k s
+  pub as-long : {x : Reading} {b : Bool} {e : Entry} → size k ≤ length s → b ≡ rangesHold k s → e ≡ entryAs k s → x ≡ checked b e → x ≡ readingAs k s
   unfolding readingAs
-  as-whole h r q = rw (le-ltb (length s) (size k) h, r, q) refl
-
-  pub as-outside : size k ≤ length s → rangesHold k s ≡ false → Fault 3 ≡ readingAs k s
-  unfolding readingAs
-  as-outside h r = rw (le-ltb (length s) (size k) h, r) refl
+  as-long h r q z = z ∙ rw (le-ltb (length s) (size k) h, r, q) refl
 
 -- the entry of the rest's own mark
 pub entry-as : {k : ℕ} (s : List ℕ) → mark s ≡ k → entryAs k s ≡ entryAs (mark s) s

@@ -27,7 +27,8 @@ use Rattle.records.proofs.Read.{number-take}
 use Rattle.station.specs.Current.{matches, better, currentFrom, current, startFrom, startOf, twin, anyTwin, twins}
 use Rattle.station.proofs.Current.{matches-mark, matches-key, matches-self}
 use Rattle.index.specs.Slots.{slot, heldIssue, newer, Kept, kept, fresh, keepStep}
-use Rattle.index.proofs.Slots.{InKey, in-key, slot-apart}
+use Rattle.index.proofs.KeyBounds.{InKey, in-key}
+use Rattle.index.proofs.Slots.{slot-apart}
 
 -- a slot's value v holds record c, which stands at q, before place p of the dossier
 pub data Holds (len : ℕ) (d : List ℕ) (p v : ℕ) (c : List ℕ) (q : ℕ) : Type 0 where

@@ -1,3 +1,4 @@
+pub mod KeyBounds
 pub mod Slots
 pub mod Holds
 pub mod Turn

@@ -1,150 +1,24 @@
 -- Laws of the slots: where they lie, and no two keys share one.
 use mathlib.Core.Path.{_≡_, refl, ap, sym, subst, _∙_}
-use mathlib.Core.Bool.{Bool, true, false, cond, _&&_, _||_, not, false≢true}
+use mathlib.Core.Bool.{Bool, true, false, _||_, not, false≢true}
 use mathlib.Core.List.{List, [], _∷_}
 use Prim.Native.Nat.{ℕ, _+_, _*_, _-_, _/_, _%_, _≤_, _<_}
 use native.Mathlib.Omega.{arith}
-use lib.Dec.{leb, ltb, eqb, lit<}
+use lib.Dec.{leb, ltb, eqb}
 use lib.ListN.{getD}
-use borrow.Author.Tests.{lt-ltb, leb-true, ltb-true, eqb-true, ne-eqb}
-use Rattle.lists.specs.Tests.{allBelow, between, everyOf}
-use Rattle.lists.proofs.Tests.{and-left, and-right, and-both, between-low, between-high, in-between, below-at, everyOf-at}
+use borrow.Author.Tests.{leb-true, ltb-true, eqb-true, ne-eqb}
+use Rattle.lists.specs.Tests.{allBelow, everyOf}
+use Rattle.lists.proofs.Radix.{Under, none as no-more, more, product, rank, rank-lt, rank-same}
+use Rattle.lists.proofs.Tests.{below-at, everyOf-at}
 use Rattle.fields.specs.Numbers.{number}
 use Rattle.records.specs.declared.MarkShape.{MarkShape}
-use Rattle.records.specs.Table.{table, rowOf, fieldOf, CH, TH, FP, kinds}
-use Rattle.records.specs.Record.{mark, offsetIn, offset, read, value, keyIn, keyWidth, keyOf, inRange, rangesHold, fault}
-use Rattle.records.specs.MarkShapes.{shape, shapeOf, keyField, keyFits, keyTest}
-use Rattle.records.proofs.Record.{faultless, field-in}
-use Rattle.records.proofs.Marks.{mark-lt, by-mark}
+use Rattle.records.specs.Table.{table, rowOf, kinds, AD, HR, CH, TH, FP}
+use Rattle.records.specs.Record.{mark}
+use Rattle.records.specs.MarkShapes.{shape, shapeOf}
+use Rattle.index.proofs.KeyBounds.{Span, Spans, none, InKey, at-mark}
 use Rattle.index.specs.Slots.{slot, short, narrow, wide, slotsEmpty}
 
--- ---- keys: the numbers within the bounds of the code's table
-
-abbrev Span : MarkShape → ℕ → ℕ → Type 0
-Span m i x = (getD (m .lowest) i 0 ≤ x) × (x ≤ getD (m .highest) i 0)
-
--- a number's key fields; the tests: there is no second field, no third
-unfoldable pub Spans : Bool → Bool → MarkShape → ℕ → Type 0
-Spans true b m n = Span m 0 n
-Spans false true m n = Span m 0 (n / 256) × Span m 1 (n % 256)
-Spans false false m n = Span m 0 (n / 65536) × Span m 1 (n / 256 % 256) × Span m 2 (n % 256)
-
-abbrev none : MarkShape → ℕ → Bool
-none m i = eqb (getD (m .highest) i 0) 0
-
--- a number is a key of mark k
-pub record InKey (k n : ℕ) : Type 0 where
-  pub known : 1 ≤ k
-  pub low : k < kinds
-  pub spans : Spans (none (shapeOf k) 1) (none (shapeOf k) 2) (shapeOf k) n
-
-span-of : {lo hi x : ℕ} → between lo hi x ≡ true → (lo ≤ x) × (x ≤ hi)
-span-of {lo} {hi} {x} e = (between-low lo hi x e, between-high lo hi x e)
-
-of-span : (m : MarkShape) (i x : ℕ) → Span m i x → keyField m i x ≡ true
-unfolding keyField
-of-span m i x p = in-between (getD (m .lowest) i 0) (getD (m .highest) i 0) x (p .0) (p .1)
-
-to-span : (m : MarkShape) (i x : ℕ) → keyField m i x ≡ true → Span m i x
-unfolding keyField
-to-span m i x e = span-of e
-
--- the test of the code decides it
-pub test-key : (k n : ℕ) → k < kinds → keyTest k n ≡ true → InKey k n
-unfolding keyTest keyFits
-test-key k n h e =
-    record { known = ltb-true 0 k (and-left (ltb 0 k) (keyFits (shapeOf k) n) e); low = h; spans = go (shapeOf k) (none (shapeOf k) 1) (none (shapeOf k) 2) (and-right (ltb 0 k) (keyFits (shapeOf k) n) e) }
-  where
-    go : (m : MarkShape) (a b : Bool) → cond a (keyField m 0 n) (cond b (keyField m 0 (n / 256) && keyField m 1 (n % 256)) (keyField m 0 (n / 65536) && keyField m 1 (n / 256 % 256) && keyField m 2 (n % 256))) ≡ true → Spans a b m n
-    go m true b e = unfold Spans in to-span m 0 n e
-    go m false true e =
-        unfold Spans in
-        (to-span m 0 (n / 256) (and-left (keyField m 0 (n / 256)) (keyField m 1 (n % 256)) e), to-span m 1 (n % 256) (and-right (keyField m 0 (n / 256)) (keyField m 1 (n % 256)) e))
-    go m false false e =
-        let f = and-left (keyField m 0 (n / 65536) && keyField m 1 (n / 256 % 256)) (keyField m 2 (n % 256)) e in
-        unfold Spans in
-        (to-span m 0 (n / 65536) (and-left (keyField m 0 (n / 65536)) (keyField m 1 (n / 256 % 256)) f), to-span m 1 (n / 256 % 256) (and-right (keyField m 0 (n / 65536)) (keyField m 1 (n / 256 % 256)) f), to-span m 2 (n % 256) (and-right (keyField m 0 (n / 65536) && keyField m 1 (n / 256 % 256)) (keyField m 2 (n % 256)) e))
-
-pub key-test : (k n : ℕ) → InKey k n → keyTest k n ≡ true
-unfolding keyTest keyFits
-key-test k n p = and-both (ltb 0 k) (keyFits (shapeOf k) n) (lt-ltb 0 k (omega (arith, p .known))) (go (shapeOf k) (none (shapeOf k) 1) (none (shapeOf k) 2) (p .spans))
-  where
-    go : (m : MarkShape) (a b : Bool) → Spans a b m n → cond a (keyField m 0 n) (cond b (keyField m 0 (n / 256) && keyField m 1 (n % 256)) (keyField m 0 (n / 65536) && keyField m 1 (n / 256 % 256) && keyField m 2 (n % 256))) ≡ true
-    go m true b q = unfold Spans in of-span m 0 n q
-    go m false true q = unfold Spans in rw (of-span m 0 (n / 256) (q .0), of-span m 1 (n % 256) (q .1)) refl
-    go m false false q = unfold Spans in rw (of-span m 0 (n / 65536) (q .0), of-span m 1 (n / 256 % 256) (q .1), of-span m 2 (n % 256) (q .2)) refl
-
--- ---- a record without fault has a key of its mark
-
-Keyed : List ℕ → ℕ → Type 0
-Keyed r k = rangesHold k r ≡ true → Spans (none (shapeOf k) 1) (none (shapeOf k) 2) (shapeOf k) (number 6 (keyWidth k) r)
-
-module _ (r : List ℕ) where
-  keyed-rs : Keyed r 1
-  unfolding Keyed Spans shapeOf shape keyWidth keyIn rowOf table number
-  keyed-rs h = (omega arith, omega arith)
-
-  keyed-lc : Keyed r 11
-  unfolding Keyed Spans shapeOf shape keyWidth keyIn rowOf table number
-  keyed-lc h = (omega arith, omega arith)
-
-  keyed-hp : Keyed r 2
-  unfolding Keyed Spans shapeOf shape keyWidth keyIn inRange value read offset offsetIn fieldOf rowOf table
-  keyed-hp h = span-of (field-in 2 0 r h (lit< tt))
-
-  keyed-fu : Keyed r 3
-  unfolding Keyed Spans shapeOf shape keyWidth keyIn inRange value read offset offsetIn fieldOf rowOf table
-  keyed-fu h = span-of (field-in 3 0 r h (lit< tt))
-
-  keyed-rq : Keyed r 6
-  unfolding Keyed Spans shapeOf shape keyWidth keyIn inRange value read offset offsetIn fieldOf rowOf table
-  keyed-rq h = span-of (field-in 6 0 r h (lit< tt))
-
-  keyed-hr : Keyed r 7
-  unfolding Keyed Spans shapeOf shape keyWidth keyIn inRange value read offset offsetIn fieldOf rowOf table
-  keyed-hr h = span-of (field-in 7 0 r h (lit< tt))
-
-  keyed-ch : Keyed r 8
-  unfolding Keyed Spans shapeOf shape keyWidth keyIn inRange value read offset offsetIn fieldOf rowOf table
-  keyed-ch h = span-of (field-in 8 0 r h (lit< tt))
-
-  keyed-fp : Keyed r 10
-  unfolding Keyed Spans shapeOf shape keyWidth keyIn inRange value read offset offsetIn fieldOf rowOf table
-  keyed-fp h = span-of (field-in 10 0 r h (lit< tt))
-
-  keyed-mm : Keyed r 5
-  unfolding Keyed Spans shapeOf shape keyWidth keyIn inRange value read offset offsetIn fieldOf rowOf table number
-  keyed-mm h =
-      let a = span-of (field-in 5 0 r h (lit< tt)) in
-      let b = span-of (field-in 5 1 r h (lit< tt)) in
-      ((omega (arith, a, b), omega (arith, a, b)), (omega (arith, a, b), omega (arith, a, b)))
-
-  keyed-th : Keyed r 9
-  unfolding Keyed Spans shapeOf shape keyWidth keyIn inRange value read offset offsetIn fieldOf rowOf table number
-  keyed-th h =
-      let a = span-of (field-in 9 0 r h (lit< tt)) in
-      let b = span-of (field-in 9 1 r h (lit< tt)) in
-      ((omega (arith, a, b), omega (arith, a, b)), (omega (arith, a, b), omega (arith, a, b)))
-
-  keyed-ad : Keyed r 4
-  unfolding Keyed Spans shapeOf shape keyWidth keyIn inRange value read offset offsetIn fieldOf rowOf table number
-  keyed-ad h =
-      let a = span-of (field-in 4 0 r h (lit< tt)) in
-      let b = span-of (field-in 4 1 r h (lit< tt)) in
-      let c = span-of (field-in 4 2 r h (lit< tt)) in
-      ((omega (arith, a, b, c), omega (arith, a, b, c)), (omega (arith, a, b, c), omega (arith, a, b, c)), (omega (arith, a, b, c), omega (arith, a, b, c)))
-
-pub in-key : (r : List ℕ) → fault r ≡ 0 → InKey (mark r) (keyOf r)
-unfolding Keyed keyOf
-in-key r e =
-    let f = faultless r e in
-    record {
-      known = omega (arith, f .known);
-      low = mark-lt r;
-      spans = by-mark (Keyed r) (keyed-rs r) (keyed-hp r) (keyed-fu r) (keyed-ad r) (keyed-mm r) (keyed-rq r) (keyed-hr r) (keyed-ch r) (keyed-th r) (keyed-fp r) (keyed-lc r) (mark r) (f .known) (mark-lt r) (f .ranges);
-    }
-
--- ---- no two keys share a slot
+-- ---- a slot is a number in mixed radix: bounded, and no two keys share one
 
 -- where the slots of a mark begin and end
 unfoldable pub low : ℕ → ℕ
@@ -153,12 +27,84 @@ low k = getD (0 ∷ 0 ∷ 1 ∷ 22 ∷ 26 ∷ 106 ∷ 138 ∷ 166 ∷ 334 ∷ 15
 unfoldable pub high : ℕ → ℕ
 high k = getD (0 ∷ 0 ∷ 21 ∷ 25 ∷ 105 ∷ 137 ∷ 153 ∷ 333 ∷ 2349 ∷ 165 ∷ 6350 ∷ 2350 ∷ []) k 0
 
-pub at-mark : (P : ℕ → Type 0) (k n : ℕ) → InKey k n → P 1 → P 2 → P 3 → P 4 → P 5 → P 6 → P 7 → P 8 → P 9 → P 10 → P 11 → P k
-at-mark P k n p a b c d e f g h i j m = by-mark P a b c d e f g h i j m k (λ z. omega (arith, z, p .known)) (p .low)
+-- a key field less its lowest, and how many it has: digits of a number in mixed radix. The tests are those of `Spans`.
+abbrev digit : MarkShape → ℕ → ℕ → ℕ
+digit m i x = x - getD (m .lowest) i 0
+
+unfoldable digits : Bool → Bool → MarkShape → ℕ → List ℕ
+digits true b m n = digit m 0 n ∷ []
+digits false true m n = digit m 0 (n / 256) ∷ digit m 1 (n % 256) ∷ []
+digits false false m n = digit m 0 (n / 65536) ∷ digit m 1 (n / 256 % 256) ∷ digit m 2 (n % 256) ∷ []
+
+abbrev base : MarkShape → ℕ → ℕ
+base m i = getD (m .highest) i 0 - getD (m .lowest) i 0 + 1
+
+unfoldable bases : Bool → Bool → MarkShape → List ℕ
+bases true b m = base m 0 ∷ []
+bases false true m = base m 0 ∷ base m 1 ∷ []
+bases false false m = base m 0 ∷ base m 1 ∷ base m 2 ∷ []
+
+below-base : (m : MarkShape) (i x : ℕ) → Span m i x → digit m i x < base m i
+below-base m i x p = omega (arith, p)
+
+under : (a b : Bool) (m : MarkShape) (n : ℕ) → Spans a b m n → Under (bases a b m) (digits a b m n)
+unfolding Spans digits bases
+under true b m n p = more (below-base m 0 n p) no-more
+under false true m n p = more (below-base m 0 (n / 256) (p .0)) (more (below-base m 1 (n % 256) (p .1)) no-more)
+under false false m n p = more (below-base m 0 (n / 65536) (p .0)) (more (below-base m 1 (n / 256 % 256) (p .1)) (more (below-base m 2 (n % 256) (p .2)) no-more))
+
+same-field : (m : MarkShape) (i x y : ℕ) → Span m i x → Span m i y → digit m i x ≡ digit m i y → x ≡ y
+same-field m i x y p q e = omega (arith, p, q, e)
+
+three-digits : (n : ℕ) → n ≡ n / 65536 * 65536 + n / 256 % 256 * 256 + n % 256
+three-digits n = omega arith
+
+same-digits : (a b : Bool) (m : MarkShape) (n o : ℕ) → Spans a b m n → Spans a b m o → digits a b m n ≡ digits a b m o → n ≡ o
+unfolding Spans digits
+same-digits true b m n o p q e = same-field m 0 n o p q (ap (λ (l : List ℕ). getD l 0 0) e)
+same-digits false true m n o p q e =
+    let x = same-field m 0 (n / 256) (o / 256) (p .0) (q .0) (ap (λ (l : List ℕ). getD l 0 0) e) in
+    let y = same-field m 1 (n % 256) (o % 256) (p .1) (q .1) (ap (λ (l : List ℕ). getD l 1 0) e) in
+    omega (arith, x, y)
+same-digits false false m n o p q e =
+    let x = same-field m 0 (n / 65536) (o / 65536) (p .0) (q .0) (ap (λ (l : List ℕ). getD l 0 0) e) in
+    let y = same-field m 1 (n / 256 % 256) (o / 256 % 256) (p .1) (q .1) (ap (λ (l : List ℕ). getD l 1 0) e) in
+    let z = same-field m 2 (n % 256) (o % 256) (p .2) (q .2) (ap (λ (l : List ℕ). getD l 2 0) e) in
+    three-digits n ∙ rw (x, y, z) (sym (three-digits o))
+
+-- of mark k
+unfoldable digitsOf : ℕ → ℕ → List ℕ
+digitsOf k n = digits (none (shapeOf k) 1) (none (shapeOf k) 2) (shapeOf k) n
+
+unfoldable basesOf : ℕ → List ℕ
+basesOf k = bases (none (shapeOf k) 1) (none (shapeOf k) 2) (shapeOf k)
+
+under-of : (k n : ℕ) → InKey k n → Under (basesOf k) (digitsOf k n)
+unfolding digitsOf basesOf
+under-of k n p = under (none (shapeOf k) 1) (none (shapeOf k) 2) (shapeOf k) n (p .spans)
+
+-- the code's closed forms are that number, from where the mark's slots begin
+Ranked : ℕ → ℕ → Type 0
+Ranked n k = InKey k n → slot k n ≡ low k + rank (basesOf k) (digitsOf k n)
+
+slot-rank : (k n : ℕ) → InKey k n → slot k n ≡ low k + rank (basesOf k) (digitsOf k n)
+unfolding Ranked Spans shapeOf shape rowOf table slot low digitsOf basesOf digits bases rank product
+slot-rank k n p =
+    at-mark (Ranked n) k n p
+    (λ q. omega (arith, q .spans)) (λ q. omega (arith, q .spans)) (λ q. omega (arith, q .spans)) (λ q. omega (arith, q .spans))
+    (λ q. omega (arith, q .spans)) (λ q. omega (arith, q .spans)) (λ q. omega (arith, q .spans)) (λ q. omega (arith, q .spans))
+    (λ q. omega (arith, q .spans)) (λ q. omega (arith, q .spans)) (λ q. omega (arith, q .spans))
+    p
+
+endTest : ℕ → Bool
+endTest k = eqb (low k + product (basesOf k)) (high k + 1)
+
+its-end : (k : ℕ) → k < kinds → low k + product (basesOf k) ≡ high k + 1
+unfolding endTest
+its-end k h = eqb-true _ _ (below-at kinds endTest (unfold endTest low high basesOf bases product shapeOf shape rowOf table allBelow in refl) k h)
 
 pub limits : (k n : ℕ) → InKey k n → (low k ≤ slot k n) × (slot k n ≤ high k)
-unfolding Spans shapeOf shape rowOf table slot low high
-limits k n p = at-mark (λ j. InKey j n → (low j ≤ slot j n) × (slot j n ≤ high j)) k n p (λ q. (omega (arith, q .spans), omega (arith, q .spans))) (λ q. (omega (arith, q .spans), omega (arith, q .spans))) (λ q. (omega (arith, q .spans), omega (arith, q .spans))) (λ q. (omega (arith, q .spans), omega (arith, q .spans))) (λ q. (omega (arith, q .spans), omega (arith, q .spans))) (λ q. (omega (arith, q .spans), omega (arith, q .spans))) (λ q. (omega (arith, q .spans), omega (arith, q .spans))) (λ q. (omega (arith, q .spans), omega (arith, q .spans))) (λ q. (omega (arith, q .spans), omega (arith, q .spans))) (λ q. (omega (arith, q .spans), omega (arith, q .spans))) (λ q. (omega (arith, q .spans), omega (arith, q .spans))) p
+limits k n p = (omega (arith, slot-rank k n p), omega (arith, slot-rank k n p, rank-lt (under-of k n p), its-end k (p .low)))
 
 all-le : (l : List ℕ) (m : ℕ) → everyOf (λ x. leb x m) l ≡ true → leb 0 m ≡ true → (k : ℕ) → getD l k 0 ≤ m
 all-le l m e z k = leb-true (getD l k 0) m (everyOf-at (λ x. leb x m) l 0 z e k)
@@ -170,25 +116,11 @@ slot-lt k n p = omega (arith, limits k n p .1, high-le k)
     high-le : (k : ℕ) → high k ≤ 6350
     high-le k = unfold high everyOf in all-le (0 ∷ 0 ∷ 21 ∷ 25 ∷ 105 ∷ 137 ∷ 153 ∷ 333 ∷ 2349 ∷ 165 ∷ 6350 ∷ 2350 ∷ []) 6350 refl refl k
 
-three : (a b c x y z : ℕ) → Span (shapeOf 4) 0 a × Span (shapeOf 4) 1 b × Span (shapeOf 4) 2 c → Span (shapeOf 4) 0 x × Span (shapeOf 4) 1 y × Span (shapeOf 4) 2 z → 1 + a * 20 + b * 4 + c ≡ 1 + x * 20 + y * 4 + z → (a ≡ x) × (b ≡ y) × (c ≡ z)
-unfolding shapeOf shape rowOf table
-three a b c x y z p q e =
-    let f : a ≡ x = omega (arith, p, q, e) in
-    let g : b ≡ y = omega (arith, p, q, e, f) in
-    (f, g, omega (arith, e, f, g))
-
-three-digits : (n : ℕ) → n ≡ n / 65536 * 65536 + n / 256 % 256 * 256 + n % 256
-three-digits n = omega arith
-
-three-same : (n m : ℕ) → (n / 65536 ≡ m / 65536) × (n / 256 % 256 ≡ m / 256 % 256) × (n % 256 ≡ m % 256) → n ≡ m
-three-same n m p = three-digits n ∙ rw (p .0, p .1, p .2) (sym (three-digits m))
-
 same-key : (k n m : ℕ) → InKey k n → InKey k m → slot k n ≡ slot k m → n ≡ m
-unfolding Spans shapeOf shape rowOf table slot
-same-key k n m p =
-    at-mark (λ j. InKey j n → InKey j m → slot j n ≡ slot j m → n ≡ m) k n p (λ p q e. omega (arith, p .spans, q .spans, e)) (λ p q e. omega (arith, p .spans, q .spans, e)) (λ p q e. omega (arith, p .spans, q .spans, e))
-    (λ p q e. three-same n m (three (n / 65536) (n / 256 % 256) (n % 256) (m / 65536) (m / 256 % 256) (m % 256) (p .spans) (q .spans) e))
-    (λ p q e. omega (arith, p .spans, q .spans, e)) (λ p q e. omega (arith, p .spans, q .spans, e)) (λ p q e. omega (arith, p .spans, q .spans, e)) (λ p q e. omega (arith, p .spans, q .spans, e)) (λ p q e. omega (arith, p .spans, q .spans, e)) (λ p q e. omega (arith, p .spans, q .spans, e)) (λ p q e. omega (arith, p .spans, q .spans, e)) p
+unfolding digitsOf
+same-key k n m p q e =
+    let z : rank (basesOf k) (digitsOf k n) ≡ rank (basesOf k) (digitsOf k m) = omega (arith, e, slot-rank k n p, slot-rank k m q) in
+    same-digits (none (shapeOf k) 1) (none (shapeOf k) 2) (shapeOf k) n m (p .spans) (q .spans) (rank-same (under-of k n p) (under-of k m q) z)
 
 -- the slots of two marks lie apart, before or behind each other
 apartTest : ℕ → ℕ → Bool
@@ -240,7 +172,7 @@ slot-apart k n j m p q e = go (eqb k j) refl
     go false x = absurd (sides _ _ refl refl (apart k j (p .known) (q .known) (p .low) (q .low) x))
 
 -- the slot of an adder, by the fields of its key
-pub adder-slot : (p c v : ℕ) → c < 256 → v < 256 → 1 + p * 20 + c * 4 + v ≡ slot 4 (p * 65536 + c * 256 + v)
+pub adder-slot : (p c v : ℕ) → c < 256 → v < 256 → 1 + p * 20 + c * 4 + v ≡ slot AD (p * 65536 + c * 256 + v)
 unfolding slot
 adder-slot p c v a b =
     let n : ℕ = p * 65536 + c * 256 + v in

@@ -11,17 +11,17 @@ use borrow.Author.Tests.{lt-ltb}
 use Rattle.lists.proofs.Tests.{and-true}
 use Rattle.records.specs.Table.{kinds}
 use Rattle.fields.specs.Numbers.{number}
-use Rattle.records.specs.declared.Found.the-variants.{Record}
 use Rattle.records.specs.Record.{mark, size, issue, keyWidth, keyOf, fault}
 use Rattle.records.specs.MarkShapes.{shortest}
 use Rattle.records.specs.Dossier.{firstOf}
-use Rattle.records.specs.Walk.{found}
+use Rattle.records.specs.Walk.{Record, found}
 use Rattle.records.proofs.Record.{mark-take, size-ge, key-ends, faultless}
 use Rattle.records.proofs.Marks.{mark-lt, size-least}
 use Rattle.records.proofs.Walk.{found-record, found-within, Rest, next}
 use Rattle.records.proofs.Read.{number-take}
 use Rattle.index.specs.Slots.{slotAt, slot, wide, heldIssue, newer, higher, kept, keepStep}
-use Rattle.index.proofs.Slots.{in-key, slot-lt}
+use Rattle.index.proofs.KeyBounds.{in-key}
+use Rattle.index.proofs.Slots.{slot-lt}
 
 pub tail : (d : List ℕ) (at : ℕ) → take (length d - at) (drop at d) ≡ drop at d
 tail d at = take-all (length d - at) (drop at d) (simp length-drop (omega arith))

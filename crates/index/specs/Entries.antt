@@ -1,13 +1,11 @@
 -- What the record reader answers: what is found, with its slot.
-use mathlib.Core.Bool.{cond}
+use mathlib.Core.Bool.{Bool, cond}
 use mathlib.Core.List.{List}
 use Prim.Native.Nat.{ℕ}
 use lib.Dec.{ltb}
 use lib.ListN.{length}
-use Rattle.records.specs.declared.Found.{Found}
-use Rattle.records.specs.declared.Found.the-variants.{Record, Faulty}
 use Rattle.records.specs.Record.{size, rangesHold}
-use Rattle.records.specs.Walk.{found}
+use Rattle.records.specs.Walk.{Found, Record, Faulty, found}
 use Rattle.index.specs.declared.Entry.{Entry}
 use Rattle.index.specs.declared.Reading.{Reading}
 use Rattle.index.specs.declared.Reading.the-variants.{Whole, Fault}
@@ -30,6 +28,10 @@ placed s (Faulty m) = Fault m
 unfoldable pub readingOf : List ℕ → Reading
 readingOf s = placed s (found s)
 
+-- of a record that is long enough, by whether its ranges hold
+abbrev pub checked : Bool → Entry → Reading
+checked b e = cond b (Whole e) (Fault 3)
+
 -- the same of a rest that begins with mark k
 unfoldable pub readingAs : ℕ → List ℕ → Reading
-readingAs k s = cond (ltb (length s) (size k)) (Fault 2) (cond (rangesHold k s) (Whole (entryAs k s)) (Fault 3))
+readingAs k s = cond (ltb (length s) (size k)) (Fault 2) (checked (rangesHold k s) (entryAs k s))

@@ -2,9 +2,9 @@
 ghost use mathlib.Core.Path.{_≡_};
 ghost use Prim.Native.Nat.{_≤_};
 ghost use lib.ListN.{length};
+ghost use Rattle.records.specs.Table.{RS, HP, FU, AD, MM, RQ, HR, CH, TH, FP, LC};
 ghost use Rattle.records.specs.Record.{mark, keyWidth};
-ghost use Rattle.records.specs.MarkShapes.{begins};
-ghost use Rattle.index.specs.Entries.{entryAs, readingAs, readingOf};
+ghost use Rattle.index.specs.Entries.{entryAs, checked, readingAs, readingOf};
 use crate::Entry;
 use crate::Reading;
 use crate::keys::slot_ad;
@@ -18,9 +18,20 @@ use crate::keys::slot_mm;
 use crate::keys::slot_rq;
 use crate::keys::slot_th;
 
+// A record that is long enough, by whether its ranges hold.
+fn checked(ok: bool, entry: Entry) -> Reading
+    ensures { λ r. ⌜ r ≡ checked ok entry ⌝ }
+{
+    if ok {
+        Reading::Whole(entry)
+    } else {
+        Reading::Fault(3)
+    }
+}
+
 // CH
 fn entry_ch(s: &[u8]) -> Entry
-    ensures { λ r. ⌜ r ≡ entryAs 8 (now (s .entry)) ⌝ }
+    ensures { λ r. ⌜ r ≡ entryAs CH (now (s .entry)) ⌝ }
 {
     Entry {
         len: records::CH.length,
@@ -29,21 +40,17 @@ fn entry_ch(s: &[u8]) -> Entry
 }
 
 fn read_ch(s: &[u8]) -> Reading
-    ensures { λ r. ⌜ r ≡ readingAs 8 (now (s .entry)) ⌝ }
+    ensures { λ r. ⌜ r ≡ readingAs CH (now (s .entry)) ⌝ }
 {
     if s.len() < records::CH.length {
         return Reading::Fault(2);
     }
-    if records::ch_ok(s) {
-        Reading::Whole(entry_ch(s))
-    } else {
-        Reading::Fault(3)
-    }
+    checked(records::ch_ok(s), entry_ch(s))
 }
 
 // HR
 fn entry_hr(s: &[u8]) -> Entry
-    ensures { λ r. ⌜ r ≡ entryAs 7 (now (s .entry)) ⌝ }
+    ensures { λ r. ⌜ r ≡ entryAs HR (now (s .entry)) ⌝ }
 {
     Entry {
         len: records::HR.length,
@@ -52,21 +59,17 @@ fn entry_hr(s: &[u8]) -> Entry
 }
 
 fn read_hr(s: &[u8]) -> Reading
-    ensures { λ r. ⌜ r ≡ readingAs 7 (now (s .entry)) ⌝ }
+    ensures { λ r. ⌜ r ≡ readingAs HR (now (s .entry)) ⌝ }
 {
     if s.len() < records::HR.length {
         return Reading::Fault(2);
     }
-    if records::hr_ok(s) {
-        Reading::Whole(entry_hr(s))
-    } else {
-        Reading::Fault(3)
-    }
+    checked(records::hr_ok(s), entry_hr(s))
 }
 
 // FP
 fn entry_fp(s: &[u8]) -> Entry
-    ensures { λ r. ⌜ r ≡ entryAs 10 (now (s .entry)) ⌝ }
+    ensures { λ r. ⌜ r ≡ entryAs FP (now (s .entry)) ⌝ }
 {
     Entry {
         len: records::FP.length,
@@ -75,21 +78,17 @@ fn entry_fp(s: &[u8]) -> Entry
 }
 
 fn read_fp(s: &[u8]) -> Reading
-    ensures { λ r. ⌜ r ≡ readingAs 10 (now (s .entry)) ⌝ }
+    ensures { λ r. ⌜ r ≡ readingAs FP (now (s .entry)) ⌝ }
 {
     if s.len() < records::FP.length {
         return Reading::Fault(2);
     }
-    if records::fp_ok(s) {
-        Reading::Whole(entry_fp(s))
-    } else {
-        Reading::Fault(3)
-    }
+    checked(records::fp_ok(s), entry_fp(s))
 }
 
 // HP
 fn entry_hp(s: &[u8]) -> Entry
-    ensures { λ r. ⌜ r ≡ entryAs 2 (now (s .entry)) ⌝ }
+    ensures { λ r. ⌜ r ≡ entryAs HP (now (s .entry)) ⌝ }
 {
     Entry {
         len: records::HP.length,
@@ -98,21 +97,17 @@ fn entry_hp(s: &[u8]) -> Entry
 }
 
 fn read_hp(s: &[u8]) -> Reading
-    ensures { λ r. ⌜ r ≡ readingAs 2 (now (s .entry)) ⌝ }
+    ensures { λ r. ⌜ r ≡ readingAs HP (now (s .entry)) ⌝ }
 {
     if s.len() < records::HP.length {
         return Reading::Fault(2);
     }
-    if records::hp_ok(s) {
-        Reading::Whole(entry_hp(s))
-    } else {
-        Reading::Fault(3)
-    }
+    checked(records::hp_ok(s), entry_hp(s))
 }
 
 // FU
 fn entry_fu(s: &[u8]) -> Entry
-    ensures { λ r. ⌜ r ≡ entryAs 3 (now (s .entry)) ⌝ }
+    ensures { λ r. ⌜ r ≡ entryAs FU (now (s .entry)) ⌝ }
 {
     Entry {
         len: records::FU.length,
@@ -121,21 +116,17 @@ fn entry_fu(s: &[u8]) -> Entry
 }
 
 fn read_fu(s: &[u8]) -> Reading
-    ensures { λ r. ⌜ r ≡ readingAs 3 (now (s .entry)) ⌝ }
+    ensures { λ r. ⌜ r ≡ readingAs FU (now (s .entry)) ⌝ }
 {
     if s.len() < records::FU.length {
         return Reading::Fault(2);
     }
-    if records::fu_ok(s) {
-        Reading::Whole(entry_fu(s))
-    } else {
-        Reading::Fault(3)
-    }
+    checked(records::fu_ok(s), entry_fu(s))
 }
 
 // AD
 fn entry_ad(s: &[u8]) -> Entry
-    ensures { λ r. ⌜ r ≡ entryAs 4 (now (s .entry)) ⌝ }
+    ensures { λ r. ⌜ r ≡ entryAs AD (now (s .entry)) ⌝ }
 {
     Entry {
         len: records::AD.length,
@@ -148,21 +139,17 @@ fn entry_ad(s: &[u8]) -> Entry
 }
 
 fn read_ad(s: &[u8]) -> Reading
-    ensures { λ r. ⌜ r ≡ readingAs 4 (now (s .entry)) ⌝ }
+    ensures { λ r. ⌜ r ≡ readingAs AD (now (s .entry)) ⌝ }
 {
     if s.len() < records::AD.length {
         return Reading::Fault(2);
     }
-    if records::ad_ok(s) {
-        Reading::Whole(entry_ad(s))
-    } else {
-        Reading::Fault(3)
-    }
+    checked(records::ad_ok(s), entry_ad(s))
 }
 
 // MM
 fn entry_mm(s: &[u8]) -> Entry
-    ensures { λ r. ⌜ r ≡ entryAs 5 (now (s .entry)) ⌝ }
+    ensures { λ r. ⌜ r ≡ entryAs MM (now (s .entry)) ⌝ }
 {
     Entry {
         len: records::MM.length,
@@ -171,21 +158,17 @@ fn entry_mm(s: &[u8]) -> Entry
 }
 
 fn read_mm(s: &[u8]) -> Reading
-    ensures { λ r. ⌜ r ≡ readingAs 5 (now (s .entry)) ⌝ }
+    ensures { λ r. ⌜ r ≡ readingAs MM (now (s .entry)) ⌝ }
 {
     if s.len() < records::MM.length {
         return Reading::Fault(2);
     }
-    if records::mm_ok(s) {
-        Reading::Whole(entry_mm(s))
-    } else {
-        Reading::Fault(3)
-    }
+    checked(records::mm_ok(s), entry_mm(s))
 }
 
 // RQ
 fn entry_rq(s: &[u8]) -> Entry
-    ensures { λ r. ⌜ r ≡ entryAs 6 (now (s .entry)) ⌝ }
+    ensures { λ r. ⌜ r ≡ entryAs RQ (now (s .entry)) ⌝ }
 {
     Entry {
         len: records::RQ.length,
@@ -194,21 +177,17 @@ fn entry_rq(s: &[u8]) -> Entry
 }
 
 fn read_rq(s: &[u8]) -> Reading
-    ensures { λ r. ⌜ r ≡ readingAs 6 (now (s .entry)) ⌝ }
+    ensures { λ r. ⌜ r ≡ readingAs RQ (now (s .entry)) ⌝ }
 {
     if s.len() < records::RQ.length {
         return Reading::Fault(2);
     }
-    if records::rq_ok(s) {
-        Reading::Whole(entry_rq(s))
-    } else {
-        Reading::Fault(3)
-    }
+    checked(records::rq_ok(s), entry_rq(s))
 }
 
 // TH
 fn entry_th(s: &[u8]) -> Entry
-    ensures { λ r. ⌜ r ≡ entryAs 9 (now (s .entry)) ⌝ }
+    ensures { λ r. ⌜ r ≡ entryAs TH (now (s .entry)) ⌝ }
 {
     Entry {
         len: records::TH.length,
@@ -217,21 +196,17 @@ fn entry_th(s: &[u8]) -> Entry
 }
 
 fn read_th(s: &[u8]) -> Reading
-    ensures { λ r. ⌜ r ≡ readingAs 9 (now (s .entry)) ⌝ }
+    ensures { λ r. ⌜ r ≡ readingAs TH (now (s .entry)) ⌝ }
 {
     if s.len() < records::TH.length {
         return Reading::Fault(2);
     }
-    if records::th_ok(s) {
-        Reading::Whole(entry_th(s))
-    } else {
-        Reading::Fault(3)
-    }
+    checked(records::th_ok(s), entry_th(s))
 }
 
 // RS
 fn entry_rs(s: &[u8]) -> Entry
-    ensures { λ r. ⌜ r ≡ entryAs 1 (now (s .entry)) ⌝ }
+    ensures { λ r. ⌜ r ≡ entryAs RS (now (s .entry)) ⌝ }
 {
     Entry {
         len: records::RS.length,
@@ -240,21 +215,17 @@ fn entry_rs(s: &[u8]) -> Entry
 }
 
 fn read_rs(s: &[u8]) -> Reading
-    ensures { λ r. ⌜ r ≡ readingAs 1 (now (s .entry)) ⌝ }
+    ensures { λ r. ⌜ r ≡ readingAs RS (now (s .entry)) ⌝ }
 {
     if s.len() < records::RS.length {
         return Reading::Fault(2);
     }
-    if records::rs_ok(s) {
-        Reading::Whole(entry_rs(s))
-    } else {
-        Reading::Fault(3)
-    }
+    checked(records::rs_ok(s), entry_rs(s))
 }
 
 // LC
 fn entry_lc(s: &[u8]) -> Entry
-    ensures { λ r. ⌜ r ≡ entryAs 11 (now (s .entry)) ⌝ }
+    ensures { λ r. ⌜ r ≡ entryAs LC (now (s .entry)) ⌝ }
 {
     Entry {
         len: records::LC.length,
@@ -263,16 +234,12 @@ fn entry_lc(s: &[u8]) -> Entry
 }
 
 fn read_lc(s: &[u8]) -> Reading
-    ensures { λ r. ⌜ r ≡ readingAs 11 (now (s .entry)) ⌝ }
+    ensures { λ r. ⌜ r ≡ readingAs LC (now (s .entry)) ⌝ }
 {
     if s.len() < records::LC.length {
         return Reading::Fault(2);
     }
-    if records::lc_ok(s) {
-        Reading::Whole(entry_lc(s))
-    } else {
-        Reading::Fault(3)
-    }
+    checked(records::lc_ok(s), entry_lc(s))
 }
 
 // Of a rest whose mark has no key: RS, LC, or unknown.
@@ -306,13 +273,6 @@ fn entry_keyless(rest: &[u8]) -> Entry
     }
 }
 
-// Whether the mark is CH, byte by byte: the commonest mark is tried by itself, before the others, which the compiler tries together.
-fn is_ch(rest: &[u8]) -> bool
-    ensures { λ r. ⌜ r ≡ begins (now (rest .entry)) 67 72 ⌝ }
-{
-    (fields::byte_at(rest, 0) == b'C') & (fields::byte_at(rest, 1) == b'H')
-}
-
 // The record reader: the rest of a dossier, starting at the cursor, is tried for its mark, its length and its ranges.
 pub fn read(rest: &[u8]) -> Reading
     ensures { λ r. ⌜ r ≡ readingOf (now (rest .entry)) ⌝ }
@@ -320,7 +280,7 @@ pub fn read(rest: &[u8]) -> Reading
     if rest.len() < 2 {
         return Reading::Fault(2);
     }
-    if is_ch(rest) {
+    if records::is_mark(rest, b"CH") {
         return read_ch(rest);
     }
     if records::is_mark(rest, b"HP") {

@@ -10,6 +10,10 @@ pub each-map : {A : Type 0} {P Q : A → Type 0} → ((a : A) → P a → Q a) �
 each-map f done = done
 each-map f (also {a = a} x e) = also (f a x) (each-map f e)
 
+pub each-both : {A : Type 0} {P Q : A → Type 0} {l : List A} → Each P l → Each Q l → Each (λ a. P a × Q a) l
+each-both done done = done
+each-both (also p a) (also q b) = also (p, q) (each-both a b)
+
 pub each-of : {A : Type 0} {P : A → Type 0} (l : List A) → ((a : A) → P a) → Each P l
 each-of [] f = done
 each-of (a ∷ l) f = also (f a) (each-of l f)

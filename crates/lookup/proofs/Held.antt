@@ -12,7 +12,8 @@ use Rattle.records.proofs.Dossier.{scan-each}
 use Rattle.station.specs.Current.{current, present}
 use Rattle.station.specs.Parameters.{parameters, amounts}
 use Rattle.index.specs.Slots.{slot, slotsEmpty}
-use Rattle.index.proofs.Slots.{InKey, early}
+use Rattle.index.proofs.KeyBounds.{InKey}
+use Rattle.index.proofs.Slots.{early}
 use Rattle.lookup.specs.Parts.{partAt, Indexed, held, parametersHeld, amountsHeld, dated}
 use Rattle.lookup.proofs.Parts.{part-found, current-in-empty, slot-fits}
 

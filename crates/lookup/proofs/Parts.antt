@@ -21,7 +21,8 @@ use Rattle.station.proofs.Current.{matches-mark, matches-key}
 use Rattle.index.specs.Slots.{slot, narrow, wide, slotsEmpty}
 use Rattle.records.proofs.Record.{size-ge}
 use Rattle.records.proofs.Marks.{by-mark}
-use Rattle.index.proofs.Slots.{Spans, InKey, at-mark, in-key, key-test, test-key, slot-lt, early, slot-short, slot-narrow, in-empty}
+use Rattle.index.proofs.KeyBounds.{Spans, InKey, at-mark, in-key, key-test, test-key}
+use Rattle.index.proofs.Slots.{slot-lt, early, slot-short, slot-narrow, in-empty}
 use Rattle.index.proofs.Holds.{Holds, absent, there, Good, good-records, index-holds}
 use Rattle.lookup.specs.declared.Part.{Part}
 use Rattle.lookup.specs.Parts.{part, partBytes, currentPart, indexOf, placeAt, partAt, Indexed, Complete, UpTo, Covers}

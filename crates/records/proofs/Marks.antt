@@ -8,7 +8,7 @@ use lib.Dec.{eqb, lit≤, lit<}
 use lib.ListN.{length, getD}
 use borrow.Author.Tests.{eqb-true, eqb-false}
 use Rattle.lists.proofs.Tests.{split, cond-holds}
-use Rattle.records.specs.Table.{Row, noRow, table, rowOf, kinds}
+use Rattle.records.specs.Table.{Row, noRow, table, rowOf, kinds, RS, HP, FU, AD, MM, RQ, HR, CH, TH, FP, LC}
 use Rattle.records.specs.Record.{markIn, mark, widths, size, keyIn, keyWidth}
 use Rattle.records.specs.MarkShapes.{shortest, begins}
 
@@ -24,7 +24,7 @@ pub mark-lt : (s : List ℕ) → mark s < kinds
 unfolding mark table
 mark-lt s = in-lt 1 table (getD s 0 0) (getD s 1 0) (lit< tt)
 
-pub by-mark : (P : ℕ → Type 0) → P 1 → P 2 → P 3 → P 4 → P 5 → P 6 → P 7 → P 8 → P 9 → P 10 → P 11 → (k : ℕ) → (k ≡ 0 → ⊥) → k < kinds → P k
+pub by-mark : (P : ℕ → Type 0) → P RS → P HP → P FU → P AD → P MM → P RQ → P HR → P CH → P TH → P FP → P LC → (k : ℕ) → (k ≡ 0 → ⊥) → k < kinds → P k
 by-mark P a b c d e f g h i j m zero z l = absurd (z refl)
 by-mark P a b c d e f g h i j m (suc zero) z l = a
 by-mark P a b c d e f g h i j m (suc (suc zero)) z l = b

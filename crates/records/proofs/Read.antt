@@ -11,11 +11,10 @@ use borrow.Author.Tests.{lt-ltb, le-ltb, ltb-true, ltb-false, eqb-true, eqb-fals
 use Rattle.lists.proofs.Tests.{and-left, and-right, split, below-same}
 use Rattle.fields.specs.Numbers.{number}
 use Rattle.fields.proofs.Numbers.{number-same}
-use Rattle.records.specs.declared.Found.the-variants.{Record, Faulty}
 use Rattle.records.specs.Table.{table, rowOf, fieldOf}
 use Rattle.records.specs.Record.{markIn, mark, size, offset, read, value, inRange, rangesHold, fault}
 use Rattle.records.specs.Dossier.{firstOf}
-use Rattle.records.specs.Walk.{found}
+use Rattle.records.specs.Walk.{Record, Faulty, found}
 use Rattle.records.proofs.Record.{mark-take, size-ge, within-record, agrees-alike}
 use Rattle.records.specs.MarkShapes.{begins}
 

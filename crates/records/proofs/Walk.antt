@@ -8,13 +8,12 @@ use lib.Dec.{eqb}
 use lib.ListN.{length, take, drop, length-take, length-drop}
 use lib.Seq.{drop-drop}
 use borrow.Author.Tests.{eqb-true, eqb-false, eq-eqb, ne-eqb}
-use Rattle.records.specs.declared.Found.the-variants.{Record, Faulty}
 use Rattle.records.specs.declared.Answer.{Answer}
 use Rattle.records.specs.declared.Answer.the-variants.{Accepted, Refused}
 use Rattle.records.specs.Record.{mark, size, fault}
 use Rattle.records.specs.Answers.{orElse, drawn}
 use Rattle.records.specs.Dossier.{firstOf, restOf, recordsIn, records, firstDrawn, scan}
-use Rattle.records.specs.Walk.{found, Step, Walked, ended, stopped, folded, walkFrom, walk}
+use Rattle.records.specs.Walk.{Record, Faulty, found, Step, Walked, ended, stopped, folded, walkFrom, walk}
 use Rattle.records.proofs.Answers.{orElse-assoc, orElse-none}
 use Rattle.records.proofs.Dossier.{first-length}
 use Rattle.records.proofs.Record.{size-ge}

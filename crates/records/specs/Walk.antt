@@ -5,12 +5,15 @@ use mathlib.Core.List.{List, [], _∷_}
 use Prim.Native.Nat.{ℕ, zero, suc, _+_}
 use lib.Dec.{eqb}
 use lib.ListN.{length}
-use Rattle.records.specs.declared.Found.{Found}
-use Rattle.records.specs.declared.Found.the-variants.{Record, Faulty}
 use Rattle.records.specs.Record.{mark, size, fault}
 use Rattle.records.specs.Dossier.{firstOf, restOf}
 
--- what is found at the front of the rest of a dossier: a record of a mark and length, or its fault
+-- a record of a mark and length, or a fault
+pub data Found : Type 0 where
+  Record : ℕ → ℕ → Found
+  Faulty : ℕ → Found
+
+-- what is found at the front of the rest of a dossier
 unfoldable pub found : List ℕ → Found
 found s = cond (eqb (fault (firstOf s)) 0) (Record (mark s) (size (mark s))) (Faulty (fault (firstOf s)))
 

@@ -1,4 +1,6 @@
 // The records of a dossier. The table of marks, what one record may draw, and a raise are in specs/, their laws in proofs/.
+pub mod kinds;
+
 ghost use mathlib.Core.Path.{_≡_};
 ghost use mathlib.Core.Bool.{_||_};
 ghost use Prim.Native.Nat.{_+_, _*_, _<_};
@@ -6,15 +8,9 @@ ghost use lib.Dec.{eqb};
 ghost use lib.ListN.{getD};
 ghost use Rattle.lists.specs.Tests.{between};
 ghost use Rattle.fields.specs.Numbers.{number, biased};
-ghost use Rattle.records.specs.Table.{kinds};
+ghost use Rattle.records.specs.Table.{RS, HP, FU, AD, MM, RQ, HR, CH, TH, FP, LC, kinds};
 ghost use Rattle.records.specs.Record.{mark, size, rangesHold};
 ghost use Rattle.records.specs.MarkShapes.{begins, shapeOf, keyField, keyFits, keyTest};
-
-// What the reader finds at the front of the rest of a dossier: a whole record, or the fault that it draws.
-pub enum Found {
-    Record { kind: usize, len: usize },
-    Faulty(u8),
-}
 
 // An answer to a dossier: accepted, or refused with number and place.
 pub enum Answer {
@@ -137,34 +133,34 @@ pub fn length_of(kind: usize) -> usize
     if kind == 0 {
         return UNKNOWN.length;
     }
-    if kind == 8 {
+    if kind == kinds::CH {
         return CH.length;
     }
-    if kind == 2 {
+    if kind == kinds::HP {
         return HP.length;
     }
-    if kind == 9 {
+    if kind == kinds::TH {
         return TH.length;
     }
-    if kind == 7 {
+    if kind == kinds::HR {
         return HR.length;
     }
-    if kind == 10 {
+    if kind == kinds::FP {
         return FP.length;
     }
-    if kind == 3 {
+    if kind == kinds::FU {
         return FU.length;
     }
-    if kind == 4 {
+    if kind == kinds::AD {
         return AD.length;
     }
-    if kind == 5 {
+    if kind == kinds::MM {
         return MM.length;
     }
-    if kind == 6 {
+    if kind == kinds::RQ {
         return RQ.length;
     }
-    if kind == 1 {
+    if kind == kinds::RS {
         return RS.length;
     }
     LC.length
@@ -218,37 +214,37 @@ pub fn kind_at(s: &[u8]) -> usize
     ensures { λ r. ⌜ r ≡ mark (now (s .entry)) ⌝ }
 {
     if is_mark(s, b"CH") {
-        return 8;
+        return kinds::CH;
     }
     if is_mark(s, b"HP") {
-        return 2;
+        return kinds::HP;
     }
     if is_mark(s, b"TH") {
-        return 9;
+        return kinds::TH;
     }
     if is_mark(s, b"HR") {
-        return 7;
+        return kinds::HR;
     }
     if is_mark(s, b"FP") {
-        return 10;
+        return kinds::FP;
     }
     if is_mark(s, b"FU") {
-        return 3;
+        return kinds::FU;
     }
     if is_mark(s, b"AD") {
-        return 4;
+        return kinds::AD;
     }
     if is_mark(s, b"MM") {
-        return 5;
+        return kinds::MM;
     }
     if is_mark(s, b"RQ") {
-        return 6;
+        return kinds::RQ;
     }
     if is_mark(s, b"RS") {
-        return 1;
+        return kinds::RS;
     }
     if is_mark(s, b"LC") {
-        return 11;
+        return kinds::LC;
     }
     0
 }
@@ -310,48 +306,48 @@ fn price(s: &[u8], at: usize) -> bool
 
 // The ranges of each mark.
 pub fn ch_ok(s: &[u8]) -> bool
-    ensures { λ r. ⌜ r ≡ rangesHold 8 (now (s .entry)) ⌝ }
+    ensures { λ r. ⌜ r ≡ rangesHold CH (now (s .entry)) ⌝ }
 {
     let m = CH;
     in2(s, 6, m.lowest[0], m.highest[0]) & price(s, 8) & in4(s, 12, 0, 1000000)
 }
 
 pub fn hr_ok(s: &[u8]) -> bool
-    ensures { λ r. ⌜ r ≡ rangesHold 7 (now (s .entry)) ⌝ }
+    ensures { λ r. ⌜ r ≡ rangesHold HR (now (s .entry)) ⌝ }
 {
     let m = HR;
     in1(s, 6, m.lowest[0], m.highest[0]) & price(s, 7)
 }
 
 pub fn fp_ok(s: &[u8]) -> bool
-    ensures { λ r. ⌜ r ≡ rangesHold 10 (now (s .entry)) ⌝ }
+    ensures { λ r. ⌜ r ≡ rangesHold FP (now (s .entry)) ⌝ }
 {
     let m = FP;
     in2(s, 6, m.lowest[0], m.highest[0]) & price(s, 8)
 }
 
 pub fn lc_ok(s: &[u8]) -> bool
-    ensures { λ r. ⌜ r ≡ rangesHold 11 (now (s .entry)) ⌝ }
+    ensures { λ r. ⌜ r ≡ rangesHold LC (now (s .entry)) ⌝ }
 {
     in4(s, 6, 0, 2000000000)
 }
 
 pub fn hp_ok(s: &[u8]) -> bool
-    ensures { λ r. ⌜ r ≡ rangesHold 2 (now (s .entry)) ⌝ }
+    ensures { λ r. ⌜ r ≡ rangesHold HP (now (s .entry)) ⌝ }
 {
     let m = HP;
     in1(s, 6, m.lowest[0], m.highest[0]) & in2(s, 7, 0, 20000) & in4(s, 9, 0, 20000000)
 }
 
 pub fn fu_ok(s: &[u8]) -> bool
-    ensures { λ r. ⌜ r ≡ rangesHold 3 (now (s .entry)) ⌝ }
+    ensures { λ r. ⌜ r ≡ rangesHold FU (now (s .entry)) ⌝ }
 {
     let m = FU;
     in1(s, 6, m.lowest[0], m.highest[0]) & in4(s, 7, 0, 400000000) & in4(s, 11, 0, 400000000)
 }
 
 pub fn ad_ok(s: &[u8]) -> bool
-    ensures { λ r. ⌜ r ≡ rangesHold 4 (now (s .entry)) ⌝ }
+    ensures { λ r. ⌜ r ≡ rangesHold AD (now (s .entry)) ⌝ }
 {
     let m = AD;
     in1(s, 6, m.lowest[0], m.highest[0])
@@ -361,7 +357,7 @@ pub fn ad_ok(s: &[u8]) -> bool
 }
 
 pub fn mm_ok(s: &[u8]) -> bool
-    ensures { λ r. ⌜ r ≡ rangesHold 5 (now (s .entry)) ⌝ }
+    ensures { λ r. ⌜ r ≡ rangesHold MM (now (s .entry)) ⌝ }
 {
     let m = MM;
     in1(s, 6, m.lowest[0], m.highest[0])
@@ -373,7 +369,7 @@ pub fn mm_ok(s: &[u8]) -> bool
 }
 
 pub fn rq_ok(s: &[u8]) -> bool
-    ensures { λ r. ⌜ r ≡ rangesHold 6 (now (s .entry)) ⌝ }
+    ensures { λ r. ⌜ r ≡ rangesHold RQ (now (s .entry)) ⌝ }
 {
     let m = RQ;
     in1(s, 6, m.lowest[0], m.highest[0])
@@ -384,7 +380,7 @@ pub fn rq_ok(s: &[u8]) -> bool
 }
 
 pub fn th_ok(s: &[u8]) -> bool
-    ensures { λ r. ⌜ r ≡ rangesHold 9 (now (s .entry)) ⌝ }
+    ensures { λ r. ⌜ r ≡ rangesHold TH (now (s .entry)) ⌝ }
 {
     let m = TH;
     in1(s, 6, m.lowest[0], m.highest[0])
@@ -395,7 +391,7 @@ pub fn th_ok(s: &[u8]) -> bool
 }
 
 pub fn rs_ok(s: &[u8]) -> bool
-    ensures { λ r. ⌜ r ≡ rangesHold 1 (now (s .entry)) ⌝ }
+    ensures { λ r. ⌜ r ≡ rangesHold RS (now (s .entry)) ⌝ }
 {
     in1(s, 6, 1, 4)
         & in2(s, 7, 1, 20000)

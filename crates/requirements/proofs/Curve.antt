@@ -25,7 +25,7 @@ use Rattle.station.specs.Parameters.{Parameters, parameters, technology, capaci
 use Rattle.station.proofs.Parameters.{says-high}
 use Rattle.station.proofs.Fields.{technology-at, capacity-at, charge-at, output-at, heat-at, requested-at}
 use Rattle.index.specs.Slots.{slot, slotsEmpty}
-use Rattle.index.proofs.Slots.{InKey}
+use Rattle.index.proofs.KeyBounds.{InKey}
 use Rattle.lookup.specs.Parts.{held, Indexed, Complete}
 use Rattle.lookup.proofs.Parts.{one-field, point-key, request-key, current-in-empty, slot-tells, fits, beyond-index}
 use Rattle.rules.specs.Fit.{Known}

@@ -13,7 +13,8 @@ use Rattle.lists.proofs.Lists.{each-map, member-each}
 use Rattle.records.specs.Record.{mark, issue, keyOf, fault}
 use Rattle.station.specs.Current.{twin, anyTwin}
 use Rattle.index.specs.Slots.{slot}
-use Rattle.index.proofs.Slots.{in-key, slot-apart}
+use Rattle.index.proofs.KeyBounds.{in-key}
+use Rattle.index.proofs.Slots.{slot-apart}
 use Rattle.twins.specs.Tree.{place, node, Open, Shape}
 use Rattle.twins.proofs.Tree.{Hit, no-hit, id-same, hit-same, new-hit, place-fits}
 

@@ -4,6 +4,7 @@ use native.Mathlib.Omega.{arith}
 use borrow.Author.Needs.{needs}
 use Rattle.lists.specs.Tests.{allTo}
 use Rattle.lists.proofs.Tests.{to-next}
+use Rattle.records.specs.Table.{MM}
 use Rattle.records.specs.Dossier.{records}
 use Rattle.station.specs.Current.{current}
 use Rattle.index.specs.Slots.{slot}
@@ -15,7 +16,7 @@ use Rattle.fit.proofs.items_fit.Statement.{statement}
 use Rattle.fit.proofs.items_fit.Tie as tie
 
 abbrev Inv-loop : tie.InvT-loop
-Inv-loop d index t p ok₀ j₀ ok j = (j ≤ 8) × (ok ≡ allTo j (λ i. fits t 5 (current 5 (p * 256 + i) (records d))))
+Inv-loop d index t p ok₀ j₀ ok j = (j ≤ 8) × (ok ≡ allTo j (λ i. fits t MM (current MM (p * 256 + i) (records d))))
 
 abbrev μ-loop : tie.MeasureT-loop
 μ-loop d index t p ok₀ j₀ ok j = 8 - j
@@ -43,14 +44,14 @@ loop-again : tie.Need-loop-again Inv-loop μ-loop
 loop-again c =
     let a = c .before .before .before .before .before .before .before .before .before .args in
     let l = c .before .before .before .loop in
-    (omega arith, to-next (l .j) (λ i. fits (a .t) 5 (current 5 (a .p * 256 + i) (records (a .d .now)))) (l .inv .1) (c .mm-fits .ensures ∙ ap (fits (a .t) 5) (c .before .mm .ensures ∙ current-held (c .before .before .before .before .before .before .before .before .before .pre .0) 5 _)))
+    (omega arith, to-next (l .j) (λ i. fits (a .t) 5 (current MM (a .p * 256 + i) (records (a .d .now)))) (l .inv .1) (c .mm-fits .ensures ∙ ap (fits (a .t) 5) (c .before .mm .ensures ∙ current-held (c .before .before .before .before .before .before .before .before .before .pre .0) 5 _)))
 
 returns-2 : tie.Need-returns-2 Inv-loop μ-loop
 unfolding itemsFit
 returns-2 c =
     let a = c .before .before .before .before .before .before .before .args in
     let l = c .before .loop in
-    l .inv .1 ∙ ap (λ (n : ℕ). allTo n (λ i. fits (a .t) 5 (current 5 (a .p * 256 + i) (records (a .d .now))))) (omega arith)
+    l .inv .1 ∙ ap (λ (n : ℕ). allTo n (λ i. fits (a .t) 5 (current MM (a .p * 256 + i) (records (a .d .now))))) (omega arith)
 
 pub items-fit-spec : {M : Type 1} → statement M
 items-fit-spec =

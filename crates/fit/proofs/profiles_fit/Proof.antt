@@ -5,6 +5,7 @@ use native.Mathlib.Omega.{arith}
 use borrow.Author.Tests.{eq-eqb, ne-eqb}
 use Rattle.lists.specs.Tests.{allTo}
 use Rattle.lists.proofs.Tests.{to-next}
+use Rattle.records.specs.Table.{FU}
 use Rattle.records.specs.Dossier.{records}
 use Rattle.station.specs.Current.{current}
 use Rattle.lookup.proofs.Held.{current-held}
@@ -14,7 +15,7 @@ use Rattle.fit.proofs.profiles_fit.Statement.{statement}
 use Rattle.fit.proofs.profiles_fit.Tie as tie
 
 abbrev Inv-loop : tie.InvT-loop
-Inv-loop d index t ok₀ p₀ ok p = (p ≤ 4) × (ok ≡ allTo p (λ q. fits t 3 (current 3 q (records d)) && itemsFit t d q))
+Inv-loop d index t ok₀ p₀ ok p = (p ≤ 4) × (ok ≡ allTo p (λ q. fits t FU (current FU q (records d)) && itemsFit t d q))
 
 abbrev μ-loop : tie.MeasureT-loop
 μ-loop d index t ok₀ p₀ ok p = 4 - p
@@ -40,7 +41,7 @@ loop-again c =
     let a = c .before .before .before .before .before .before .before .before .args in
     let l = c .before .before .before .before .loop in (
       omega arith,
-      to-next (l .p) (λ p. fits (a .t) 3 (current 3 p (records (a .d .now))) && itemsFit (a .t) (a .d .now) p) (l .inv .1)
+      to-next (l .p) (λ p. fits (a .t) 3 (current FU p (records (a .d .now))) && itemsFit (a .t) (a .d .now) p) (l .inv .1)
           (ap₂ (λ (x y : Bool). x && y) (c .before .fu-fits .ensures ∙ ap (fits (a .t) 3) (c .before .before .fu .ensures ∙ current-held (c .before .before .before .before .before .before .before .before .pre .0) 3 _)) (c .items-fit .ensures)),
     )
 
@@ -49,7 +50,7 @@ unfolding profilesFit
 returns-2 c =
     let a = c .before .before .before .before .before .args in
     let l = c .before .loop in
-    rw (ne-eqb _ 1 (c .before .before .if1 .left)) (l .inv .1 ∙ ap (λ (n : ℕ). allTo n (λ p. fits (a .t) 3 (current 3 p (records (a .d .now))) && itemsFit (a .t) (a .d .now) p)) (omega arith))
+    rw (ne-eqb _ 1 (c .before .before .if1 .left)) (l .inv .1 ∙ ap (λ (n : ℕ). allTo n (λ p. fits (a .t) 3 (current FU p (records (a .d .now))) && itemsFit (a .t) (a .d .now) p)) (omega arith))
 
 pub profiles-fit-spec : {M : Type 1} → statement M
 profiles-fit-spec =

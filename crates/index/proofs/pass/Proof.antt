@@ -6,9 +6,8 @@ use mathlib.Core.Logic.{inl, inr}
 use mathlib.Core.List.{List}
 use Prim.Native.Nat.{ℕ, _≤_, _<_, _-_}
 use lib.ListN.{length, drop, take, length-set}
-use Rattle.records.specs.declared.Found.the-variants.{Record}
 use Rattle.records.specs.Table.{kinds}
-use Rattle.records.specs.Walk.{found}
+use Rattle.records.specs.Walk.{Record, found}
 use Rattle.records.proofs.Walk.{Rest, start, stop, end}
 use Rattle.index.specs.declared.Reading.{Reading}
 use Rattle.index.specs.Slots.{slotAt, kept, keepStep, passOf, slotsOf}

@@ -1,4 +1,4 @@
--- `report::amount_line_len` meets its contract.
+-- `lines::amount_line_len` meets its contract.
 use native.Mathlib.Omega.{arith}
 use borrow.Author.Needs.{needs}
 use Rattle.layout.proofs.Lines.{amount-length, hundredths-within}

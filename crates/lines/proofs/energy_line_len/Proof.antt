@@ -1,4 +1,4 @@
--- `report::energy_line_len` meets its contract.
+-- `lines::energy_line_len` meets its contract.
 use native.Mathlib.Omega.{arith}
 use borrow.Author.Needs.{needs}
 use Rattle.text.proofs.Decimal.{decimal-within}

@@ -1,4 +1,4 @@
--- `report::held_line_len` meets its contract.
+-- `lines::held_line_len` meets its contract.
 use mathlib.Core.Path.{sym, _∙_}
 use borrow.Author.Needs.{needs}
 use Rattle.lines.proofs.held_line_len.Statement.{statement}

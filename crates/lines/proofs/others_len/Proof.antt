@@ -1,4 +1,4 @@
--- `report::others_len` meets its contract.
+-- `lines::others_len` meets its contract.
 use native.Mathlib.Omega.{arith}
 use borrow.Author.Needs.{needs}
 use Rattle.lines.proofs.Levels.{others-length, others-within}

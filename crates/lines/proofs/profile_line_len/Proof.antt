@@ -1,4 +1,4 @@
--- `report::profile_line_len` meets its contract.
+-- `lines::profile_line_len` meets its contract.
 use native.Mathlib.Omega.{arith}
 use borrow.Author.Needs.{needs}
 use Rattle.text.proofs.Decimal.{decimal-within}

@@ -1,4 +1,4 @@
--- `report::put_amount_line` meets its contract: the word, the level and the line end, each behind the last.
+-- `lines::put_amount_line` meets its contract: the word, the level and the line end, each behind the last.
 use mathlib.Core.List.{_++_}
 use Prim.Native.Nat.{_+_, _≤_}
 use native.Mathlib.Omega.{arith}

@@ -1,4 +1,4 @@
--- `report::put_energy_line` meets its contract: the word with the lamination, from, to, and the level with the line end.
+-- `lines::put_energy_line` meets its contract: the word with the lamination, from, to, and the level with the line end.
 use mathlib.Core.List.{_++_}
 use Prim.Native.Nat.{_+_, _≤_}
 use native.Mathlib.Omega.{arith}

@@ -1,4 +1,4 @@
--- `report::put_held_line` meets its contract.
+-- `lines::put_held_line` meets its contract.
 use mathlib.Core.Path.{refl, sym, _∙_}
 use borrow.Author.Needs.{needs}
 use Rattle.lines.proofs.put_held_line.Statement.{statement}

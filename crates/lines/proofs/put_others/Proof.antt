@@ -1,4 +1,4 @@
--- `report::put_others` meets its contract: start, no-load and reserve, each behind the last.
+-- `lines::put_others` meets its contract: start, no-load and reserve, each behind the last.
 use mathlib.Core.List.{List, _++_}
 use Prim.Native.Nat.{ℕ, _+_, _≤_}
 use native.Mathlib.Omega.{arith}

@@ -1,4 +1,4 @@
--- `report::put_output` meets its contract: a space, and then the output.
+-- `lines::put_output` meets its contract: a space, and then the output.
 use borrow.Author.Needs.{needs}
 use Rattle.text.specs.Text.{tenths, space}
 use Rattle.text.proofs.Over.{then}

@@ -1,4 +1,4 @@
--- `report::put_profile_line` meets its contract: the word with the profile, and then the line end.
+-- `lines::put_profile_line` meets its contract: the word with the profile, and then the line end.
 use mathlib.Core.List.{_++_}
 use Prim.Native.Nat.{_+_, _≤_}
 use native.Mathlib.Omega.{arith}

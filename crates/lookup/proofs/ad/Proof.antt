@@ -3,7 +3,7 @@ use Prim.Native.Nat.{ℕ, _+_, _*_, _≤_}
 use Rattle.records.specs.Table.{table, rowOf}
 use Rattle.records.specs.Record.{widths, size}
 use Rattle.records.specs.MarkShapes.{shape, shapeOf}
-use Rattle.index.proofs.Slots.{InKey}
+use Rattle.index.proofs.KeyBounds.{InKey}
 use Rattle.lookup.proofs.Parts.{three-field, slot-fits}
 use Rattle.lookup.proofs.Held.{held-found}
 use borrow.Author.Needs.{needs}

@@ -5,14 +5,11 @@ use mathlib.Core.Path.{_≡_, refl, ap}
 use mathlib.Core.List.{List}
 use Prim.Native.Nat.{ℕ, _≤_, _<_, _-_, _+_, _*_}
 use lib.ListN.{length, drop, take}
-use Rattle.records.specs.declared.Found.the-variants.{Record}
-use Rattle.records.specs.Record.{mark}
+use Rattle.records.specs.Record.{mark, size}
 use Rattle.records.specs.MarkShapes.{shortest}
-use Rattle.records.specs.Walk.{found}
 use Rattle.index.specs.Slots.{slotAt, wide}
-use Rattle.index.proofs.Turn.{bounds, below, long}
 use Rattle.index.specs.declared.Entry.{Entry}
-use Rattle.twins.proofs.Loop.{Known, start, twin-there, none-there, clean-found, finish}
+use Rattle.twins.proofs.Loop.{Known, start, spans, slot-fits, twin-there, none-there, finish}
 use Rattle.twins.proofs.search.Statement.{statement}
 use Rattle.twins.proofs.search.Tie as tie
 
@@ -54,17 +51,17 @@ inside c = omega (arith, In c .loop-test .taken)
 its-slot : (c : Turn) → c .entry-at .result .slot ≡ slotAt (mark (rest-of c)) (rest-of c)
 its-slot c = ap (λ (s : Entry). s .slot) (c .entry-at .ensures)
 
-its-found : (c : Turn) → found (drop (at-of c) (d-of c)) ≡ Record (mark (rest-of c)) (len-of c)
-its-found c = clean-found (d-of c) (at-of c) (inside c) (At c .loop .inv .4) refl (ap (λ (s : Entry). s .len) (c .entry-at .ensures))
+its-size : (c : Turn) → len-of c ≡ size (mark (rest-of c))
+its-size c = ap (λ (s : Entry). s .len) (c .entry-at .ensures)
 
-slot-fits : (c : Turn) → c .entry-at .result .slot < wide
-slot-fits c = below (d-of c) (at-of c) _ _ (its-found c) (its-slot c)
+slot-below : (c : Turn) → c .entry-at .result .slot < wide
+slot-below c = slot-fits (d-of c) (at-of c) (inside c) (At c .loop .inv .4) (its-size c) (its-slot c)
 
 -- it is within the dossier, and there is room for it
 its : (c : Turn) → (shortest ≤ len-of c) × (len-of c ≤ length (d-of c) - at-of c) × (shortest * At c .loop .count ≤ at-of c) × (length (d-of c) + shortest < shortest * length (At c .loop .ids)) × (length (At c .loop .ids) ≤ 65535)
 its c = (
-  long (drop (at-of c) (d-of c)) _ _ (its-found c),
-  bounds (d-of c) (at-of c) _ _ (its-found c) .1,
+  spans (d-of c) (at-of c) (inside c) (At c .loop .inv .4) (its-size c) .0,
+  spans (d-of c) (at-of c) (inside c) (At c .loop .inv .4) (its-size c) .1,
   At c .loop .inv .1,
   omega (arith, St c .pre .0 .room, At c .loop .inv .3),
   omega (arith, St c .pre .0 .narrow, At c .loop .inv .3),
@@ -77,10 +74,10 @@ add-next : tie.Need-add-next Inv-loop μ-loop
 add-next c = omega (arith, its (c .before))
 
 mul-x : tie.Need-mul-x Inv-loop μ-loop
-mul-x c = omega (arith, slot-fits (c .before))
+mul-x c = omega (arith, slot-below (c .before))
 
 add-x : tie.Need-add-x Inv-loop μ-loop
-add-x c = omega (arith, slot-fits (c .before .before), c .u32-at .ok)
+add-x c = omega (arith, slot-below (c .before .before), c .u32-at .ok)
 
 enter-requires : tie.Need-enter-requires Inv-loop μ-loop
 enter-requires c κs = At (c .before .before .before .before) .loop .inv .4 .shape
@@ -89,7 +86,7 @@ returns : tie.Need-returns Inv-loop μ-loop
 returns c =
     let u = c .before .before .before .before .before .before .before .before in
     let t = u .before .before in
-    twin-there (d-of t) (at-of t) _ (len-of t) (inside t) (its-found t) (At t .loop .inv .4) (its-slot t) (u .u32-at .ensures) (u .u32-at .ok) (c .before .before .before .before .before .enter .ensures) (c .if1 .taken)
+    twin-there (d-of t) (at-of t) (inside t) (At t .loop .inv .4) (its-size t) (its-slot t) (u .u32-at .ensures) (u .u32-at .ok) (c .before .before .before .before .before .enter .ensures) (c .if1 .taken)
 
 add-count : tie.Need-add-count Inv-loop μ-loop
 add-count c = omega (arith, its (c .before .before .before .before .before .before .before .before .before .before))
@@ -101,7 +98,7 @@ loop-again : tie.Need-loop-again Inv-loop μ-loop
 loop-again c =
     let u = c .before .before .before .before .before .before .before .before in
     let t = u .before .before in
-    (omega (arith, its t), omega (arith, its t), search needs, search needs, none-there (d-of t) (at-of t) _ (len-of t) (inside t) (its-found t) (At t .loop .inv .4) (its-slot t) (u .u32-at .ensures) (u .u32-at .ok) (c .before .before .before .before .before .enter .ensures) (c .if1 .left) (omega (arith, its t)))
+    (omega (arith, its t), omega (arith, its t), search needs, search needs, none-there (d-of t) (at-of t) (inside t) (At t .loop .inv .4) (its-size t) (its-slot t) (u .u32-at .ensures) (u .u32-at .ok) (c .before .before .before .before .before .enter .ensures) (c .if1 .left) (omega (arith, its t)))
 
 returns-2 : tie.Need-returns-2 Inv-loop μ-loop
 returns-2 c = finish _ _ (c .loop-test .left) (c .before .loop .inv .4)

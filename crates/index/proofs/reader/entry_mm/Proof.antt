@@ -1,5 +1,5 @@
 use mathlib.Core.Path.{ap, _∙_}
-use Rattle.records.specs.Table.{table, rowOf}
+use Rattle.records.specs.Table.{table, rowOf, MM}
 use Rattle.records.specs.Record.{widths, size, keyIn, keyWidth}
 use Rattle.index.specs.Slots.{slot, slotAt}
 use Rattle.index.specs.Entries.{entry}
@@ -10,7 +10,7 @@ use Rattle.index.proofs.reader.entry_mm.Tie as tie
 
 returns : tie.Need-returns
 unfolding slotAt size widths keyWidth keyIn rowOf table
-returns c = ap (entry _) (c .slot-mm .ensures ∙ ap (slot 5) (rw (c .before .before .u8-at .ensures, c .before .u8-at2 .ensures) (two-fields _)))
+returns c = ap (entry _) (c .slot-mm .ensures ∙ ap (slot MM) (rw (c .before .before .u8-at .ensures, c .before .u8-at2 .ensures) (two-fields _)))
 
 pub entry-mm-spec : {M : Type 1} → statement M
 entry-mm-spec =

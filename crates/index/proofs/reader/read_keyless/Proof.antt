@@ -1,5 +1,5 @@
 use mathlib.Core.Path.{refl, sym, _∙_}
-use Rattle.records.specs.Table.{table}
+use Rattle.records.specs.Table.{table, RS, LC}
 use Rattle.records.specs.Record.{markIn}
 use Rattle.records.proofs.Marks.{letters-keyless}
 use Rattle.index.proofs.Entries.{reading-as, reading-unknown}
@@ -9,11 +9,11 @@ use Rattle.index.proofs.reader.read_keyless.Tie as tie
 
 returns : tie.Need-returns
 unfolding markIn table
-returns c = c .read-rs .ensures ∙ reading-as 82 83 1 _ refl refl (c .before .before .before .before .before .pre .0) (sym (c .before .before .is-mark .ensures) ∙ c .before .if1 .taken)
+returns c = c .read-rs .ensures ∙ reading-as 82 83 RS _ refl refl (c .before .before .before .before .before .pre .0) (sym (c .before .before .is-mark .ensures) ∙ c .before .if1 .taken)
 
 returns-2 : tie.Need-returns-2
 unfolding markIn table
-returns-2 c = c .read-lc .ensures ∙ reading-as 76 67 11 _ refl refl (c .before .before .before .before .before .before .before .before .pre .0) (sym (c .before .before .is-mark2 .ensures) ∙ c .before .if2 .taken)
+returns-2 c = c .read-lc .ensures ∙ reading-as 76 67 LC _ refl refl (c .before .before .before .before .before .before .before .before .pre .0) (sym (c .before .before .is-mark2 .ensures) ∙ c .before .if2 .taken)
 
 returns-3 : tie.Need-returns-3
 returns-3 c =

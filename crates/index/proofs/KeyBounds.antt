@@ -1,0 +1,147 @@
+-- Keys: the numbers within the bounds of the code's table. A record without fault has one.
+use mathlib.Core.Path.{_≡_, refl}
+use mathlib.Core.Bool.{Bool, true, false, cond, _&&_}
+use mathlib.Core.List.{List, [], _∷_}
+use Prim.Native.Nat.{ℕ, _-_, _/_, _%_, _≤_, _<_}
+use native.Mathlib.Omega.{arith}
+use lib.Dec.{ltb, eqb, lit<}
+use lib.ListN.{getD}
+use borrow.Author.Tests.{lt-ltb, ltb-true}
+use Rattle.lists.specs.Tests.{between}
+use Rattle.lists.proofs.Tests.{and-left, and-right, and-both, between-low, between-high, in-between}
+use Rattle.fields.specs.Numbers.{number}
+use Rattle.records.specs.declared.MarkShape.{MarkShape}
+use Rattle.records.specs.Table.{table, rowOf, fieldOf, kinds, RS, HP, FU, AD, MM, RQ, HR, CH, TH, FP, LC}
+use Rattle.records.specs.Record.{mark, offsetIn, offset, read, value, keyIn, keyWidth, keyOf, inRange, rangesHold, fault}
+use Rattle.records.specs.MarkShapes.{shape, shapeOf, keyField, keyFits, keyTest}
+use Rattle.records.proofs.Record.{faultless, field-in}
+use Rattle.records.proofs.Marks.{mark-lt, by-mark}
+
+-- a key field within its bounds
+abbrev pub Span : MarkShape → ℕ → ℕ → Type 0
+Span m i x = (getD (m .lowest) i 0 ≤ x) × (x ≤ getD (m .highest) i 0)
+
+-- a number's key fields; the tests: there is no second field, no third
+unfoldable pub Spans : Bool → Bool → MarkShape → ℕ → Type 0
+Spans true b m n = Span m 0 n
+Spans false true m n = Span m 0 (n / 256) × Span m 1 (n % 256)
+Spans false false m n = Span m 0 (n / 65536) × Span m 1 (n / 256 % 256) × Span m 2 (n % 256)
+
+abbrev pub none : MarkShape → ℕ → Bool
+none m i = eqb (getD (m .highest) i 0) 0
+
+-- a number is a key of mark k
+pub record InKey (k n : ℕ) : Type 0 where
+  pub known : 1 ≤ k
+  pub low : k < kinds
+  pub spans : Spans (none (shapeOf k) 1) (none (shapeOf k) 2) (shapeOf k) n
+
+span-of : {lo hi x : ℕ} → between lo hi x ≡ true → (lo ≤ x) × (x ≤ hi)
+span-of {lo} {hi} {x} e = (between-low lo hi x e, between-high lo hi x e)
+
+of-span : (m : MarkShape) (i x : ℕ) → Span m i x → keyField m i x ≡ true
+unfolding keyField
+of-span m i x p = in-between (getD (m .lowest) i 0) (getD (m .highest) i 0) x (p .0) (p .1)
+
+to-span : (m : MarkShape) (i x : ℕ) → keyField m i x ≡ true → Span m i x
+unfolding keyField
+to-span m i x e = span-of e
+
+-- the test of the code decides it
+pub test-key : (k n : ℕ) → k < kinds → keyTest k n ≡ true → InKey k n
+unfolding keyTest keyFits
+test-key k n h e =
+    record { known = ltb-true 0 k (and-left (ltb 0 k) (keyFits (shapeOf k) n) e); low = h; spans = go (shapeOf k) (none (shapeOf k) 1) (none (shapeOf k) 2) (and-right (ltb 0 k) (keyFits (shapeOf k) n) e) }
+  where
+    go : (m : MarkShape) (a b : Bool) → cond a (keyField m 0 n) (cond b (keyField m 0 (n / 256) && keyField m 1 (n % 256)) (keyField m 0 (n / 65536) && keyField m 1 (n / 256 % 256) && keyField m 2 (n % 256))) ≡ true → Spans a b m n
+    go m true b e = unfold Spans in to-span m 0 n e
+    go m false true e =
+        unfold Spans in
+        (to-span m 0 (n / 256) (and-left (keyField m 0 (n / 256)) (keyField m 1 (n % 256)) e), to-span m 1 (n % 256) (and-right (keyField m 0 (n / 256)) (keyField m 1 (n % 256)) e))
+    go m false false e =
+        let f = and-left (keyField m 0 (n / 65536) && keyField m 1 (n / 256 % 256)) (keyField m 2 (n % 256)) e in
+        unfold Spans in
+        (to-span m 0 (n / 65536) (and-left (keyField m 0 (n / 65536)) (keyField m 1 (n / 256 % 256)) f), to-span m 1 (n / 256 % 256) (and-right (keyField m 0 (n / 65536)) (keyField m 1 (n / 256 % 256)) f), to-span m 2 (n % 256) (and-right (keyField m 0 (n / 65536) && keyField m 1 (n / 256 % 256)) (keyField m 2 (n % 256)) e))
+
+pub key-test : (k n : ℕ) → InKey k n → keyTest k n ≡ true
+unfolding keyTest keyFits
+key-test k n p = and-both (ltb 0 k) (keyFits (shapeOf k) n) (lt-ltb 0 k (omega (arith, p .known))) (go (shapeOf k) (none (shapeOf k) 1) (none (shapeOf k) 2) (p .spans))
+  where
+    go : (m : MarkShape) (a b : Bool) → Spans a b m n → cond a (keyField m 0 n) (cond b (keyField m 0 (n / 256) && keyField m 1 (n % 256)) (keyField m 0 (n / 65536) && keyField m 1 (n / 256 % 256) && keyField m 2 (n % 256))) ≡ true
+    go m true b q = unfold Spans in of-span m 0 n q
+    go m false true q = unfold Spans in rw (of-span m 0 (n / 256) (q .0), of-span m 1 (n % 256) (q .1)) refl
+    go m false false q = unfold Spans in rw (of-span m 0 (n / 65536) (q .0), of-span m 1 (n / 256 % 256) (q .1), of-span m 2 (n % 256) (q .2)) refl
+
+-- ---- a record without fault has a key of its mark
+
+Keyed : List ℕ → ℕ → Type 0
+Keyed r k = rangesHold k r ≡ true → Spans (none (shapeOf k) 1) (none (shapeOf k) 2) (shapeOf k) (number 6 (keyWidth k) r)
+
+module _ (r : List ℕ) where
+  keyed-rs : Keyed r RS
+  unfolding Keyed Spans shapeOf shape keyWidth keyIn rowOf table number
+  keyed-rs h = (omega arith, omega arith)
+
+  keyed-lc : Keyed r LC
+  unfolding Keyed Spans shapeOf shape keyWidth keyIn rowOf table number
+  keyed-lc h = (omega arith, omega arith)
+
+  keyed-hp : Keyed r HP
+  unfolding Keyed Spans shapeOf shape keyWidth keyIn inRange value read offset offsetIn fieldOf rowOf table
+  keyed-hp h = span-of (field-in HP 0 r h (lit< tt))
+
+  keyed-fu : Keyed r FU
+  unfolding Keyed Spans shapeOf shape keyWidth keyIn inRange value read offset offsetIn fieldOf rowOf table
+  keyed-fu h = span-of (field-in FU 0 r h (lit< tt))
+
+  keyed-rq : Keyed r RQ
+  unfolding Keyed Spans shapeOf shape keyWidth keyIn inRange value read offset offsetIn fieldOf rowOf table
+  keyed-rq h = span-of (field-in RQ 0 r h (lit< tt))
+
+  keyed-hr : Keyed r HR
+  unfolding Keyed Spans shapeOf shape keyWidth keyIn inRange value read offset offsetIn fieldOf rowOf table
+  keyed-hr h = span-of (field-in HR 0 r h (lit< tt))
+
+  keyed-ch : Keyed r CH
+  unfolding Keyed Spans shapeOf shape keyWidth keyIn inRange value read offset offsetIn fieldOf rowOf table
+  keyed-ch h = span-of (field-in CH 0 r h (lit< tt))
+
+  keyed-fp : Keyed r FP
+  unfolding Keyed Spans shapeOf shape keyWidth keyIn inRange value read offset offsetIn fieldOf rowOf table
+  keyed-fp h = span-of (field-in FP 0 r h (lit< tt))
+
+  keyed-mm : Keyed r MM
+  unfolding Keyed Spans shapeOf shape keyWidth keyIn inRange value read offset offsetIn fieldOf rowOf table number
+  keyed-mm h =
+      let a = span-of (field-in MM 0 r h (lit< tt)) in
+      let b = span-of (field-in MM 1 r h (lit< tt)) in
+      ((omega (arith, a, b), omega (arith, a, b)), (omega (arith, a, b), omega (arith, a, b)))
+
+  keyed-th : Keyed r TH
+  unfolding Keyed Spans shapeOf shape keyWidth keyIn inRange value read offset offsetIn fieldOf rowOf table number
+  keyed-th h =
+      let a = span-of (field-in TH 0 r h (lit< tt)) in
+      let b = span-of (field-in TH 1 r h (lit< tt)) in
+      ((omega (arith, a, b), omega (arith, a, b)), (omega (arith, a, b), omega (arith, a, b)))
+
+  keyed-ad : Keyed r AD
+  unfolding Keyed Spans shapeOf shape keyWidth keyIn inRange value read offset offsetIn fieldOf rowOf table number
+  keyed-ad h =
+      let a = span-of (field-in AD 0 r h (lit< tt)) in
+      let b = span-of (field-in AD 1 r h (lit< tt)) in
+      let c = span-of (field-in AD 2 r h (lit< tt)) in
+      ((omega (arith, a, b, c), omega (arith, a, b, c)), (omega (arith, a, b, c), omega (arith, a, b, c)), (omega (arith, a, b, c), omega (arith, a, b, c)))
+
+pub in-key : (r : List ℕ) → fault r ≡ 0 → InKey (mark r) (keyOf r)
+unfolding Keyed keyOf
+in-key r e =
+    let f = faultless r e in
+    record {
+      known = omega (arith, f .known);
+      low = mark-lt r;
+      spans = by-mark (Keyed r) (keyed-rs r) (keyed-hp r) (keyed-fu r) (keyed-ad r) (keyed-mm r) (keyed-rq r) (keyed-hr r) (keyed-ch r) (keyed-th r) (keyed-fp r) (keyed-lc r) (mark r) (f .known) (mark-lt r) (f .ranges);
+    }
+
+-- what holds of every mark holds of a key's
+pub at-mark : (P : ℕ → Type 0) (k n : ℕ) → InKey k n → P RS → P HP → P FU → P AD → P MM → P RQ → P HR → P CH → P TH → P FP → P LC → P k
+at-mark P k n p a b c d e f g h i j m = by-mark P a b c d e f g h i j m k (λ z. omega (arith, z, p .known)) (p .low)
