@@ -2,9 +2,9 @@
 use mathlib.Core.Path.{refl}
 use Rattle.lists.specs.Lists.{done, also}
 use Rattle.layout.proofs.Computed.{computed}
-use Rattle.promise.specs.Stations.{valuesIn, made, pair}
+use Rattle.promise.specs.Stations.{pair}
 use Rattle.promise.specs.Marked.{MarkedHold, marked}
 
 pub marked-hold : MarkedHold
-unfolding marked valuesIn made pair computed
+unfolding marked pair computed
 marked-hold = also refl (also refl (also refl (also refl (also refl (also refl (also refl (also refl (also refl (also refl (also refl (also refl (also refl (also refl done)))))))))))))

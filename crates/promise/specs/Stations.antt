@@ -1,24 +1,9 @@
 -- The stations and offers of the marked cases, a station on a river and an idle battery, in the papers' numbers and, through the table, as bytes.
 use mathlib.Core.List.{List, [], _∷_, _++_}
-use Prim.Native.Nat.{ℕ, zero, suc, _+_, _*_, _-_}
+use Prim.Native.Nat.{ℕ, zero, suc, _+_, _*_}
 use Rattle.fields.specs.Numbers.{bytesOf}
-use Rattle.records.specs.Table.{Field, rowOf, RS, HP, FU, AD, MM, HR, CH, TH, FP, LC}
-
--- ---- bytes from numbers
-
--- a negative number in four bytes
-abbrev pub minus : ℕ → ℕ
-minus n = 4294967296 - n
-
--- values in the widths of some fields
-unfoldable pub valuesIn : List Field → List ℕ → List ℕ
-valuesIn [] vs = []
-valuesIn (f ∷ l) [] = []
-valuesIn (f ∷ l) (v ∷ vs) = bytesOf (f .width) v ++ valuesIn l vs
-
--- the record of mark k, issue i and these values
-unfoldable pub made : ℕ → ℕ → List ℕ → List ℕ
-made k i vs = rowOf k .first ∷ rowOf k .second ∷ bytesOf 4 i ++ valuesIn (rowOf k .fields) vs
+use Rattle.records.specs.Table.{RS, HP, FU, AD, MM, HR, CH, TH, FP, LC}
+use Rattle.records.specs.Made.{minus, made}
 
 -- one pair of an energy offer
 unfoldable pub pair : ℕ → ℕ → List ℕ

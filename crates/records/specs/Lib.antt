@@ -1,5 +1,6 @@
 pub mod Table
 pub mod Record
+pub mod Made
 pub mod MarkShapes
 pub mod Answers
 pub mod Dossier

@@ -1,0 +1,19 @@
+-- A record from its numbers, through the table: what worked cases are made of.
+use mathlib.Core.List.{List, [], _∷_, _++_}
+use Prim.Native.Nat.{ℕ, _-_}
+use Rattle.fields.specs.Numbers.{bytesOf}
+use Rattle.records.specs.Table.{Field, rowOf}
+
+-- a negative number in four bytes
+abbrev pub minus : ℕ → ℕ
+minus n = 4294967296 - n
+
+-- values in the widths of some fields
+unfoldable pub valuesIn : List Field → List ℕ → List ℕ
+valuesIn [] vs = []
+valuesIn (f ∷ l) [] = []
+valuesIn (f ∷ l) (v ∷ vs) = bytesOf (f .width) v ++ valuesIn l vs
+
+-- the record of mark k, issue i and these values
+unfoldable pub made : ℕ → ℕ → List ℕ → List ℕ
+made k i vs = rowOf k .first ∷ rowOf k .second ∷ bytesOf 4 i ++ valuesIn (rowOf k .fields) vs
