@@ -1,3 +1,4 @@
+pub mod Computed
 pub mod Cases
 pub mod Sums
 pub mod Rounding

@@ -13,7 +13,7 @@ use Rattle.station.specs.Parameters.{Parameters}
 use Rattle.rules.specs.Curve.{fullHours}
 use Rattle.rules.specs.Fit.{fits}
 use Rattle.rules.specs.Answer.{unsupported, answer}
-use Rattle.rules.proofs.Computed.{answered}
+use Rattle.rules.proofs.Computed.{computed}
 
 -- ---- whole dossiers
 
@@ -65,7 +65,7 @@ curves =
     ∷ []
 
 pub curves-answered : Answers curves
-unfolding straight answered
+unfolding straight computed
 curves-answered = also refl (also refl (also refl (also refl (also refl (also refl (also refl (also refl (also refl (also refl (also refl done))))))))))
 
 -- a nuclear station without fuel, 31 bytes
@@ -87,7 +87,7 @@ fuels =
     ∷ []
 
 pub fuels-answered : Answers fuels
-unfolding answered
+unfolding computed
 fuels-answered = also refl (also refl (also refl (also refl (also refl (also refl done)))))
 
 -- a battery of 80.0 MW without fuel, 31 bytes
@@ -107,7 +107,7 @@ windows =
     ∷ []
 
 pub windows-answered : Answers windows
-unfolding answered
+unfolding computed
 windows-answered = also refl (also refl (also refl (also refl done)))
 
 -- ---- "then 4 to 9", and which record is refused
@@ -135,7 +135,7 @@ turns =
     ∷ []
 
 pub turns-answered : Answers turns
-unfolding answered
+unfolding computed
 turns-answered = also refl (also refl (also refl (also refl (also refl (also refl (also refl (also refl (also refl (also refl (also refl done))))))))))
 
 -- ---- which technologies a record fits
@@ -210,7 +210,7 @@ levels =
     ∷ []
 
 pub records-fit : map (λ c. fitted (c .mark) (c .values) (thermal ∷ nuclear ∷ storage ∷ hydro ∷ [])) (stations ++ others ++ levels) ≡ map (λ c. c .wanted) (stations ++ others ++ levels)
-unfolding fitted answered
+unfolding fitted computed
 records-fit = refl
 
 -- ---- X, and a forecast
@@ -230,5 +230,5 @@ forecast window n = record { has = λ k m. eqb k FU || eqb k FP && leb m n; says
 
 -- 17 is drawn by a window under 50, or by a place missing
 pub forecasts : (unsupported (forecast 50 50) 100 ≡ Accepted) × (unsupported (forecast 49 50) 100 ≡ Refused 17 100) × (unsupported (forecast 51 50) 100 ≡ Refused 17 100)
-unfolding answered
+unfolding computed
 forecasts = (refl, refl, refl)

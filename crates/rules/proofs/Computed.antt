@@ -1,4 +1,4 @@
--- Every definition from `lists` up to this layer, to compute with: `unfolding answered` under a signature opens all that this one's line names.
+-- Every definition from `lists` up to this layer, to compute with: `unfolding computed` under a signature opens all that this one's line names.
 use Prim.Native.Nat.{ℕ}
 use Rattle.lists.specs.Lists.{joined}
 use Rattle.lists.specs.Tests.{allBelow, allTo, countTo, every, everyOf, among, between}
@@ -17,6 +17,6 @@ use Rattle.rules.specs.Curve.{points, rise, curveHolds, curveFits, fuelH
 use Rattle.rules.specs.Fit.{levelsOf, holds, fieldFits, ruleFits, fits, isCurrent, unfit}
 
 -- how many definitions there are to open
-unfoldable pub answered : ℕ
+unfoldable pub computed : ℕ
 unfolding joined allBelow allTo countTo every everyOf among between number bytesOnto bytesOf signed biased biasedOf orElse refuseIf drawn isAccepted answerNumbers numberOf placeOf valuesIn made firstOf restOf recordsIn records moneyAtIn moneyAt firstDrawn scan limitOf markIn mark issue widths size offsetIn offset keyIn keyWidth keyOf moneyIn moneyByte read value inRange agrees rangesHold fault shape shapes shapeOf keyField keyFits keyTest table rowOf fieldOf matches better currentFrom current startFrom startOf present twin anyTwin twins readable lookup lookupBytes parameters amounts unsupported answer points rise curveHolds curveFits fuelHolds fullHours hoursHold windowFits placesHold forecastFits levelsOf holds fieldFits ruleFits fits isCurrent unfit
-answered = 93
+computed = 93

@@ -54,11 +54,11 @@ at-the-floor = refl
 
 -- 20 pairs are an offer, 21 are not
 twenty-pairs : lengthRefusal (replicate 120 0) ≡ Accepted
-unfolding lengthRefusal refuseIf between
+unfolding computed
 twenty-pairs = refl
 
 twenty-one-pairs : lengthRefusal (replicate 126 0) ≡ Refused 10 126
-unfolding lengthRefusal refuseIf between
+unfolding computed
 twenty-one-pairs = refl
 
 -- a thermal station of 100.0 MW, with a TH for each condition and level
@@ -71,26 +71,26 @@ above = 7 ∷ 208 ∷ 0 ∷ 0 ∷ 0 ∷ 0 ∷ []
 
 -- 10 at the second pair, which doesn't rise, and not 11 at the first
 ten-first : offerRefusal station 1 (above ++ above) ≡ Refused 10 6
-unfolding station above offerRefusal conditionRefusal lengthRefusal malformed aboveCapacity pairHolds priceBefore quantity priceAt before number biased inRange every between orElse refuseIf
+unfolding station above computed
 ten-first = refl
 
 -- that pair alone draws 11
 eleven : offerRefusal station 1 above ≡ Refused 11 0
-unfolding station above offerRefusal conditionRefusal lengthRefusal malformed aboveCapacity pairHolds priceBefore quantity priceAt before number biased inRange every between orElse refuseIf
+unfolding station above computed
 eleven = refl
 
 -- 14 for a condition that there is not, whatever the offer's length
 fourteen-first : offerRefusal station 4 [] ≡ Refused 14 0
-unfolding station offerRefusal conditionRefusal lengthRefusal between orElse refuseIf
+unfolding station computed
 fourteen-first = refl
 
 -- 12 for the energy level, whatever the condition; 14 for a level that is held
 twelve-first : priceRefusal station energy 4 ≡ Refused 12 0
-unfolding station priceRefusal levelRefusal conditionRefusal holds levelsOf among between orElse refuseIf
+unfolding station computed
 twelve-first = refl
 
 fourteen : priceRefusal station 2 4 ≡ Refused 14 0
-unfolding station priceRefusal levelRefusal conditionRefusal holds levelsOf among between orElse refuseIf
+unfolding station computed
 fourteen = refl
 
 -- ---- laminations of 10.00 to 50.0 MW and 20.00 to 100.0 MW; 50 percent, no margin, no floor: limits 15.00 and 30.00
@@ -103,10 +103,10 @@ halfAbove = record { has = λ k n. true; says = λ k n i. cond (eqb i 2) 50 (con
 
 -- 100.0 MW at 16.00: within the limit at its top, above that of the lamination below
 below-its-top : offerFrom halfAbove 1 curve (3 ∷ 232 ∷ 0 ∷ 0 ∷ 6 ∷ 64 ∷ []) 0 1 ≡ Fails 1 1
-unfolding curve halfAbove offerFrom failing failsUnder fails limit overlap quantity priceAt before number biased quotient microDollars cents
+unfolding curve halfAbove computed
 below-its-top = refl
 
 -- 50.0 MW at 15.00, then to 100.0 MW at 30.01: pair 2 only touches the first lamination
 second-lamination : offerFrom halfAbove 1 curve (1 ∷ 244 ∷ 0 ∷ 0 ∷ 5 ∷ 220 ∷ 3 ∷ 232 ∷ 0 ∷ 0 ∷ 11 ∷ 185 ∷ []) 0 2 ≡ Fails 2 2
-unfolding curve halfAbove offerFrom failing failsUnder fails limit overlap quantity priceAt before number biased quotient microDollars cents
+unfolding curve halfAbove computed
 second-lamination = refl
