@@ -1,10 +1,16 @@
--- Worked buffers: a report of three bytes and a lent buffer of five.
+-- Worked buffers and lines: a report of three bytes and a lent buffer of five; the lines of all levels; and a small station's report, told, written and printed.
 use mathlib.Core.Path.{_≡_, refl}
-use mathlib.Core.List.{List, [], _∷_}
+use mathlib.Core.List.{List, [], _∷_, _++_}
 use Prim.Native.Nat.{ℕ}
+use lib.ListN.{replicate}
+use Rattle.lists.specs.Lists.{joined}
 use Rattle.records.specs.declared.Answer.the-variants.{Accepted, Refused}
 use Rattle.records.specs.Answers.{refuseIf, isAccepted}
-use Rattle.layout.specs.Report.{shortFor, bufferWith}
+use Rattle.records.specs.Table.{RS, FU, RQ}
+use Rattle.records.specs.Made.{made}
+use Rattle.formulas.specs.Levels.{row}
+use Rattle.layout.specs.Report.{levelLines, shortFor, bufferWith, written, writtenNumbers, reportAnswer, bufferAfter, prints}
+use Rattle.layout.proofs.Computed.{computed}
 
 abbrev text : List ℕ
 text = 49 ∷ 50 ∷ 10 ∷ []
@@ -26,3 +32,53 @@ refused-keeps = refl
 pub exactly-long-enough : (shortFor text 3 ≡ Accepted) × (shortFor text 2 ≡ Refused 15 0)
 unfolding shortFor refuseIf
 exactly-long-enough = (refl, refl)
+
+-- in the paper's numbers
+pub told : (writtenNumbers (written Accepted 72) ≡ 0 ∷ 72 ∷ []) × (writtenNumbers (written (Refused 15 3) 72) ≡ 2 ∷ 15 ∷ 3 ∷ [])
+unfolding written writtenNumbers
+told = (refl, refl)
+
+-- "Energy lines: lamination, from, to, level", and the others by their words
+pub all-lines : levelLines (row 1 1 0 800 6821 ∷ row 1 2 800 1005 8200 ∷ row 2 0 0 0 439722 ∷ row 3 0 0 0 5 ∷ row 4 0 0 0 100 ∷ [])
+    ≡
+    101 ∷ 110 ∷ 101 ∷ 114 ∷ 103 ∷ 121 ∷ 32 ∷ 49 ∷ 32 ∷ 48 ∷ 46 ∷ 48 ∷ 32 ∷ 56 ∷ 48 ∷ 46 ∷ 48 ∷ 32 ∷ 54 ∷ 56 ∷ 46 ∷ 50 ∷ 49 ∷ 10  -- energy 1 0.0 80.0 68.21
+    ∷ 101 ∷ 110 ∷ 101 ∷ 114 ∷ 103 ∷ 121 ∷ 32 ∷ 50 ∷ 32 ∷ 56 ∷ 48 ∷ 46 ∷ 48 ∷ 32 ∷ 49 ∷ 48 ∷ 48 ∷ 46 ∷ 53 ∷ 32 ∷ 56 ∷ 50 ∷ 46 ∷ 48 ∷ 48 ∷ 10  -- energy 2 80.0 100.5 82.00
+    ∷ 115 ∷ 116 ∷ 97 ∷ 114 ∷ 116 ∷ 32 ∷ 52 ∷ 51 ∷ 57 ∷ 55 ∷ 46 ∷ 50 ∷ 50 ∷ 10  -- start 4397.22
+    ∷ 110 ∷ 111 ∷ 45 ∷ 108 ∷ 111 ∷ 97 ∷ 100 ∷ 32 ∷ 48 ∷ 46 ∷ 48 ∷ 53 ∷ 10  -- no-load 0.05
+    ∷ 114 ∷ 101 ∷ 115 ∷ 101 ∷ 114 ∷ 118 ∷ 101 ∷ 32 ∷ 49 ∷ 46 ∷ 48 ∷ 48 ∷ 10  -- reserve 1.00
+    ∷ []
+unfolding computed
+all-lines = refl
+
+-- ---- a nuclear station whose request 1 asks for profile 2 from hour 256 on, 77 bytes
+
+abbrev reactor : List ℕ
+reactor =
+    joined (made RS 1 (2 ∷ 1000 ∷ 1000 ∷ 0 ∷ 0 ∷ 20000 ∷ 0 ∷ 0 ∷ 0 ∷ [])
+    ∷ made FU 1 (1 ∷ 0 ∷ 0 ∷ []) ∷ made FU 1 (2 ∷ 100000000 ∷ 0 ∷ [])
+    ∷ made RQ 1 (1 ∷ 256 ∷ 999 ∷ 2 ∷ [])
+    ∷ [])
+
+-- its report at hour 256, of 34 bytes
+abbrev lines : List ℕ
+lines =
+    112 ∷ 114 ∷ 111 ∷ 102 ∷ 105 ∷ 108 ∷ 101 ∷ 32 ∷ 50 ∷ 10  -- profile 2
+    ∷ 101 ∷ 110 ∷ 101 ∷ 114 ∷ 103 ∷ 121 ∷ 32 ∷ 49 ∷ 32 ∷ 48 ∷ 46 ∷ 48 ∷ 32 ∷ 49 ∷ 48 ∷ 48 ∷ 46 ∷ 48 ∷ 32 ∷ 50 ∷ 46 ∷ 48 ∷ 48 ∷ 10  -- energy 1 0.0 100.0 2.00
+    ∷ []
+
+-- "a big-endian 4-byte hour, then the dossier"; "16 under four bytes of input" comes first, and "A refusal prints `refused N at P`"
+pub printed : (prints (0 ∷ 0 ∷ 1 ∷ 0 ∷ reactor) ≡ lines)
+    × (prints (0 ∷ 0 ∷ 0 ∷ []) ≡ 114 ∷ 101 ∷ 102 ∷ 117 ∷ 115 ∷ 101 ∷ 100 ∷ 32 ∷ 49 ∷ 54 ∷ 32 ∷ 97 ∷ 116 ∷ 32 ∷ 48 ∷ 10 ∷ [])
+    × (prints (0 ∷ 0 ∷ 0 ∷ 0 ∷ 82 ∷ []) ≡ 114 ∷ 101 ∷ 102 ∷ 117 ∷ 115 ∷ 101 ∷ 100 ∷ 32 ∷ 50 ∷ 32 ∷ 97 ∷ 116 ∷ 32 ∷ 48 ∷ 10 ∷ [])
+unfolding computed
+printed = (refl, refl, refl)
+
+-- it fits a buffer of 34 bytes; 15 comes last, after what the dossier draws
+pub answered : (reportAnswer reactor 256 34 ≡ Accepted) × (reportAnswer reactor 256 33 ≡ Refused 15 0) × (reportAnswer [] 256 0 ≡ Refused 5 0)
+unfolding computed
+answered = (refl, refl, refl)
+
+-- of 36 bytes two stay, and of 33 all
+pub buffered : (bufferAfter reactor 256 (replicate 36 7) ≡ lines ++ (7 ∷ 7 ∷ [])) × (bufferAfter reactor 256 (replicate 33 7) ≡ replicate 33 7) × (bufferAfter [] 256 (7 ∷ []) ≡ 7 ∷ [])
+unfolding computed
+buffered = (refl, refl, refl)

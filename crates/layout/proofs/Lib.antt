@@ -1,3 +1,3 @@
+pub mod Computed
 pub mod Cases
 pub mod Lines
-pub mod Computed

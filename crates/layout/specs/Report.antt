@@ -67,6 +67,11 @@ unfoldable pub written : Answer → ℕ → Written
 written Accepted n = Bytes n
 written (Turned k p) n = Refused k p
 
+-- "a definition gives this paper's number and values for each case": 0 written, with the report's length; 2 refused, with number and place
+unfoldable pub writtenNumbers : Written → List ℕ
+writtenNumbers (Bytes n) = 0 ∷ n ∷ []
+writtenNumbers (Refused k p) = 2 ∷ k ∷ p ∷ []
+
 -- the answer to a report into a buffer of n bytes: "10, 11, 15"
 unfoldable pub reportAnswer : List ℕ → ℕ → ℕ → Answer
 reportAnswer d h n = orElse (answer d) (shortFor (report d h) n)

@@ -2,9 +2,8 @@
 use mathlib.Core.Path.{refl}
 use Rattle.lists.specs.Lists.{done, also}
 use Rattle.layout.proofs.Computed.{computed}
-use Rattle.promise.specs.Stations.{pair}
 use Rattle.promise.specs.Marked.{MarkedHold, marked}
 
 pub marked-hold : MarkedHold
-unfolding marked pair computed
+unfolding marked computed
 marked-hold = also refl (also refl (also refl (also refl (also refl (also refl (also refl (also refl (also refl (also refl (also refl (also refl (also refl (also refl done)))))))))))))

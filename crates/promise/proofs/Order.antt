@@ -63,6 +63,7 @@ module _ {d e : List ℕ} (h : IsAccepted d) (q : Reordered d e) where
         prices = λ t v c price. rw (same-answer, same-parameters, same-levels t) refl;
         report = same-report;
         answer = same-reported;
+        told = λ t n. rw (same-reported t n, same-report t) refl;
         buffer = λ t buf. rw (same-reported t (length buf), same-report t) refl;
       }
 

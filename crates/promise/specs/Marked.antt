@@ -6,6 +6,7 @@ use Prim.Native.Nat.{ℕ, _+_}
 use Rattle.lists.specs.Lists.{Each, joined}
 use Rattle.fields.specs.Numbers.{bias}
 use Rattle.records.specs.Answers.{numberOf}
+use Rattle.records.specs.Made.{pair}
 use Rattle.records.specs.Dossier.{records}
 use Rattle.station.specs.Parameters.{Parameters, Amounts, parameters, amounts, hourPrice}
 use Rattle.rules.specs.Curve.{fullHours}
@@ -15,7 +16,7 @@ use Rattle.formulas.specs.Levels.{chargingCost, shortRunCost, opportunityCost}
 use Rattle.verdicts.specs.Test.{fails}
 use Rattle.verdicts.specs.Verdict.{numbers, onOffer}
 use Rattle.layout.specs.Report.{report, prints}
-use Rattle.promise.specs.Stations.{pair, r1, r1Tested, r1Lines, m6, m7, m9}
+use Rattle.promise.specs.Stations.{r1, r1Tested, r1Lines, m6, m7, m9}
 
 -- what the definitions give, and what the paper marks
 pub record Case : Type 0 where

@@ -3,18 +3,23 @@ use mathlib.Core.Path.{_≡_}
 use mathlib.Core.List.{List}
 use Prim.Native.Nat.{ℕ}
 use lib.IntN.{ℤ}
+use lib.ListN.{length}
 use Rattle.lists.specs.Lists.{Permutation, joined}
 use Rattle.records.specs.Dossier.{records}
 use Rattle.rules.specs.Answer.{IsAccepted}
 use Rattle.formulas.specs.Levels.{levels}
 use Rattle.verdicts.specs.Verdict.{onOffer, onPrice}
-use Rattle.layout.specs.Report.{report, reportAnswer, bufferAfter}
+use Rattle.layout.specs.Report.{report, written, writtenNumbers, reportAnswer, bufferAfter}
 
 -- e is made of the records of d, back to back in some order
 pub record Reordered (d e : List ℕ) : Type 0 where
   pub order : List (List ℕ)
   pub same : Permutation (records d) order
   pub made : e ≡ joined order
+
+-- what the caller of a report into n bytes is told, in the paper's numbers
+abbrev pub told : List ℕ → ℕ → ℕ → List ℕ
+told d h n = writtenNumbers (written (reportAnswer d h n) (length (report d h)))
 
 -- e is accepted, and has the levels, verdicts and report of d at every hour
 pub record SameMeaning (d e : List ℕ) : Type 0 where
@@ -24,6 +29,7 @@ pub record SameMeaning (d e : List ℕ) : Type 0 where
   pub prices : (h v c : ℕ) (price : ℤ) → onPrice d h v c price ≡ onPrice e h v c price
   pub report : (h : ℕ) → report d h ≡ report e h
   pub answer : (h n : ℕ) → reportAnswer d h n ≡ reportAnswer e h n
+  pub told : (h n : ℕ) → told d h n ≡ told e h n
   pub buffer : (h : ℕ) (buf : List ℕ) → bufferAfter d h buf ≡ bufferAfter e h buf
 
 -- every reordering of an accepted dossier means the same

@@ -1,13 +1,8 @@
 -- The stations and offers of the marked cases, a station on a river and an idle battery, in the papers' numbers and, through the table, as bytes.
 use mathlib.Core.List.{List, [], _∷_, _++_}
 use Prim.Native.Nat.{ℕ, zero, suc, _+_, _*_}
-use Rattle.fields.specs.Numbers.{bytesOf}
 use Rattle.records.specs.Table.{RS, HP, FU, AD, MM, HR, CH, TH, FP, LC}
 use Rattle.records.specs.Made.{minus, made}
-
--- one pair of an energy offer
-unfoldable pub pair : ℕ → ℕ → List ℕ
-pair quantity price = bytesOf 2 quantity ++ bytesOf 4 price
 
 -- ---- "Case R1 (thermal, hour 0, profile 1, all issues 1)"
 

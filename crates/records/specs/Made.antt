@@ -1,4 +1,4 @@
--- A record from its numbers, through the table: what worked cases are made of.
+-- A record from its numbers, through the table, and a pair of an offer: what worked cases are made of.
 use mathlib.Core.List.{List, [], _∷_, _++_}
 use Prim.Native.Nat.{ℕ, _-_}
 use Rattle.fields.specs.Numbers.{bytesOf}
@@ -17,3 +17,7 @@ valuesIn (f ∷ l) (v ∷ vs) = bytesOf (f .width) v ++ valuesIn l vs
 -- the record of mark k, issue i and these values
 unfoldable pub made : ℕ → ℕ → List ℕ → List ℕ
 made k i vs = rowOf k .first ∷ rowOf k .second ∷ bytesOf 4 i ++ valuesIn (rowOf k .fields) vs
+
+-- one pair of an energy offer
+unfoldable pub pair : ℕ → ℕ → List ℕ
+pair quantity price = bytesOf 2 quantity ++ bytesOf 4 price

@@ -4,7 +4,7 @@ use Rattle.lists.specs.Lists.{joined}
 use Rattle.lists.specs.Tests.{allBelow, allTo, countTo, every, everyOf, among, between}
 use Rattle.fields.specs.Numbers.{number, bytesOnto, bytesOf, signed, biased, biasedOf}
 use Rattle.records.specs.Answers.{orElse, refuseIf, drawn, isAccepted, answerNumbers, numberOf, placeOf}
-use Rattle.records.specs.Made.{valuesIn, made}
+use Rattle.records.specs.Made.{valuesIn, made, pair}
 use Rattle.records.specs.Dossier.{firstOf, restOf, recordsIn, records, moneyAtIn, moneyAt, firstDrawn, scan}
 use Rattle.records.specs.Raise.{limitOf}
 use Rattle.records.specs.Record.{markIn, mark, issue, widths, size, offsetIn, offset, keyIn, keyWidth, keyOf, moneyIn, moneyByte, read, value, inRange, agrees, rangesHold, fault}
@@ -18,5 +18,5 @@ use Rattle.rules.specs.Fit.{levelsOf, holds, fieldFits, ruleFits, fits, 
 
 -- how many definitions there are to open
 unfoldable pub computed : ℕ
-unfolding joined allBelow allTo countTo every everyOf among between number bytesOnto bytesOf signed biased biasedOf orElse refuseIf drawn isAccepted answerNumbers numberOf placeOf valuesIn made firstOf restOf recordsIn records moneyAtIn moneyAt firstDrawn scan limitOf markIn mark issue widths size offsetIn offset keyIn keyWidth keyOf moneyIn moneyByte read value inRange agrees rangesHold fault shape shapes shapeOf keyField keyFits keyTest table rowOf fieldOf matches better currentFrom current startFrom startOf present twin anyTwin twins readable lookup lookupBytes parameters amounts unsupported answer points rise curveHolds curveFits fuelHolds fullHours hoursHold windowFits placesHold forecastFits levelsOf holds fieldFits ruleFits fits isCurrent unfit
-computed = 93
+unfolding joined allBelow allTo countTo every everyOf among between number bytesOnto bytesOf signed biased biasedOf orElse refuseIf drawn isAccepted answerNumbers numberOf placeOf valuesIn made pair firstOf restOf recordsIn records moneyAtIn moneyAt firstDrawn scan limitOf markIn mark issue widths size offsetIn offset keyIn keyWidth keyOf moneyIn moneyByte read value inRange agrees rangesHold fault shape shapes shapeOf keyField keyFits keyTest table rowOf fieldOf matches better currentFrom current startFrom startOf present twin anyTwin twins readable lookup lookupBytes parameters amounts unsupported answer points rise curveHolds curveFits fuelHolds fullHours hoursHold windowFits placesHold forecastFits levelsOf holds fieldFits ruleFits fits isCurrent unfit
+computed = 94

@@ -1,23 +1,27 @@
--- Worked values of the limit, in cents: document 01's M3 and M4, a limit by margin, and one without a margin; of an offer's length; of
--- refusals where several could be drawn; and of a pair over two laminations.
+-- Worked values of the limit, in cents: document 01's M3 and M4, a limit by margin, and one without a margin; verdicts on offers and prices at
+-- the edge of each rule, beside levels at hand and of whole dossiers; and of refusals where several could be drawn.
 use mathlib.Core.Path.{_≡_, refl}
-use mathlib.Core.Bool.{true, false, cond}
+use mathlib.Core.Bool.{true, false, cond, _&&_, _||_}
 use mathlib.Core.List.{List, [], _∷_, _++_}
 use Prim.Native.Nat.{ℕ, _+_}
-use lib.Dec.{eqb}
+use lib.Dec.{leb, eqb}
+use lib.IntN.{ℤ, pos, negsuc}
 use lib.ListN.{replicate}
-use Rattle.lists.specs.Tests.{every, among, between}
-use Rattle.fields.specs.Numbers.{number, biased, bias}
-use Rattle.records.specs.declared.Answer.the-variants.{Accepted, Refused}
-use Rattle.records.specs.Record.{inRange}
-use Rattle.records.specs.Answers.{orElse, refuseIf}
-use Rattle.station.specs.Parameters.{Parameters}
-use Rattle.rules.specs.Fit.{energy, holds, levelsOf}
-use Rattle.formulas.specs.Exact.{whole, quotient, microDollars, cents}
+use Rattle.lists.specs.Lists.{Each, done, also, joined}
+use Rattle.fields.specs.Numbers.{bias}
+use Rattle.records.specs.declared.Answer.the-variants.{Accepted, Refused as Turned}
+use Rattle.records.specs.Table.{RS, HP, FU, AD, RQ, TH}
+use Rattle.records.specs.Made.{minus, made, pair}
+use Rattle.station.specs.Parameters.{Parameters, thresholdKey}
+use Rattle.rules.specs.Fit.{energy, start, noLoad, reserve}
+use Rattle.formulas.specs.Exact.{whole}
 use Rattle.formulas.specs.Levels.{Line, line}
-use Rattle.verdicts.specs.declared.Verdict.the-variants.{Fails}
-use Rattle.verdicts.specs.Test.{noMargin, limit, fails, failsUnder, failing, quantity, priceAt, before, overlap, offerFrom}
-use Rattle.verdicts.specs.Refusals.{levelRefusal, conditionRefusal, priceBefore, pairHolds, malformed, aboveCapacity, lengthRefusal, offerRefusal, priceRefusal}
+use Rattle.verdicts.specs.declared.Verdict.{Verdict}
+use Rattle.verdicts.specs.declared.Verdict.the-variants.{Passes, Fails, Refused}
+use Rattle.verdicts.specs.Test.{noMargin, limit, fails}
+use Rattle.verdicts.specs.Refusals.{lengthRefusal}
+use Rattle.verdicts.specs.Verdict.{numbers, offerVerdict, priceVerdict, onOffer, onPrice}
+use Rattle.verdicts.proofs.Computed.{computed}
 
 -- M3: by percent 63.45, by margin 67.30
 pub by-percent : limit 4230 50 2500 ≡ 6345
@@ -57,56 +61,156 @@ twenty-pairs : lengthRefusal (replicate 120 0) ≡ Accepted
 unfolding computed
 twenty-pairs = refl
 
-twenty-one-pairs : lengthRefusal (replicate 126 0) ≡ Refused 10 126
+twenty-one-pairs : lengthRefusal (replicate 126 0) ≡ Turned 10 126
 unfolding computed
 twenty-one-pairs = refl
 
--- a thermal station of 100.0 MW, with a TH for each condition and level
-station : Parameters
-station = record { has = λ k n. true; says = λ k n i. cond (eqb i 0) 1 1000 }
+-- a verdict in the paper's numbers
+in-numbers : (numbers Passes ≡ 0 ∷ []) × (numbers (Fails 3 2) ≡ 1 ∷ 3 ∷ 2 ∷ []) × (numbers (Refused 10 6) ≡ 2 ∷ 10 ∷ 6 ∷ [])
+unfolding numbers
+in-numbers = (refl, refl, refl)
 
--- a pair of 200.0 MW at 0.00
-above : List ℕ
-above = 7 ∷ 208 ∷ 0 ∷ 0 ∷ 0 ∷ 0 ∷ []
+-- ---- laminations of 10.00 to 50.0 MW and 20.00 to 100.0 MW; start 30.00, no-load 40.00, reserve 50.00
 
--- 10 at the second pair, which doesn't rise, and not 11 at the first
-ten-first : offerRefusal station 1 (above ++ above) ≡ Refused 10 6
-unfolding station above computed
-ten-first = refl
+abbrev levels : List Line
+levels =
+    line energy 1 0 500 (whole 10000000) ∷ line energy 2 500 1000 (whole 20000000)
+    ∷ line start 0 0 0 (whole 30000000) ∷ line noLoad 0 0 0 (whole 40000000) ∷ line reserve 0 0 0 (whole 50000000)
+    ∷ []
 
--- that pair alone draws 11
-eleven : offerRefusal station 1 above ≡ Refused 11 0
-unfolding station above computed
-eleven = refl
+-- a station of 100.0 MW, of technology t. Its thresholds: condition 1, and 2 for energy alone; 50 percent, no margin, no floor
+abbrev station : ℕ → Parameters
+station t =
+    record {
+      has = λ k n. eqb k TH && (eqb n (thresholdKey 2 energy) || leb (thresholdKey 1 energy) n && leb n (thresholdKey 1 reserve));
+      says = λ k n i. cond (eqb k TH) (cond (eqb i 2) 50 (cond (eqb i 3) noMargin 0)) (cond (eqb i 0) t 1000);
+    }
 
--- 14 for a condition that there is not, whatever the offer's length
-fourteen-first : offerRefusal station 4 [] ≡ Refused 14 0
-unfolding station computed
-fourteen-first = refl
+-- an offer under a condition, and its verdict
+record Offer : Type 0 where
+  condition : ℕ
+  offer : List ℕ
+  wanted : Verdict
 
--- 12 for the energy level, whatever the condition; 14 for a level that is held
-twelve-first : priceRefusal station energy 4 ≡ Refused 12 0
-unfolding station computed
-twelve-first = refl
+abbrev under : ℕ → List ℕ → Verdict → Offer
+under c o v = record { condition = c; offer = o; wanted = v }
 
-fourteen : priceRefusal station 2 4 ≡ Refused 14 0
-unfolding station computed
-fourteen = refl
+-- under condition 1
+abbrev case : List ℕ → Verdict → Offer
+case o v = under 1 o v
 
--- ---- laminations of 10.00 to 50.0 MW and 20.00 to 100.0 MW; 50 percent, no margin, no floor: limits 15.00 and 30.00
+abbrev Judges : List Offer → Type 0
+Judges l = Each (λ x. offerVerdict (station 1) (x .condition) levels (x .offer) ≡ x .wanted) l
 
-curve : List Line
-curve = line energy 1 0 500 (whole 10000000) ∷ line energy 2 500 1000 (whole 20000000) ∷ []
+-- limits 15.00 and 30.00: "fails if it fails in any lamination it overlaps by more than a point; the answer names the first such pair, then lamination"
+abbrev offers : List Offer
+offers =
+    case (pair 500 1500 ++ pair 1000 3000) Passes  -- at both limits
+    ∷ case (pair 500 1500 ++ pair 1000 3001) (Fails 2 2)
+    ∷ case (pair 1000 1600) (Fails 1 1)  -- within the limit at its top, above that of the lamination below
+    ∷ case (pair 1000 3001) (Fails 1 1)  -- in both laminations
+    ∷ case (pair 500 1501 ++ pair 1000 3001) (Fails 1 1)  -- and both pairs
+    ∷ case (pair 500 1500 ++ pair 1000 1501) Passes  -- pair 2 only touches the first lamination
+    ∷ case (pair 499 1500 ++ pair 1000 1501) (Fails 2 1)  -- reaches into it
+    ∷ case (pair 500 1500 ++ pair 501 3001) (Fails 2 2)  -- and into the second
+    ∷ case (pair 500 (minus 200000)) Passes  -- a price below 0, and the lowest
+    ∷ case (pair 500 200000) (Fails 1 1)  -- the highest
+    ∷ []
 
-halfAbove : Parameters
-halfAbove = record { has = λ k n. true; says = λ k n i. cond (eqb i 2) 50 (cond (eqb i 3) noMargin 0) }
+pub offers-judged : Judges offers
+unfolding computed
+offers-judged = also refl (also refl (also refl (also refl (also refl (also refl (also refl (also refl (also refl (also refl done)))))))))
 
--- 100.0 MW at 16.00: within the limit at its top, above that of the lamination below
-below-its-top : offerFrom halfAbove 1 curve (3 ∷ 232 ∷ 0 ∷ 0 ∷ 6 ∷ 64 ∷ []) 0 1 ≡ Fails 1 1
-unfolding curve halfAbove computed
-below-its-top = refl
+-- "10 malformed offer: its length, a pair's price out of range, or a quantity or price against the rule above; 11 quantity above capacity"
+abbrev malformedOffers : List Offer
+malformedOffers =
+    case [] (Refused 10 0)
+    ∷ case (replicate 5 1) (Refused 10 5)
+    ∷ case (pair 500 0 ++ (0 ∷ [])) (Refused 10 7)
+    ∷ case (pair 500 200001) (Refused 10 0)
+    ∷ case (pair 500 (minus 200001)) (Refused 10 0)
+    ∷ case (pair 0 0) (Refused 10 0)  -- "from above 0"
+    ∷ case (pair 500 0 ++ pair 500 0) (Refused 10 6)  -- "quantities rise strictly"
+    ∷ case (pair 1 0 ++ pair 2 0 ++ pair 2 0) (Refused 10 12)
+    ∷ case (pair 500 1 ++ pair 600 0) (Refused 10 6)  -- "prices don't fall"
+    ∷ case (pair 500 (minus 1) ++ pair 600 (minus 2)) (Refused 10 6)
+    ∷ case (pair 500 (minus 1) ++ pair 600 0 ++ pair 1000 0) Passes  -- they may stay
+    ∷ case (pair 1001 0) (Refused 11 0)
+    ∷ case (pair 500 0 ++ pair 1001 0 ++ pair 1002 0) (Refused 11 6)
+    ∷ []
 
--- 50.0 MW at 15.00, then to 100.0 MW at 30.01: pair 2 only touches the first lamination
-second-lamination : offerFrom halfAbove 1 curve (1 ∷ 244 ∷ 0 ∷ 0 ∷ 5 ∷ 220 ∷ 3 ∷ 232 ∷ 0 ∷ 0 ∷ 11 ∷ 185 ∷ []) 0 2 ≡ Fails 2 2
-unfolding curve halfAbove computed
-second-lamination = refl
+pub malformed-judged : Judges malformedOffers
+unfolding computed
+malformed-judged = also refl (also refl (also refl (also refl (also refl (also refl (also refl (also refl (also refl (also refl (also refl (also refl (also refl done))))))))))))
+
+-- "12, 14, 10, 11"; "14 condition not 1 to 3 or no TH for it and the level"
+abbrev turns : List Offer
+turns =
+    under 0 [] (Refused 14 0)
+    ∷ under 4 [] (Refused 14 0)
+    ∷ under 3 [] (Refused 14 0)  -- no TH; 14 before 10
+    ∷ under 2 (pair 1000 1500) Passes
+    ∷ under 1 (pair 2000 0 ++ pair 2000 0) (Refused 10 6)  -- 10 before 11, at a later pair
+    ∷ []
+
+pub turns-judged : Judges turns
+unfolding computed
+turns-judged = also refl (also refl (also refl (also refl (also refl done))))
+
+-- a price at a technology, for a level and under a condition, and its verdict
+record Price : Type 0 where
+  technology : ℕ
+  level : ℕ
+  condition : ℕ
+  price : ℕ
+  wanted : Verdict
+
+abbrev at : ℕ → ℕ → ℕ → ℕ → Verdict → Price
+at t v c x w = record { technology = t; level = v; condition = c; price = x + bias; wanted = w }
+
+-- each level by its own limit; "12 level not 1 to 4, not held by the technology, or 1 put to the single-price test"
+abbrev prices : List Price
+prices =
+    at 1 2 1 4500 Passes
+    ∷ at 1 2 1 4501 (Fails 0 0)
+    ∷ at 1 3 1 6000 Passes
+    ∷ at 1 3 1 6001 (Fails 0 0)
+    ∷ at 1 4 1 7500 Passes
+    ∷ at 1 4 1 7501 (Fails 0 0)
+    ∷ at 1 1 4 0 (Refused 12 0)  -- 12 before 14
+    ∷ at 1 0 1 0 (Refused 12 0)
+    ∷ at 1 5 1 0 (Refused 12 0)
+    ∷ at 2 4 1 0 (Refused 12 0)  -- nuclear
+    ∷ at 3 2 1 0 (Refused 12 0)  -- storage
+    ∷ at 3 4 1 7500 Passes
+    ∷ at 1 2 4 0 (Refused 14 0)
+    ∷ at 1 2 2 0 (Refused 14 0)  -- condition 2 has a TH for energy alone
+    ∷ []
+
+pub prices-judged : Each (λ x. priceVerdict (station (x .technology)) (x .level) (x .condition) levels (x .price) ≡ x .wanted) prices
+unfolding computed
+prices-judged =
+    also refl (also refl (also refl (also refl (also refl (also refl (also refl (also refl (also refl (also refl (also refl (also refl (also refl (also refl done)))))))))))))
+
+-- ---- whole dossiers
+
+-- a thermal unit without cost but for reserve's, 0.25, and from hour 5 on, in profile 2, an adder of 1.00 to energy; condition 1 has 50 percent, no margin and no floor for both
+abbrev unit : List ℕ
+unit =
+    joined (made RS 1 (1 ∷ 1000 ∷ 1000 ∷ 0 ∷ 0 ∷ 0 ∷ 0 ∷ 0 ∷ 0 ∷ [])
+    ∷ made HP 1 (1 ∷ 500 ∷ 0 ∷ []) ∷ made HP 1 (2 ∷ 1000 ∷ 0 ∷ [])
+    ∷ made FU 1 (1 ∷ 0 ∷ 0 ∷ []) ∷ made FU 1 (2 ∷ 0 ∷ 0 ∷ [])
+    ∷ made RQ 1 (1 ∷ 5 ∷ 9 ∷ 2 ∷ [])
+    ∷ made AD 1 (2 ∷ 3 ∷ 1 ∷ 1000000 ∷ []) ∷ made AD 1 (1 ∷ 3 ∷ 4 ∷ 250000 ∷ [])
+    ∷ made TH 1 (1 ∷ 1 ∷ 50 ∷ noMargin ∷ 0 ∷ []) ∷ made TH 1 (1 ∷ 4 ∷ 50 ∷ noMargin ∷ 0 ∷ [])
+    ∷ [])
+
+-- at hour 4 the limit is 0.00, at hour 5 it is 1.50; a dossier that is refused comes first
+offers-of-unit : (onOffer unit 4 1 (pair 1000 1) ≡ Fails 1 1) × (onOffer unit 5 1 (pair 1000 150) ≡ Passes) × (onOffer unit 5 1 (pair 1000 151) ≡ Fails 1 1) × (onOffer [] 0 4 [] ≡ Refused 5 0)
+unfolding computed
+offers-of-unit = (refl, refl, refl, refl)
+
+-- reserve's limit is 0.37 with its fraction dropped; a price is signed
+prices-of-unit : (onPrice unit 4 4 1 (pos 37) ≡ Passes) × (onPrice unit 4 4 1 (pos 38) ≡ Fails 0 0) × (onPrice unit 4 4 1 (negsuc 37) ≡ Passes) × (onPrice unit 5 4 1 (pos 1) ≡ Fails 0 0) × (onPrice [] 0 1 4 (pos 0) ≡ Refused 5 0)
+unfolding computed
+prices-of-unit = (refl, refl, refl, refl, refl)
