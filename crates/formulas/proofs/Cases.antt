@@ -10,7 +10,7 @@ use lib.Dec.{eqb, ltb, lit≤, lit<}
 use Rattle.records.specs.Table.{RS, HP, FU, AD, MM, RQ, HR, CH, FP, LC}
 use Rattle.station.specs.Parameters.{Parameters, Amounts, adderKey, itemKey}
 use Rattle.formulas.specs.Sums.{sumHighest, fromTop}
-use Rattle.formulas.specs.Exact.{whole, quotient, microDollars, cents, over, exact, Close}
+use Rattle.formulas.specs.Exact.{whole, share, quotient, microDollars, cents, over, exact, Close}
 use Rattle.formulas.specs.Levels.{profile, adders, thermalEnergy, startCost, noLoadCost, nuclearEnergy, chargingCost, shortRunCost, opportunityCost, storageEnergy, hydroEnergy, line, lines, Shown, row, shown, NoLower}
 use Rattle.formulas.specs.Memo.{Week, calculated, lastNonZero, memoCost, toSend}
 use Rattle.formulas.proofs.Computed.{computed}
@@ -158,9 +158,9 @@ opportunity : microDollars (opportunityCost (asParameters storage) (asAmounts st
 unfolding storage find computed
 opportunity = refl
 
--- a window of four: the lowest of its hours doesn't count, nor does an hour behind it
+-- a window of four whose second hour is the lowest, which doesn't count; nor does an hour behind the window
 longer : List Entry
-longer = says RS 0 8 4 ∷ says HR 4 1 (owed 500) ∷ says HR 5 1 (price 99999) ∷ storage
+longer = says RS 0 8 4 ∷ says HR 2 1 (owed 500) ∷ says HR 4 1 (price 10640) ∷ says HR 5 1 (price 99999) ∷ storage
 
 longer-opportunity : microDollars (opportunityCost (asParameters longer) (asAmounts longer)) ≡ 204800000
 unfolding longer storage find computed
@@ -186,16 +186,16 @@ places : (fromTop 1 (5 ∷ 9 ∷ 9 ∷ 1 ∷ []) ≡ 9) × (fromTop 2 (5 ∷ 9 �
 unfolding computed
 places = (refl, refl, refl, refl)
 
--- a window of 149, so place 2 from the top of 30.00, 35.00 and 40.00; consumables 0.25
+-- a window of 149, so place 2 from the top of 30.00, 35.00 and, at the window's end, 40.00; consumables 0.25
 hydro : List Entry
-hydro = says RS 0 8 149 ∷ says FP 3 1 (price 3000) ∷ says FP 7 1 (price 3500) ∷ says FP 9 1 (price 4000) ∷ says AD (adderKey 1 3 1) 3 250000 ∷ []
+hydro = says RS 0 8 149 ∷ says FP 3 1 (price 3000) ∷ says FP 7 1 (price 3500) ∷ says FP 149 1 (price 4000) ∷ says FP 150 1 (price 99999) ∷ says AD (adderKey 1 3 1) 3 250000 ∷ []
 
 hydro-sum : microDollars (hydroEnergy (asParameters hydro) (asAmounts hydro) 1) ≡ 35250000
 unfolding hydro find computed
 hydro-sum = refl
 
 -- place 3 of 40.00 twice and 30.00: each counts
-hydro-equal : microDollars (hydroEnergy (asParameters (says RS 0 8 150 ∷ hydro)) (asAmounts (says FP 7 1 (price 4000) ∷ hydro)) 1) ≡ 30250000
+hydro-equal : microDollars (hydroEnergy (asParameters (says RS 0 8 150 ∷ hydro)) (asAmounts (says FP 7 1 (price 4000) ∷ says FP 150 1 (price 0) ∷ hydro)) 1) ≡ 30250000
 unfolding hydro find computed
 hydro-equal = refl
 
@@ -251,12 +251,17 @@ opportunity-thirds = refl
 
 -- ---- "with no division dropped and no cent rounded": one whole number over another
 
--- 627,110,000 / 3, and for short (60,020,000 / 3 + 750,000) × 1,000 / 800 = 62,270,000 / 2.4
+-- opportunity 627,110,000 / 3, short-run (60,020,000 / 3 + 750,000) × 1,000 / 800 = 622,700,000 / 24
 exact-thirds : (exact (opportunityCost (asParameters thirds) (asAmounts thirds)) .num * 3 ≡ exact (opportunityCost (asParameters thirds) (asAmounts thirds)) .den * 627110000)
     × (exact (shortRunCost (asParameters thirds) (asAmounts thirds) 1) .num * 24 ≡ exact (shortRunCost (asParameters thirds) (asAmounts thirds) 1) .den * 622700000)
     × (exact (storageEnergy (asParameters thirds) (asAmounts thirds) 1) .num * 3 ≡ exact (storageEnergy (asParameters thirds) (asAmounts thirds) 1) .den * 627110000)
 unfolding thirds storage find computed
 exact-thirds = (refl, refl, refl)
+
+-- of a record that is not there
+exact-none : (exact (share 8 0) .num ≡ 0) × (exact (share 8 0) .den ≡ 1)
+unfolding exact
+exact-none = (refl, refl)
 
 -- the unit of halves: fuel, emission and two items of half a micro-dollar are 2
 exact-halves : exact (thermalEnergy (asParameters halves) (asAmounts halves) 1 1) .num ≡ exact (thermalEnergy (asParameters halves) (asAmounts halves) 1 1) .den * 2
@@ -374,11 +379,13 @@ storage-lines : map shown (lines (asParameters (says RS 0 0 3 ∷ storage)) (asA
 unfolding storage find computed
 storage-lines = refl
 
--- and hydroelectric
-hydro-lines : map shown (lines (asParameters (says RS 0 0 4 ∷ says RS 0 1 500 ∷ hydro)) (asAmounts (says AD (adderKey 1 3 4) 3 250000 ∷ hydro)) 0)
-    ≡ row 1 1 0 500 3525 ∷ row 4 0 0 0 25 ∷ []
-unfolding hydro find computed
-hydro-lines = refl
+-- and hydroelectric, with an item of 0.80
+river : List Entry
+river = says RS 0 0 4 ∷ says RS 0 1 500 ∷ says AD (adderKey 1 3 4) 3 100000 ∷ item (itemKey 1 1) 200000000 1000 25000 0 hydro
+
+river-lines : map shown (lines (asParameters river) (asAmounts river) 0) ≡ row 1 1 0 500 3605 ∷ row 4 0 0 0 10 ∷ []
+unfolding river hydro find computed
+river-lines = refl
 
 -- ---- document 002's weeks: charged at 1.25, then for nothing, then idle
 
