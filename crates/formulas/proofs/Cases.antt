@@ -10,8 +10,8 @@ use lib.Dec.{eqb, ltb, lit≤, lit<}
 use Rattle.records.specs.Table.{RS, HP, FU, AD, MM, RQ, HR, CH, FP, LC}
 use Rattle.station.specs.Parameters.{Parameters, Amounts, adderKey, itemKey}
 use Rattle.formulas.specs.Sums.{sumHighest, fromTop}
-use Rattle.formulas.specs.Exact.{whole, share, quotient, microDollars, cents, over, exact, Close}
-use Rattle.formulas.specs.Levels.{profile, adders, thermalEnergy, startCost, noLoadCost, nuclearEnergy, chargingCost, shortRunCost, opportunityCost, storageEnergy, hydroEnergy, line, lines, Shown, row, shown, NoLower}
+use Rattle.formulas.specs.Exact.{whole, share, quotient, microDollars, cents, ratio, exact, Close}
+use Rattle.formulas.specs.Levels.{profile, adders, thermalEnergy, startCost, noLoadCost, nuclearEnergy, chargingCost, shortRunCost, opportunityCost, storageEnergy, hydroEnergy, line, lines, shownAs, shown, NoLower}
 use Rattle.formulas.specs.Memo.{Week, calculated, lastNonZero, memoCost, toSend}
 use Rattle.formulas.proofs.Computed.{computed}
 
@@ -295,16 +295,16 @@ unfolding far find computed
 far-close = record { real = lit< tt; above = lit≤ tt; below = lit≤ tt }
 
 -- 0.005006 dollar is close on either side, a micro-dollar more is not, and nothing is close to a fraction over 0
-at-the-distance : Close 0 (over 5006 1) × Close 1 (over 4994 1)
+at-the-distance : Close 0 (ratio 5006 1) × Close 1 (ratio 4994 1)
 at-the-distance = (record { real = lit< tt; above = lit≤ tt; below = lit≤ tt }, record { real = lit< tt; above = lit≤ tt; below = lit≤ tt })
 
-too-far-below : Close 0 (over 5007 1) → ⊥
+too-far-below : Close 0 (ratio 5007 1) → ⊥
 too-far-below c = omega (arith, c .below)
 
-too-far-above : Close 1 (over 4993 1) → ⊥
+too-far-above : Close 1 (ratio 4993 1) → ⊥
 too-far-above c = omega (arith, c .above)
 
-over-nothing : Close 0 (over 0 0) → ⊥
+over-nothing : Close 0 (ratio 0 0) → ⊥
 over-nothing c = omega (arith, c .real)
 
 -- a level is lower by a cent, which one micro-dollar can make
@@ -355,13 +355,13 @@ unit =
 
 -- fuel 48.00 and 60.00, emission 8.00 and 10.00, adders 11.11, maintenance 1.10; the start has 875.00 of it
 unit-lines : map shown (lines (asParameters unit) (asAmounts unit) 5)
-    ≡ row 1 1 0 800 6821 ∷ row 1 2 800 1000 8221 ∷ row 2 0 0 0 439722 ∷ row 3 0 0 0 73333 ∷ row 4 0 0 0 4444 ∷ []
+    ≡ shownAs 1 1 0 800 6821 ∷ shownAs 1 2 800 1000 8221 ∷ shownAs 2 0 0 0 439722 ∷ shownAs 3 0 0 0 73333 ∷ shownAs 4 0 0 0 4444 ∷ []
 unfolding unit find computed
 unit-lines = refl
 
 -- profile 1, at hour 10, has no cost at all
 unit-behind : map shown (lines (asParameters unit) (asAmounts unit) 10)
-    ≡ row 1 1 0 800 0 ∷ row 1 2 800 1000 0 ∷ row 2 0 0 0 0 ∷ row 3 0 0 0 0 ∷ row 4 0 0 0 0 ∷ []
+    ≡ shownAs 1 1 0 800 0 ∷ shownAs 1 2 800 1000 0 ∷ shownAs 2 0 0 0 0 ∷ shownAs 3 0 0 0 0 ∷ shownAs 4 0 0 0 0 ∷ []
 unfolding unit find computed
 unit-behind = refl
 
@@ -369,13 +369,13 @@ unit-behind = refl
 reactor : List Entry
 reactor = item (itemKey 1 1) 200000000 1000 25000 0 (says RS 0 0 2 ∷ says RS 0 1 9000 ∷ nuclear)
 
-reactor-lines : map shown (lines (asParameters reactor) (asAmounts reactor) 0) ≡ row 1 1 0 9000 405 ∷ []
+reactor-lines : map shown (lines (asParameters reactor) (asAmounts reactor) 0) ≡ shownAs 1 1 0 9000 405 ∷ []
 unfolding reactor nuclear find computed
 reactor-lines = refl
 
 -- "storage 1 and 4"
 storage-lines : map shown (lines (asParameters (says RS 0 0 3 ∷ storage)) (asAmounts (says AD (adderKey 1 3 4) 3 250000 ∷ storage)) 0)
-    ≡ row 1 1 0 800 20480 ∷ row 4 0 0 0 25 ∷ []
+    ≡ shownAs 1 1 0 800 20480 ∷ shownAs 4 0 0 0 25 ∷ []
 unfolding storage find computed
 storage-lines = refl
 
@@ -383,7 +383,7 @@ storage-lines = refl
 river : List Entry
 river = says RS 0 0 4 ∷ says RS 0 1 500 ∷ says AD (adderKey 1 3 4) 3 100000 ∷ item (itemKey 1 1) 200000000 1000 25000 0 hydro
 
-river-lines : map shown (lines (asParameters river) (asAmounts river) 0) ≡ row 1 1 0 500 3605 ∷ row 4 0 0 0 10 ∷ []
+river-lines : map shown (lines (asParameters river) (asAmounts river) 0) ≡ shownAs 1 1 0 500 3605 ∷ shownAs 4 0 0 0 10 ∷ []
 unfolding river hydro find computed
 river-lines = refl
 

@@ -8,7 +8,7 @@ use Rattle.records.specs.declared.Answer.the-variants.{Accepted, Refused}
 use Rattle.records.specs.Answers.{refuseIf, isAccepted}
 use Rattle.records.specs.Table.{RS, FU, RQ}
 use Rattle.records.specs.Made.{made}
-use Rattle.formulas.specs.Levels.{row}
+use Rattle.formulas.specs.Levels.{shownAs}
 use Rattle.layout.specs.Report.{levelLines, shortFor, bufferWith, written, writtenNumbers, reportAnswer, bufferAfter, prints}
 use Rattle.layout.proofs.Computed.{computed}
 
@@ -39,7 +39,7 @@ unfolding written writtenNumbers
 told = (refl, refl)
 
 -- "Energy lines: lamination, from, to, level", and the others by their words
-pub all-lines : levelLines (row 1 1 0 800 6821 ∷ row 1 2 800 1005 8200 ∷ row 2 0 0 0 439722 ∷ row 3 0 0 0 5 ∷ row 4 0 0 0 100 ∷ [])
+pub all-lines : levelLines (shownAs 1 1 0 800 6821 ∷ shownAs 1 2 800 1005 8200 ∷ shownAs 2 0 0 0 439722 ∷ shownAs 3 0 0 0 5 ∷ shownAs 4 0 0 0 100 ∷ [])
     ≡
     101 ∷ 110 ∷ 101 ∷ 114 ∷ 103 ∷ 121 ∷ 32 ∷ 49 ∷ 32 ∷ 48 ∷ 46 ∷ 48 ∷ 32 ∷ 56 ∷ 48 ∷ 46 ∷ 48 ∷ 32 ∷ 54 ∷ 56 ∷ 46 ∷ 50 ∷ 49 ∷ 10  -- energy 1 0.0 80.0 68.21
     ∷ 101 ∷ 110 ∷ 101 ∷ 114 ∷ 103 ∷ 121 ∷ 32 ∷ 50 ∷ 32 ∷ 56 ∷ 48 ∷ 46 ∷ 48 ∷ 32 ∷ 49 ∷ 48 ∷ 48 ∷ 46 ∷ 53 ∷ 32 ∷ 56 ∷ 50 ∷ 46 ∷ 48 ∷ 48 ∷ 10  -- energy 2 80.0 100.5 82.00
