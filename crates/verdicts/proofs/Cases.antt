@@ -38,6 +38,11 @@ without-margin : limit 4231 50 noMargin ≡ 6346
 unfolding limit
 without-margin = refl
 
+-- a level of a million dollars and 10,000 percent: 4,294,967,295 is no margin, one less is one
+no-margin : (limit 100000000 10000 4294967295 ≡ 10100000000) × (limit 100000000 10000 4294967294 ≡ 4394967294)
+unfolding limit
+no-margin = (refl, refl)
+
 -- M3: 63.45 passes, 63.46 fails
 at-the-limit : fails 4230 50 2500 0 (6345 + bias) ≡ false
 unfolding fails limit
@@ -78,12 +83,20 @@ levels =
     ∷ line start 0 0 0 (whole 30000000) ∷ line noLoad 0 0 0 (whole 40000000) ∷ line reserve 0 0 0 (whole 50000000)
     ∷ []
 
--- a station of 100.0 MW, of technology t. Its thresholds: condition 1, and 2 for energy alone; 50 percent, no margin, no floor
+-- percent by condition and level: 50 for energy, 10 for start, 20 for no-load and 30 for reserve under condition 1; 0 for energy under condition 2, which has no other TH
+abbrev percents : ℕ → ℕ
+percents n =
+    cond (eqb n (thresholdKey 1 energy)) 50
+    (cond (eqb n (thresholdKey 1 start)) 10
+    (cond (eqb n (thresholdKey 1 noLoad)) 20
+    (cond (eqb n (thresholdKey 1 reserve)) 30 0)))
+
+-- a station of 100.0 MW, of technology t, with these thresholds, no margin and no floor
 abbrev station : ℕ → Parameters
 station t =
     record {
       has = λ k n. eqb k TH && (eqb n (thresholdKey 2 energy) || leb (thresholdKey 1 energy) n && leb n (thresholdKey 1 reserve));
-      says = λ k n i. cond (eqb k TH) (cond (eqb i 2) 50 (cond (eqb i 3) noMargin 0)) (cond (eqb i 0) t 1000);
+      says = λ k n i. cond (eqb k TH) (cond (eqb i 2) (percents n) (cond (eqb i 3) noMargin 0)) (cond (eqb i 0) t 1000);
     }
 
 -- an offer under a condition, and its verdict
@@ -149,13 +162,14 @@ turns =
     under 0 [] (Refused 14 0)
     ∷ under 4 [] (Refused 14 0)
     ∷ under 3 [] (Refused 14 0)  -- no TH; 14 before 10
-    ∷ under 2 (pair 1000 1500) Passes
+    ∷ under 2 (pair 1000 1000) Passes
+    ∷ under 2 (pair 1000 1001) (Fails 1 1)
     ∷ under 1 (pair 2000 0 ++ pair 2000 0) (Refused 10 6)  -- 10 before 11, at a later pair
     ∷ []
 
 pub turns-judged : Judges turns
 unfolding computed
-turns-judged = also refl (also refl (also refl (also refl (also refl done))))
+turns-judged = also refl (also refl (also refl (also refl (also refl (also refl done)))))
 
 -- a price at a technology, for a level and under a condition, and its verdict
 record Price : Type 0 where
@@ -171,18 +185,18 @@ at t v c x w = record { technology = t; level = v; condition = c; price = x + bi
 -- each level by its own limit; "12 level not 1 to 4, not held by the technology, or 1 put to the single-price test"
 abbrev prices : List Price
 prices =
-    at 1 2 1 4500 Passes
-    ∷ at 1 2 1 4501 (Fails 0 0)
-    ∷ at 1 3 1 6000 Passes
-    ∷ at 1 3 1 6001 (Fails 0 0)
-    ∷ at 1 4 1 7500 Passes
-    ∷ at 1 4 1 7501 (Fails 0 0)
+    at 1 2 1 3300 Passes
+    ∷ at 1 2 1 3301 (Fails 0 0)
+    ∷ at 1 3 1 4800 Passes
+    ∷ at 1 3 1 4801 (Fails 0 0)
+    ∷ at 1 4 1 6500 Passes
+    ∷ at 1 4 1 6501 (Fails 0 0)
     ∷ at 1 1 4 0 (Refused 12 0)  -- 12 before 14
     ∷ at 1 0 1 0 (Refused 12 0)
     ∷ at 1 5 1 0 (Refused 12 0)
     ∷ at 2 4 1 0 (Refused 12 0)  -- nuclear
     ∷ at 3 2 1 0 (Refused 12 0)  -- storage
-    ∷ at 3 4 1 7500 Passes
+    ∷ at 3 4 1 6500 Passes
     ∷ at 1 2 4 0 (Refused 14 0)
     ∷ at 1 2 2 0 (Refused 14 0)  -- condition 2 has a TH for energy alone
     ∷ []
