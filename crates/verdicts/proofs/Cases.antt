@@ -4,7 +4,7 @@ use mathlib.Core.Path.{_≡_, refl}
 use mathlib.Core.Bool.{true, false, cond, _&&_, _||_}
 use mathlib.Core.List.{List, [], _∷_, _++_}
 use Prim.Native.Nat.{ℕ, _+_}
-use lib.Dec.{leb, eqb}
+use lib.Dec.{leb, ltb, eqb}
 use lib.IntN.{ℤ, pos, negsuc}
 use lib.ListN.{replicate}
 use Rattle.lists.specs.Lists.{Each, done, also, joined}
@@ -83,7 +83,7 @@ levels =
     ∷ line start 0 0 0 (whole 30000000) ∷ line noLoad 0 0 0 (whole 40000000) ∷ line reserve 0 0 0 (whole 50000000)
     ∷ []
 
--- percent by condition and level: 50 for energy, 10 for start, 20 for no-load and 30 for reserve under condition 1; 0 for energy under condition 2, which has no other TH
+-- percent by condition and level: under condition 1, 50 for energy, 10 for start, 20 for no-load and 30 for reserve; under any other, 0
 abbrev percents : ℕ → ℕ
 percents n =
     cond (eqb n (thresholdKey 1 energy)) 50
@@ -91,11 +91,12 @@ percents n =
     (cond (eqb n (thresholdKey 1 noLoad)) 20
     (cond (eqb n (thresholdKey 1 reserve)) 30 0)))
 
--- a station of 100.0 MW, of technology t, with these thresholds, no margin and no floor
+-- a station of 100.0 MW, of technology t, with these thresholds, no margin and no floor; condition 2 has a TH for reserve alone, 3 for energy alone. Those of a
+-- condition 0 or 4, which no dossier has, count for nothing
 abbrev station : ℕ → Parameters
 station t =
     record {
-      has = λ k n. eqb k TH && (eqb n (thresholdKey 2 energy) || leb (thresholdKey 1 energy) n && leb n (thresholdKey 1 reserve));
+      has = λ k n. eqb k TH && (ltb n 512 || eqb n (thresholdKey 2 reserve) || eqb n (thresholdKey 3 energy) || leb 1024 n);
       says = λ k n i. cond (eqb k TH) (cond (eqb i 2) (percents n) (cond (eqb i 3) noMargin 0)) (cond (eqb i 0) t 1000);
     }
 
@@ -140,6 +141,7 @@ malformedOffers =
     case [] (Refused 10 0)
     ∷ case (replicate 5 1) (Refused 10 5)
     ∷ case (pair 500 0 ++ (0 ∷ [])) (Refused 10 7)
+    ∷ case (pair 500 0 ++ (0 ∷ 0 ∷ 0 ∷ [])) (Refused 10 9)
     ∷ case (pair 500 200001) (Refused 10 0)
     ∷ case (pair 500 (minus 200001)) (Refused 10 0)
     ∷ case (pair 0 0) (Refused 10 0)  -- "from above 0"
@@ -154,16 +156,16 @@ malformedOffers =
 
 pub malformed-judged : Judges malformedOffers
 unfolding computed
-malformed-judged = also refl (also refl (also refl (also refl (also refl (also refl (also refl (also refl (also refl (also refl (also refl (also refl (also refl done))))))))))))
+malformed-judged = also refl (also refl (also refl (also refl (also refl (also refl (also refl (also refl (also refl (also refl (also refl (also refl (also refl (also refl done)))))))))))))
 
 -- "12, 14, 10, 11"; "14 condition not 1 to 3 or no TH for it and the level"
 abbrev turns : List Offer
 turns =
     under 0 [] (Refused 14 0)
     ∷ under 4 [] (Refused 14 0)
-    ∷ under 3 [] (Refused 14 0)  -- no TH; 14 before 10
-    ∷ under 2 (pair 1000 1000) Passes
-    ∷ under 2 (pair 1000 1001) (Fails 1 1)
+    ∷ under 2 [] (Refused 14 0)  -- no TH for energy; 14 before 10
+    ∷ under 3 (pair 1000 1000) Passes
+    ∷ under 3 (pair 1000 1001) (Fails 1 1)
     ∷ under 1 (pair 2000 0 ++ pair 2000 0) (Refused 10 6)  -- 10 before 11, at a later pair
     ∷ []
 
@@ -198,7 +200,7 @@ prices =
     ∷ at 3 2 1 0 (Refused 12 0)  -- storage
     ∷ at 3 4 1 6500 Passes
     ∷ at 1 2 4 0 (Refused 14 0)
-    ∷ at 1 2 2 0 (Refused 14 0)  -- condition 2 has a TH for energy alone
+    ∷ at 1 2 3 0 (Refused 14 0)  -- condition 3 has a TH for energy alone
     ∷ []
 
 pub prices-judged : Each (λ x. priceVerdict (station (x .technology)) (x .level) (x .condition) levels (x .price) ≡ x .wanted) prices
