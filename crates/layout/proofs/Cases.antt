@@ -69,9 +69,10 @@ lines =
 -- "a big-endian 4-byte hour, then the dossier"; "16 under four bytes of input" comes first, and "A refusal prints `refused N at P`"
 pub printed : (prints (0 ∷ 0 ∷ 1 ∷ 0 ∷ reactor) ≡ lines)
     × (prints (0 ∷ 0 ∷ 0 ∷ []) ≡ 114 ∷ 101 ∷ 102 ∷ 117 ∷ 115 ∷ 101 ∷ 100 ∷ 32 ∷ 49 ∷ 54 ∷ 32 ∷ 97 ∷ 116 ∷ 32 ∷ 48 ∷ 10 ∷ [])
+    × (prints (0 ∷ 0 ∷ 0 ∷ 0 ∷ []) ≡ 114 ∷ 101 ∷ 102 ∷ 117 ∷ 115 ∷ 101 ∷ 100 ∷ 32 ∷ 53 ∷ 32 ∷ 97 ∷ 116 ∷ 32 ∷ 48 ∷ 10 ∷ [])
     × (prints (0 ∷ 0 ∷ 0 ∷ 0 ∷ 82 ∷ []) ≡ 114 ∷ 101 ∷ 102 ∷ 117 ∷ 115 ∷ 101 ∷ 100 ∷ 32 ∷ 50 ∷ 32 ∷ 97 ∷ 116 ∷ 32 ∷ 48 ∷ 10 ∷ [])
 unfolding computed
-printed = (refl, refl, refl)
+printed = (refl, refl, refl, refl)
 
 -- it fits a buffer of 34 bytes; 15 comes last, after what the dossier draws
 pub answered : (reportAnswer reactor 256 34 ≡ Accepted) × (reportAnswer reactor 256 33 ≡ Refused 15 0) × (reportAnswer [] 256 0 ≡ Refused 5 0)

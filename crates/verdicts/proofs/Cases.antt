@@ -1,9 +1,10 @@
 -- Worked values of the limit, in cents: document 01's M3 and M4, a limit by margin, and one without a margin; verdicts on offers and prices at
 -- the edge of each rule, beside levels at hand and of whole dossiers; and of refusals where several could be drawn.
-use mathlib.Core.Path.{_≡_, refl}
-use mathlib.Core.Bool.{true, false, cond, _&&_, _||_}
+use mathlib.Core.Path.{_≡_, refl, sym, ap}
+use mathlib.Core.Bool.{true, false, cond, _&&_, _||_, false≢true}
 use mathlib.Core.List.{List, [], _∷_, _++_}
 use Prim.Native.Nat.{ℕ, _+_}
+use native.Mathlib.Omega.{arith}
 use lib.Dec.{leb, ltb, eqb}
 use lib.IntN.{ℤ, pos, negsuc}
 use lib.ListN.{replicate}
@@ -21,6 +22,7 @@ use Rattle.verdicts.specs.declared.Verdict.the-variants.{Passes, Fails, 
 use Rattle.verdicts.specs.Test.{noMargin, limit, fails}
 use Rattle.verdicts.specs.Refusals.{lengthRefusal}
 use Rattle.verdicts.specs.Verdict.{numbers, offerVerdict, priceVerdict, onOffer, onPrice}
+use Rattle.verdicts.specs.First.{Clear, Judged, passing, failed}
 use Rattle.verdicts.proofs.Computed.{computed}
 
 -- M3: by percent 63.45, by margin 67.30
@@ -134,6 +136,35 @@ offers =
 pub offers-judged : Judges offers
 unfolding computed
 offers-judged = also refl (also refl (also refl (also refl (also refl (also refl (also refl (also refl (also refl (also refl done)))))))))
+
+-- ---- as declared: no offer passes whose last pair fails, and no pair is named where one before it fails
+
+-- the pair that a verdict names
+pairOf : Verdict → ℕ
+pairOf Passes = 0
+pairOf (Fails k i) = k
+pairOf (Refused n p) = 0
+
+abbrev lastFails : List ℕ
+lastFails = pair 500 1500 ++ pair 1000 3001
+
+pub last-counts : Judged (station 1) 1 levels lastFails 0 2 Passes → ⊥
+unfolding computed
+last-counts (passing f) = go (f 1 (omega arith) (omega arith))
+  where
+    go : Clear (station 1) 1 levels lastFails 1 → ⊥
+    go (also a (also b l)) = false≢true (sym b)
+
+abbrev bothFail : List ℕ
+bothFail = pair 500 1501 ++ pair 1000 3001
+
+pub first-counts : {v : Verdict} → Judged (station 1) 1 levels bothFail 0 2 v → v ≡ Fails 2 2 → ⊥
+unfolding pairOf computed
+first-counts (passing f) e = let h : pairOf Passes ≡ 2 = ap pairOf e in omega (arith, h)
+first-counts (failed j x a b g w) e = let h : j + 1 ≡ 2 = ap pairOf e in go (g 0 (omega arith) (omega (arith, h)))
+  where
+    go : Clear (station 1) 1 levels bothFail 0 → ⊥
+    go (also a l) = false≢true (sym a)
 
 -- "10 malformed offer: its length, a pair's price out of range, or a quantity or price against the rule above; 11 quantity above capacity"
 abbrev malformedOffers : List Offer
