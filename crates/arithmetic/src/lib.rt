@@ -3,7 +3,6 @@ pub mod highest;
 
 ghost use mathlib.Core.Path.{_≡_};
 ghost use Prim.Native.Nat.{_+_, _*_, _-_, _≤_, max};
-ghost use Rattle.fields.specs.Numbers.{biased};
 ghost use Rattle.formulas.specs.Exact.{quotient, cents};
 
 // One number over another, to the nearest, half up; 0 where the divisor is 0. Twice the number might not fit, so the
@@ -47,13 +46,6 @@ pub fn greater(a: u64, b: u64) -> u64
     ensures { λ r. ⌜ r ≡ max a b ⌝ }
 {
     if a < b { b } else { a }
-}
-
-// A price plus 2^31, given its four bytes.
-pub fn biased(v: u32) -> u32
-    ensures { λ r. ⌜ r ≡ biased v ⌝ }
-{
-    ((v as u64 + 2147483648) % 4294967296) as u32
 }
 
 // An amount of money in whole cents.

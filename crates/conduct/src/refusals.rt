@@ -102,7 +102,7 @@ fn level_refusal(d: &[u8], index: &[u16], level: u8) -> Answer
     ensures { λ r. ⌜ r ≡ levelRefusal (parameters (records (now (d .entry)))) level ⌝ }
 {
     let technology = fields::u8_at(lookup::rs(d, index), 6);
-    if (level == 1) | !fit::level_held(technology, level) {
+    if (level == 1) | !rules::level_held(technology, level) {
         Answer::Refused {
             number: 12,
             place: 0,

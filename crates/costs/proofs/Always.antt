@@ -4,24 +4,14 @@ use mathlib.Core.Bool.{cond}
 use mathlib.Core.List.{List}
 use Prim.Native.Nat.{ℕ, _*_, _-_, _/_}
 use lib.Dec.{eqb}
-use Rattle.lists.specs.Tests.{countTo}
-use Rattle.records.specs.Table.{RS, HP, CH, FP, LC}
-use Rattle.rules.specs.Curve.{points, fullHours}
+use Rattle.records.specs.Table.{RS, CH, FP, LC}
 use Rattle.lookup.specs.Parts.{Indexed, parametersHeld, amountsHeld}
-use Rattle.lookup.proofs.Held.{has-always, says-always, of-always}
+use Rattle.lookup.proofs.Held.{says-always, of-always}
 use Rattle.formulas.specs.Sums.{sumTo, listTo, fromTop}
 use Rattle.formulas.specs.Exact.{whole, share}
 use Rattle.formulas.specs.Levels.{parametersIn, amountsIn, totalEnergy, chargingSum, chargingCost, forecastPlace, forecastPrice}
 
 module _ {d ix : List ℕ} (h : Indexed d ix) where
-  pub points-always : points (parametersHeld d ix) ≡ points (parametersIn d)
-  unfolding points
-  points-always = λ j. countTo 21 (λ n. has-always h HP n refl j)
-
-  pub full-hours-always : fullHours (parametersHeld d ix) ≡ fullHours (parametersIn d)
-  unfolding fullHours
-  full-hours-always = λ j. says-always h RS 0 refl 6 j / says-always h RS 0 refl 1 j
-
   pub charging-always : chargingCost (parametersHeld d ix) (amountsHeld d ix) ≡ chargingCost (parametersIn d) (amountsIn d)
   unfolding chargingCost chargingSum totalEnergy
   charging-always = λ j. cond (eqb (sumTo 2016 (λ n. says-always h CH n refl 2 j)) 0) (whole (of-always h LC 0 refl 0 j)) (share ((sumTo 2016 (λ n. of-always h CH n refl 1 j * says-always h CH n refl 2 j) - 2147483648 * sumTo 2016 (λ n. says-always h CH n refl 2 j)) * 10000) (sumTo 2016 (λ n. says-always h CH n refl 2 j)))

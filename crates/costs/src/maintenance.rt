@@ -28,10 +28,9 @@ fn item(d: &[u8], index: &[u16], p: usize, j: usize) -> u64
     requires { ⌜ Indexed (now d) (now index) × (1 ≤ p) × (p ≤ 4) × (1 ≤ j) × (j ≤ 8) ⌝ }
     ensures { λ r. ⌜ (r ≡ quotient (costC (amountsHeld (now (d .entry)) (now (index .entry))) p j * 100000) (outputW (parametersHeld (now (d .entry)) (now (index .entry))) p j * intervalT (parametersHeld (now (d .entry)) (now (index .entry))) p j)) × (r ≤ 10000000000000000) ⌝ }
 {
-    let r = lookup::mm(d, index, p, j);
-    let cost = fields::u64_at(r, 8);
-    let output = fields::u16_at(r, 16) as u64;
-    let interval = fields::u32_at(r, 18) as u64;
+    let cost = parameters::item_cost(d, index, p, j);
+    let output = parameters::item_output(d, index, p, j);
+    let interval = parameters::item_interval(d, index, p, j);
     arithmetic::share(cost * 100000, output * interval)
 }
 
@@ -40,10 +39,9 @@ fn start_item(d: &[u8], index: &[u16], p: usize, j: usize) -> u64
     requires { ⌜ Indexed (now d) (now index) × (1 ≤ p) × (p ≤ 4) × (1 ≤ j) × (j ≤ 8) ⌝ }
     ensures { λ r. ⌜ (r ≡ quotient (costC (amountsHeld (now (d .entry)) (now (index .entry))) p j * hoursPerStartS (parametersHeld (now (d .entry)) (now (index .entry))) p j * 1000) (intervalT (parametersHeld (now (d .entry)) (now (index .entry))) p j)) × (r ≤ 1000000000000000000) ⌝ }
 {
-    let r = lookup::mm(d, index, p, j);
-    let cost = fields::u64_at(r, 8);
-    let interval = fields::u32_at(r, 18) as u64;
-    let hours = fields::u16_at(r, 22) as u64;
+    let cost = parameters::item_cost(d, index, p, j);
+    let interval = parameters::item_interval(d, index, p, j);
+    let hours = parameters::item_hours(d, index, p, j);
     arithmetic::share(cost * hours * 1000, interval)
 }
 

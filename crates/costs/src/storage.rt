@@ -30,7 +30,7 @@ fn with_interval(d: &[u8], index: &[u16], n: usize, before: Charging) -> Chargin
         return before;
     }
     let r = &d[v - 1..v - 1 + records::CH.length];
-    let price = arithmetic::biased(fields::u32_at(r, 8)) as u64;
+    let price = fields::biased(fields::u32_at(r, 8)) as u64;
     let energy = fields::u32_at(r, 12) as u64;
     Charging {
         cost: before.cost + price * energy,
@@ -233,7 +233,7 @@ fn opportunity_cost(d: &[u8], index: &[u16]) -> u64
     requires { ⌜ Indexed (now d) (now index) × (fullHours (parametersHeld (now d) (now index)) ≤ window (parametersHeld (now d) (now index))) × (window (parametersHeld (now d) (now index)) ≤ 168) ⌝ }
     ensures { λ r. ⌜ r ≡ microDollars (opportunityCost (parametersHeld (now (d .entry)) (now (index .entry))) (amountsHeld (now (d .entry)) (now (index .entry)))) ⌝ }
 {
-    let hours = requirements::full_hours(d, index) as u64;
+    let hours = parameters::full_hours(d, index);
     let window = parameters::window(d, index);
     let sum = arithmetic::less(
         highest_sum(d, index, hours as usize, window),

@@ -18,7 +18,7 @@ pub fn lamination_count(d: &[u8], index: &[u16]) -> usize
     requires { ⌜ Indexed (now d) (now index) ⌝ }
     ensures { λ r. ⌜ (r ≡ points (parametersIn (now (d .entry))) - 1) × (r ≤ 20) ⌝ }
 {
-    let n = requirements::points_of(d, index);
+    let n = parameters::points_of(d, index);
     if n == 0 { 0 } else { n - 1 }
 }
 

@@ -18,20 +18,12 @@ ghost use Rattle.fit.specs.Looked.{tried, triedAs, fourthsEmpty, pointsF
 use index::slots_empty;
 use records::Answer;
 use records::kinds;
+use rules::level_held;
 
 // A record's length, and whether it fits.
 pub struct Tried {
     pub len: usize,
     pub fits: bool,
-}
-
-// Whether a technology holds a level.
-pub fn level_held(t: u8, level: u8) -> bool
-    ensures { λ r. ⌜ r ≡ holds t level ⌝ }
-{
-    (t == 1) & ((level == 1) | (level == 2) | (level == 3) | (level == 4))
-        | (t == 2) & (level == 1)
-        | ((t == 3) | (t == 4)) & ((level == 1) | (level == 4))
 }
 
 // A field that is used is above 0 where it must be; any other is 0.

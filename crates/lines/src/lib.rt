@@ -9,8 +9,8 @@ ghost use Rattle.layout.specs.Report.{profileLine, energyLine, amountLine};
 ghost use Rattle.arrays.specs.Packed.{hourOf, inArrays};
 ghost use Rattle.lines.specs.Parts.{laminationLines, heldLine, otherLines, writtenOf, bufferOf};
 use arrays::SingleLevels;
-use fit::level_held;
 use layout::Written;
+use rules::level_held;
 
 // No report is longer.
 const LONGEST: usize = 2283;

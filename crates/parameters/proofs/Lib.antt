@@ -1,1 +1,4 @@
 pub mod Bounds
+pub mod Points
+pub mod Always
+pub mod Station

@@ -1,12 +1,15 @@
 // What the current records say, by the paper's names, read through the index; each with its highest value, on which the
 // sums in 64 bits rest. The laws are in proofs/.
 ghost use mathlib.Core.Path.{_≡_};
+ghost use mathlib.Core.Bool.{cond};
 ghost use Prim.Native.Nat.{_≤_};
 ghost use lib.ListN.{length};
-ghost use Rattle.station.specs.Parameters.{technology, capacity, factor, startHeat, noLoadHeat, incrementalFuel, efficiency, window, output, heat, fuel, emission, adder, hourPrice, placePrice, lastCost};
+ghost use lib.Dec.{eqb};
+ghost use Rattle.records.specs.Dossier.{records};
+ghost use Rattle.station.specs.Parameters.{parameters, amounts, technology, capacity, factor, startHeat, noLoadHeat, incrementalFuel, charge, efficiency, window, output, heat, fuel, emission, adder, costC, outputW, intervalT, hoursPerStartS, firstHour, lastHour, requested, hourPrice, placePrice, lastCost};
 ghost use Rattle.index.specs.Slots.{narrow};
 ghost use Rattle.lookup.specs.Parts.{Indexed, Complete, parametersHeld, amountsHeld};
-ghost use Rattle.formulas.specs.Levels.{amountsIn};
+ghost use Rattle.rules.specs.Curve.{points, fullHours};
 
 pub fn technology(d: &[u8], index: &[u16]) -> u8
     requires { ⌜ Indexed (now d) (now index) ⌝ }
@@ -50,6 +53,13 @@ pub fn incremental_fuel(d: &[u8], index: &[u16]) -> u64
     fields::u32_at(lookup::rs(d, index), 19) as u64
 }
 
+pub fn charge(d: &[u8], index: &[u16]) -> u64
+    requires { ⌜ Indexed (now d) (now index) ⌝ }
+    ensures { λ r. ⌜ (r ≡ charge (parametersHeld (now (d .entry)) (now (index .entry)))) × (r ≤ 1000000) ⌝ }
+{
+    fields::u32_at(lookup::rs(d, index), 23) as u64
+}
+
 pub fn efficiency(d: &[u8], index: &[u16]) -> u64
     requires { ⌜ Indexed (now d) (now index) ⌝ }
     ensures { λ r. ⌜ (r ≡ efficiency (parametersHeld (now (d .entry)) (now (index .entry)))) × (r ≤ 1000) ⌝ }
@@ -64,6 +74,18 @@ pub fn window(d: &[u8], index: &[u16]) -> usize
     fields::u16_at(lookup::rs(d, index), 29) as usize
 }
 
+// X: the hours that the charge lasts at capacity, without fraction.
+pub fn full_hours(d: &[u8], index: &[u16]) -> u64
+    requires { ⌜ Indexed (now d) (now index) ⌝ }
+    ensures { λ r. ⌜ r ≡ fullHours (parametersHeld (now (d .entry)) (now (index .entry))) ⌝ }
+{
+    let at_most = capacity(d, index);
+    if at_most == 0 {
+        return 0;
+    }
+    charge(d, index) / at_most
+}
+
 pub fn output(d: &[u8], index: &[u16], i: usize) -> u64
     requires { ⌜ Indexed (now d) (now index) × (1 ≤ i) × (i ≤ 21) ⌝ }
     ensures { λ r. ⌜ (r ≡ output (parametersHeld (now (d .entry)) (now (index .entry))) i) × (r ≤ 20000) ⌝ }
@@ -76,6 +98,27 @@ pub fn heat(d: &[u8], index: &[u16], i: usize) -> u64
     ensures { λ r. ⌜ (r ≡ heat (parametersHeld (now (d .entry)) (now (index .entry))) i) × (r ≤ 20000000) ⌝ }
 {
     fields::u32_at(lookup::hp(d, index, i), 9) as u64
+}
+
+// 1 of a slot that holds a record, 0 of an empty one.
+fn counted(v: u16) -> u16
+    ensures { λ r. ⌜ r ≡ cond (eqb v 0) 0 1 ⌝ }
+{
+    if v == 0 { 0 } else { 1 }
+}
+
+// How many points there are: the slots of HP that are not empty, counted in two bytes, so that the compiler does several at a time.
+pub fn points_of(d: &[u8], index: &[u16]) -> usize
+    requires { ⌜ Indexed (now d) (now index) ⌝ }
+    ensures { λ r. ⌜ (r ≡ points (parameters (records (now (d .entry))))) × (r ≤ 21) ⌝ }
+{
+    let mut n = 0u16;
+    let mut i = 0;
+    while i < 21 {
+        i += 1;
+        n += counted(index[index::keys::slot_hp(i)]);
+    }
+    n as usize
 }
 
 pub fn fuel(d: &[u8], index: &[u16], p: usize) -> u64
@@ -99,9 +142,58 @@ pub fn adder(d: &[u8], index: &[u16], p: usize, c: usize, v: usize) -> u64
     fields::u64_at(lookup::ad(d, index, p, c, v), 9)
 }
 
+pub fn item_cost(d: &[u8], index: &[u16], p: usize, j: usize) -> u64
+    requires { ⌜ Indexed (now d) (now index) × (1 ≤ p) × (p ≤ 4) × (1 ≤ j) × (j ≤ 8) ⌝ }
+    ensures { λ r. ⌜ (r ≡ costC (amountsHeld (now (d .entry)) (now (index .entry))) p j) × (r ≤ 100000000000) ⌝ }
+{
+    fields::u64_at(lookup::mm(d, index, p, j), 8)
+}
+
+pub fn item_output(d: &[u8], index: &[u16], p: usize, j: usize) -> u64
+    requires { ⌜ Indexed (now d) (now index) × (1 ≤ p) × (p ≤ 4) × (1 ≤ j) × (j ≤ 8) ⌝ }
+    ensures { λ r. ⌜ (r ≡ outputW (parametersHeld (now (d .entry)) (now (index .entry))) p j) × (r ≤ 20000) ⌝ }
+{
+    fields::u16_at(lookup::mm(d, index, p, j), 16) as u64
+}
+
+pub fn item_interval(d: &[u8], index: &[u16], p: usize, j: usize) -> u64
+    requires { ⌜ Indexed (now d) (now index) × (1 ≤ p) × (p ≤ 4) × (1 ≤ j) × (j ≤ 8) ⌝ }
+    ensures { λ r. ⌜ (r ≡ intervalT (parametersHeld (now (d .entry)) (now (index .entry))) p j) × (r ≤ 1000000) ⌝ }
+{
+    fields::u32_at(lookup::mm(d, index, p, j), 18) as u64
+}
+
+pub fn item_hours(d: &[u8], index: &[u16], p: usize, j: usize) -> u64
+    requires { ⌜ Indexed (now d) (now index) × (1 ≤ p) × (p ≤ 4) × (1 ≤ j) × (j ≤ 8) ⌝ }
+    ensures { λ r. ⌜ (r ≡ hoursPerStartS (parametersHeld (now (d .entry)) (now (index .entry))) p j) × (r ≤ 10000) ⌝ }
+{
+    fields::u16_at(lookup::mm(d, index, p, j), 22) as u64
+}
+
+pub fn first_hour(d: &[u8], index: &[u16], n: usize) -> u32
+    requires { ⌜ Indexed (now d) (now index) × (1 ≤ n) × (n ≤ 16) ⌝ }
+    ensures { λ r. ⌜ r ≡ firstHour (parameters (records (now (d .entry)))) n ⌝ }
+{
+    fields::u32_at(lookup::rq(d, index, n), 7)
+}
+
+pub fn last_hour(d: &[u8], index: &[u16], n: usize) -> u32
+    requires { ⌜ Indexed (now d) (now index) × (1 ≤ n) × (n ≤ 16) ⌝ }
+    ensures { λ r. ⌜ r ≡ lastHour (parameters (records (now (d .entry)))) n ⌝ }
+{
+    fields::u32_at(lookup::rq(d, index, n), 11)
+}
+
+pub fn requested(d: &[u8], index: &[u16], n: usize) -> usize
+    requires { ⌜ Indexed (now d) (now index) × (1 ≤ n) × (n ≤ 16) ⌝ }
+    ensures { λ r. ⌜ (r ≡ requested (parameters (records (now (d .entry)))) n) × (r ≤ 4) ⌝ }
+{
+    fields::u8_at(lookup::rq(d, index, n), 15) as usize
+}
+
 pub fn last_cost(d: &[u8], index: &[u16]) -> u64
     requires { ⌜ Indexed (now d) (now index) × (narrow ≤ length (now index)) ⌝ }
-    ensures { λ r. ⌜ (r ≡ lastCost (amountsIn (now (d .entry)))) × (r ≤ 2000000000) ⌝ }
+    ensures { λ r. ⌜ (r ≡ lastCost (amounts (records (now (d .entry))))) × (r ≤ 2000000000) ⌝ }
 {
     fields::u32_at(lookup::lc(d, index), 6) as u64
 }
@@ -111,12 +203,12 @@ pub fn hour_price(d: &[u8], index: &[u16], n: usize) -> u32
     requires { ⌜ Indexed (now d) (now index) × (1 ≤ n) × (n ≤ 168) ⌝ }
     ensures { λ r. ⌜ r ≡ hourPrice (amountsHeld (now (d .entry)) (now (index .entry))) n ⌝ }
 {
-    arithmetic::biased(fields::u32_at(lookup::hr(d, index, n), 7))
+    fields::biased(fields::u32_at(lookup::hr(d, index, n), 7))
 }
 
 pub fn place_price(d: &[u8], index: &[u16], n: usize) -> u32
     requires { ⌜ Indexed (now d) (now index) × Complete (now d) (now index) × (1 ≤ n) × (n ≤ 4000) ⌝ }
-    ensures { λ r. ⌜ r ≡ placePrice (amountsIn (now (d .entry))) n ⌝ }
+    ensures { λ r. ⌜ r ≡ placePrice (amounts (records (now (d .entry)))) n ⌝ }
 {
-    arithmetic::biased(fields::u32_at(lookup::fp(d, index, n), 8))
+    fields::biased(fields::u32_at(lookup::fp(d, index, n), 8))
 }

@@ -9,9 +9,8 @@ use lib.Dec.{leb, ltb, eqb}
 use lib.ListN.{length}
 use borrow.Author.Tests.{eqb-false}
 use Rattle.lists.specs.Lists.{Each}
-use Rattle.fields.specs.Numbers.{number}
 use Rattle.records.specs.Table.{table, rowOf, fieldOf, RQ}
-use Rattle.records.specs.Record.{offsetIn, offset, read, value, fault}
+use Rattle.records.specs.Record.{fault}
 use Rattle.records.specs.Dossier.{records}
 use Rattle.station.specs.Current.{current, present}
 use Rattle.station.specs.Parameters.{parameters, requested, firstHour, lastHour}
@@ -19,13 +18,14 @@ use Rattle.station.proofs.Parameters.{says-high}
 use Rattle.index.specs.Slots.{slot, slotsEmpty}
 use Rattle.lookup.specs.Parts.{Indexed}
 use Rattle.lookup.proofs.Parts.{request-key, current-in-empty}
+use Rattle.parameters.proofs.Points.{there-is}
 use Rattle.formulas.specs.Levels.{covers, profileOf, profile}
 
 -- what one request asks for at an hour, read of its record
-pub asked-request : (l : List (List ℕ)) (h n : ℕ) {r : List ℕ} {asked first last : ℕ} → r ≡ current RQ n l → asked ≡ number 15 1 r → first ≡ number 7 4 r → last ≡ number 11 4 r
+pub asked-request : (l : List (List ℕ)) (h n : ℕ) {r : List ℕ} {asked first last : ℕ} → r ≡ current RQ n l → asked ≡ requested (parameters l) n → first ≡ firstHour (parameters l) n → last ≡ lastHour (parameters l) n
     → (t : Bool) → ltb 0 (length r) && not (eqb asked 0) && leb first h && leb h last ≡ t → cond t asked 0 ≡ cond (covers (parameters l) h n) (requested (parameters l) n) 0
-unfolding covers parameters present value read offset offsetIn fieldOf rowOf table
-asked-request l h n e a b c t f = rw (← f, a, b, c, e) refl
+unfolding covers
+asked-request l h n e a b c t f = rw (← f, a, b, c, there-is l RQ n e) refl
 
 covered : (s : ℕ) (a b c : Bool) → a && not (eqb s 0) && b && c ≡ true → 1 ≤ s
 covered s true b c e = go (eqb s 0) refl e

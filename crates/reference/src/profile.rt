@@ -11,11 +11,11 @@ fn asked_at(d: &[u8], index: &[u16], hour: u32, n: usize) -> usize
     requires { ⌜ Indexed (now d) (now index) × (1 ≤ n) × (n ≤ 16) ⌝ }
     ensures { λ r. ⌜ r ≡ cond (covers (parametersIn (now (d .entry))) hour n) (requested (parametersIn (now (d .entry))) n) 0 ⌝ }
 {
-    let r = lookup::rq(d, index, n);
-    let asked = fields::u8_at(r, 15) as usize;
-    let first = fields::u32_at(r, 7);
-    let last = fields::u32_at(r, 11);
-    if (0 < r.len()) & (asked != 0) & (first <= hour) & (hour <= last) {
+    let there = 0 < lookup::rq(d, index, n).len();
+    let asked = parameters::requested(d, index, n);
+    let first = parameters::first_hour(d, index, n);
+    let last = parameters::last_hour(d, index, n);
+    if there & (asked != 0) & (first <= hour) & (hour <= last) {
         asked
     } else {
         0

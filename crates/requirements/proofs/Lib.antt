@@ -1,1 +1,3 @@
 pub mod Curve
+pub mod Fuel
+pub mod Window

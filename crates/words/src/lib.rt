@@ -8,9 +8,9 @@ ghost use Rattle.lookup.specs.Parts.{Empty};
 ghost use Rattle.arrays.specs.Packed.{hourOf, inArrays};
 ghost use Rattle.words.specs.Words.{heldBits, Blank, wordsTo, wordsOf, wordsAnswer, wordsAfter};
 use arrays::SingleLevels;
-use fit::level_held;
 use lists::choose;
 use records::Answer;
+use rules::level_held;
 
 // The levels that a technology holds, a bit each.
 fn held_bits(technology: u8) -> u64

@@ -1,5 +1,6 @@
 use Rattle.rules.proofs.Draws.{no-station, draws-6, the-rest}
-use Rattle.requirements.proofs.Curve.{none-there, one-there, technology-known}
+use Rattle.parameters.proofs.Points.{none-there, one-there}
+use Rattle.parameters.proofs.Station.{technology-known}
 use Rattle.rules.specs.Fit.{Known, unfit}
 use Rattle.station.proofs.Fields.{technology-at}
 use Rattle.records.specs.Dossier.{records}

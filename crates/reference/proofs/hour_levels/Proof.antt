@@ -5,10 +5,10 @@ use Rattle.records.specs.Table.{RS}
 use Rattle.station.specs.Parameters.{technology}
 use Rattle.lookup.specs.Parts.{parametersHeld}
 use Rattle.lookup.proofs.Held.{says-always}
-use Rattle.costs.proofs.Always.{full-hours-always}
+use Rattle.parameters.proofs.Always.{full-hours-always}
 use Rattle.formulas.specs.Levels.{parametersIn}
 use Rattle.rules.proofs.Sound.{accepted-sound}
-use Rattle.requirements.proofs.Curve.{storage-window}
+use Rattle.parameters.proofs.Station.{storage-window}
 use Rattle.reference.proofs.Accepted.{technology-low, hours-fit, places-fit}
 use Rattle.arrays.proofs.Packed.{nuclear-packed, storage-packed, hydro-packed, one-handed}
 use Rattle.reference.proofs.AtHour.{levels-packed}

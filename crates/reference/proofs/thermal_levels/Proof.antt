@@ -1,7 +1,7 @@
 use borrow.Author.Needs.{needs}
 use mathlib.Core.Path.{refl, ap, sym, _∙_}
 use Prim.Native.Nat.{ℕ, _-_}
-use Rattle.costs.proofs.Always.{points-always}
+use Rattle.parameters.proofs.Always.{points-always}
 use Rattle.formulas.specs.Exact.{cents}
 use Rattle.arrays.proofs.Packed.{thermal-packed}
 use Rattle.reference.proofs.thermal_levels.Statement.{statement}

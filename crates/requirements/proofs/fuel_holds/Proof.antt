@@ -1,6 +1,7 @@
 use borrow.Author.Needs.{needs}
 use Rattle.records.specs.Table.{FU}
-use Rattle.requirements.proofs.Curve.{there-is, fuel-whole}
+use Rattle.parameters.proofs.Points.{there-is}
+use Rattle.requirements.proofs.Fuel.{fuel-whole}
 use Rattle.requirements.proofs.fuel_holds.Statement.{statement}
 use Rattle.requirements.proofs.fuel_holds.Tie as tie
 

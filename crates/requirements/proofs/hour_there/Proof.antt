@@ -1,5 +1,5 @@
 use borrow.Author.Needs.{needs}
-use Rattle.requirements.proofs.Curve.{hour-beyond, hour-told}
+use Rattle.requirements.proofs.Window.{hour-beyond, hour-told}
 use Rattle.requirements.proofs.hour_there.Statement.{statement}
 use Rattle.requirements.proofs.hour_there.Tie as tie
 

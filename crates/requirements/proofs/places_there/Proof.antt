@@ -1,4 +1,4 @@
-use Rattle.requirements.proofs.Curve.{there-is}
+use Rattle.parameters.proofs.Points.{there-is}
 use Rattle.records.specs.Table.{FP}
 use Rattle.lists.specs.Tests.{allTo}
 use Rattle.lists.proofs.Tests.{to-next}

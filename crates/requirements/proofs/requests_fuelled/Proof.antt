@@ -8,7 +8,7 @@ use Rattle.lookup.specs.Parts.{held}
 use Rattle.station.specs.Parameters.{parameters}
 use Rattle.index.specs.Slots.{slot}
 use Rattle.requirements.specs.Segments.{fuelled}
-use Rattle.requirements.proofs.Curve.{requests-none}
+use Rattle.requirements.proofs.Fuel.{requests-none}
 use Rattle.requirements.proofs.requests_fuelled.Statement.{statement}
 use Rattle.requirements.proofs.requests_fuelled.Tie as tie
 

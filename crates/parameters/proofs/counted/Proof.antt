@@ -1,6 +1,6 @@
 use borrow.Author.Tests.{eq-eqb, ne-eqb}
-use Rattle.requirements.proofs.counted.Statement.{statement}
-use Rattle.requirements.proofs.counted.Tie as tie
+use Rattle.parameters.proofs.counted.Statement.{statement}
+use Rattle.parameters.proofs.counted.Tie as tie
 
 returns : tie.Need-returns
 returns c = simp (eq-eqb _ _ (c .if1 .taken))

@@ -11,9 +11,9 @@ use Rattle.records.specs.Dossier.{records}
 use Rattle.station.specs.Parameters.{parameters}
 use Rattle.lookup.proofs.Parts.{point-key, slot-fits}
 use Rattle.rules.specs.Curve.{points}
-use Rattle.requirements.proofs.Curve.{count-next, point-counted}
-use Rattle.requirements.proofs.points_of.Statement.{statement}
-use Rattle.requirements.proofs.points_of.Tie as tie
+use Rattle.parameters.proofs.Points.{count-next, point-counted}
+use Rattle.parameters.proofs.points_of.Statement.{statement}
+use Rattle.parameters.proofs.points_of.Tie as tie
 
 abbrev Inv-loop : tie.InvT-loop
 Inv-loop d index n₀ i₀ n i = (i ≤ 21) × (n ≤ i) × (n ≡ countTo i (parameters (records d) .has HP))

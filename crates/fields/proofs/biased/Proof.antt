@@ -1,8 +1,8 @@
 use borrow.Author.Needs.{needs}
 use mathlib.Core.Path.{refl}
 use Rattle.fields.specs.Numbers.{biased}
-use Rattle.arithmetic.proofs.biased.Statement.{statement}
-use Rattle.arithmetic.proofs.biased.Tie as tie
+use Rattle.fields.proofs.biased.Statement.{statement}
+use Rattle.fields.proofs.biased.Tie as tie
 
 returns : tie.Need-returns
 unfolding biased

@@ -1,6 +1,6 @@
 use Rattle.rules.proofs.ByMark.{holds-tests}
-use Rattle.fit.proofs.level_held.Statement.{statement}
-use Rattle.fit.proofs.level_held.Tie as tie
+use Rattle.rules.proofs.level_held.Statement.{statement}
+use Rattle.rules.proofs.level_held.Tie as tie
 
 returns : tie.Need-returns
 returns c = holds-tests (c .args .t) (c .args .level)

@@ -1,0 +1,17 @@
+use mathlib.Core.Path.{refl, sym, _∙_}
+use borrow.Author.Needs.{needs}
+use Rattle.records.specs.Table.{table, rowOf, fieldOf, RS}
+use Rattle.station.proofs.Fields.{charge-at}
+use Rattle.lookup.proofs.Held.{held-clean, held-always}
+use Rattle.parameters.proofs.Bounds.{says-read}
+use Rattle.parameters.proofs.charge.Statement.{statement}
+use Rattle.parameters.proofs.charge.Tie as tie
+
+returns : tie.Need-returns
+unfolding fieldOf rowOf table
+returns c =
+    let a = c .before .before .before .before in
+    says-read (held-clean (a .pre)) RS 0 6 23 4 (charge-at _) (c .u32-at .ensures) (c .before .rs .ensures ∙ sym (held-always (a .pre) RS 0 refl))
+
+pub charge-spec : {M : Type 1} → statement M
+charge-spec = tie.close (tie.spec (λ c κs. search needs) (λ c κs. search needs) (λ c. search needs) returns)
