@@ -28,7 +28,6 @@ opportunity-cost-spec =
     tie.close
     (tie.spec
     (λ c κs. search needs)
-    (λ c. search needs)
     (λ c κs. search needs)
     highest-sum-requires
     (λ c. search needs)
