@@ -10,11 +10,12 @@ ghost use Rattle.lookup.specs.Parts.{Empty, Indexed, Complete, UpTo};
 ghost use Rattle.rules.specs.Answer.{answer};
 use fit::unfit_of;
 use index::Passed;
+use lookup::Room;
 use records::Answer;
 use requirements::unsupported_of;
 
 // 5 to 9 and 17, of a dossier that draws none before them, given the highest slot of a record.
-fn beyond_reading(d: &[u8], index: &[u16], top: usize) -> Answer
+fn rules_after_reading(d: &[u8], index: &[u16], top: usize) -> Answer
     requires { ⌜ Indexed (now d) (now index) × Complete (now d) (now index) × UpTo (now d) top × (readable (now d) ≡ Accepted) ⌝ }
     ensures { λ r. ⌜ r ≡ answer (now (d .entry)) ⌝ }
 {
@@ -37,14 +38,14 @@ fn answer_in(d: &[u8], index: &mut [u16], top: usize) -> Answer
     ensures { λ r. ⌜ r ≡ answer (now (d .entry)) ⌝ }
 {
     match lookup::open(d, index) {
-        Answer::Accepted => beyond_reading(d, index, top),
+        Answer::Accepted => rules_after_reading(d, index, top),
         Answer::Refused { number, place } => Answer::Refused { number, place },
     }
 }
 
 // The answer to a dossier with a record that the index at hand has no slot for: it is read once more, with as many slots as the highest wants.
 // No slot is above 6,350, the last of the widest index.
-fn judge_again(d: &[u8], top: usize) -> Answer
+fn judge_with_wider_index(d: &[u8], top: usize) -> Answer
     requires { ⌜ (scan 0 (records (now d)) ≡ Accepted) × UpTo (now d) top ⌝ }
     ensures { λ r. ⌜ r ≡ answer (now (d .entry)) ⌝ }
 {
@@ -62,10 +63,10 @@ fn indexed_answer(d: &[u8], index: &[u16], rising: bool, top: usize) -> Answer
     ensures { λ r. ⌜ r ≡ answer (now (d .entry)) ⌝ }
 {
     if rising {
-        return beyond_reading(d, index, top);
+        return rules_after_reading(d, index, top);
     }
     match twins::first_twin(d) {
-        Answer::Accepted => beyond_reading(d, index, top),
+        Answer::Accepted => rules_after_reading(d, index, top),
         Answer::Refused { number, place } => Answer::Refused { number, place },
     }
 }
@@ -80,45 +81,33 @@ pub fn judge(d: &[u8], index: &mut [u16]) -> Answer
             if top < index.len() {
                 indexed_answer(d, index, rising, top)
             } else {
-                judge_again(d, top)
+                judge_with_wider_index(d, top)
             }
         }
         Passed::Stopped { number, place } => Answer::Refused { number, place },
     }
 }
 
-// The answer to a dossier, with an empty index for it. It goes as `judge` does: the indexes of `judge_again`, which is called from two
-// functions, then cost nothing where the index at hand has a slot for every record.
-fn accept_in(d: &[u8], index: &mut [u16]) -> Answer
-    requires { ⌜ Empty (now index) ⌝ }
-    ensures { λ r. ⌜ r ≡ answer (now (d .entry)) ⌝ }
-{
-    match lookup::scan(d, index) {
-        Passed::Ended { rising, top } => {
-            if top < index.len() {
-                indexed_answer(d, index, rising, top)
-            } else {
-                judge_again(d, top)
-            }
-        }
-        Passed::Stopped { number, place } => Answer::Refused { number, place },
-    }
-}
-
-// The answer to a dossier. One that is too long needs no index; for a small one a short index is mostly enough, and sooner made.
+// The answer to a dossier.
 pub fn accept(d: &[u8]) -> Answer
     ensures { λ r. ⌜ r ≡ answer (now (d .entry)) ⌝ }
 {
-    if lookup::LONGEST < d.len() {
-        return Answer::Refused {
+    match lookup::room_for(d) {
+        Room::TooLong => Answer::Refused {
             number: 13,
             place: 0,
-        };
+        },
+        Room::Short => {
+            let mut index = [0u16; index::SHORT];
+            judge(d, &mut index)
+        }
+        Room::Narrow => {
+            let mut index = [0u16; index::NARROW];
+            judge(d, &mut index)
+        }
+        Room::Wide => {
+            let mut index = [0u16; index::WIDE];
+            judge(d, &mut index)
+        }
     }
-    if lookup::lean(d) {
-        let mut index = [0u16; index::SHORT];
-        return accept_in(d, &mut index);
-    }
-    let mut index = [0u16; index::NARROW];
-    accept_in(d, &mut index)
 }

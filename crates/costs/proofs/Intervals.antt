@@ -19,9 +19,9 @@ use Rattle.station.specs.Parameters.{chargePrice, chargeEnergy}
 use Rattle.station.proofs.Fields.{chargeEnergy-at, lastCost-at}
 use Rattle.index.specs.Slots.{slot, narrow, slotsEmpty}
 use Rattle.index.proofs.Slots.{slot-narrow}
-use Rattle.lookup.specs.Parts.{part, partBytes, placeAt, partAt, plain, Indexed}
+use Rattle.lookup.specs.Parts.{part, partBytes, placeAt, partAt, fitsShort, Indexed}
 use Rattle.lookup.proofs.Parts.{current-in-empty, slot-tells, part-current, interval-key}
-use Rattle.lookup.proofs.Guess.{plain-none}
+use Rattle.lookup.proofs.Rooms.{short-none}
 use Rattle.formulas.specs.Sums.{sumTo}
 use Rattle.formulas.specs.Exact.{microDollars}
 use Rattle.formulas.specs.Levels.{parametersIn, amountsIn, totalEnergy, chargingCost}
@@ -93,14 +93,14 @@ module _ {d ix : List ℕ} (h : Indexed d ix) (roomy : narrow ≤ length ix) whe
         }
 
 -- a dossier without CH and LC has no charging cost
-module _ (d ix : List ℕ) (h : Indexed d ix) (e : true ≡ plain d) where
+module _ (d ix : List ℕ) (h : Indexed d ix) (e : true ≡ fitsShort d) where
   no-energy : (n : ℕ) → chargeEnergy (parametersIn d) n ≡ 0
-  no-energy n = chargeEnergy-at (records d) n ∙ ap (number 12 4) (plain-none d ix h e CH n refl) ∙ number-nil 12 4
+  no-energy n = chargeEnergy-at (records d) n ∙ ap (number 12 4) (short-none d ix h e CH n refl) ∙ number-nil 12 4
 
   none-charged : totalEnergy (parametersIn d) ≡ 0
   unfolding totalEnergy sumTo
   none-charged = sumTo-zeros (chargeEnergy (parametersIn d)) 0 2016 (λ i _. no-energy (suc (0 + i)))
 
-  pub plain-uncharged : 0 ≡ microDollars (chargingCost (parametersIn d) (amountsIn d))
+  pub short-uncharged : 0 ≡ microDollars (chargingCost (parametersIn d) (amountsIn d))
   unfolding microDollars chargingCost
-  plain-uncharged = rw (eq-eqb (totalEnergy (parametersIn d)) 0 none-charged) (sym (lastCost-at (records d) ∙ ap (number 6 4) (plain-none d ix h e LC 0 refl) ∙ number-nil 6 4))
+  short-uncharged = rw (eq-eqb (totalEnergy (parametersIn d)) 0 none-charged) (sym (lastCost-at (records d) ∙ ap (number 6 4) (short-none d ix h e LC 0 refl) ∙ number-nil 6 4))

@@ -187,7 +187,7 @@ fn charging_cost(d: &[u8], index: &[u16]) -> u64
     if index::NARROW <= index.len() {
         return charging_through(d, index);
     }
-    if lookup::plain(d) {
+    if lookup::fits_short(d) {
         return 0;
     }
     let mut full = [0u16; index::NARROW];

@@ -1,5 +1,5 @@
 pub mod Parts
 pub mod Opening
 pub mod Lookup
-pub mod Guess
+pub mod Rooms
 pub mod Held

@@ -3,6 +3,7 @@ use mathlib.Core.Path.{_≡_, refl, ap, sym, _∙_}
 use mathlib.Core.Bool.{Bool, true, false, cond, _&&_}
 use mathlib.Core.List.{List, [], _∷_}
 use Prim.Native.Nat.{ℕ, _+_, _*_, _≤_, _<_}
+use native.Mathlib.Nat.{le-trans}
 use native.Mathlib.Omega.{arith}
 use lib.Dec.{eqb, leb}
 use lib.ListN.{length}
@@ -17,11 +18,12 @@ use Rattle.records.specs.declared.Answer.the-variants.{Accepted, Refused}
 use Rattle.records.specs.Record.{mark, keyIn, keyWidth}
 use Rattle.records.specs.Answers.{isAccepted}
 use Rattle.records.specs.Dossier.{records}
-use Rattle.station.specs.Current.{current, readable, lookup, lookupBytes}
+use Rattle.station.specs.Current.{longest, current, readable, lookup, lookupBytes}
+use Rattle.station.proofs.Current.{too-long}
 use Rattle.index.specs.Slots.{wide}
 use Rattle.lookup.specs.declared.Part.{Part}
 use Rattle.lookup.specs.Parts.{part, partBytes, currentPart, lookupPart, indexOf}
-use Rattle.lookup.proofs.Parts.{current-bytes, current-ends}
+use Rattle.lookup.proofs.Parts.{slots-most, current-bytes, current-ends}
 use Rattle.lookup.proofs.Opening.{accepted-indexed}
 
 -- ---- a key's bytes as a number
@@ -54,10 +56,10 @@ module _ (d : List ℕ) (k n : ℕ) (b : k < kinds) where
 
   -- its bytes are the part that the lookup hands back
   pub lookup-bytes : partBytes d (lookupPart d k n) ≡ lookup d k n
-  lookup-bytes = by-answer (λ p l. partBytes d p ≡ l) (λ e. let a = accepted-indexed d e in current-bytes d (indexOf wide d) (a .0) k n b ((λ z. a .1), omega (arith, a .1))) (unfold partBytes in refl)
+  lookup-bytes = by-answer (λ p l. partBytes d p ≡ l) (λ e. let a = accepted-indexed d e in current-bytes d (indexOf wide d) (a .0) k n b (le-trans (slots-most k) (a .1))) (unfold partBytes in refl)
 
   pub lookup-ends : {p : Part} → p ≡ lookupPart d k n → p .start + p .length ≤ length d
-  lookup-ends q = rw q (by-answer (λ p l. p .start + p .length ≤ length d) (λ e. let a = accepted-indexed d e in current-ends d (indexOf wide d) (a .0) k n b ((λ z. a .1), omega (arith, a .1)) refl) (omega arith))
+  lookup-ends q = rw q (by-answer (λ p l. p .start + p .length ≤ length d) (λ e. let a = accepted-indexed d e in current-ends d (indexOf wide d) (a .0) k n b (le-trans (slots-most k) (a .1)) refl) (omega arith))
 
 pub part-accepted : (d : List ℕ) (k n : ℕ) → Accepted ≡ readable d → currentPart k n (records d) ≡ lookupPart d k n
 unfolding lookupPart isAccepted
@@ -66,6 +68,10 @@ part-accepted d k n e = rw (← e) refl
 pub part-refused : (d : List ℕ) (k n m p : ℕ) → Refused m p ≡ readable d → part 0 0 ≡ lookupPart d k n
 unfolding lookupPart isAccepted
 part-refused d k n m p e = rw (← e) refl
+
+-- a dossier that is too long has no current record to hand back
+pub part-overlong : (d : List ℕ) (k n : ℕ) → longest < length d → part 0 0 ≡ lookupPart d k n
+part-overlong d k n h = part-refused d k n 13 0 (too-long d h)
 
 -- ---- by the bytes of mark and key
 

@@ -10,8 +10,9 @@ use lib.ListN.{length, getD, take, drop}
 use borrow.Author.Tests.{ne-eqb, lt-ltb, le-ltb, eqb-true, eqb-false, ltb-false}
 use Rattle.lists.specs.Lists.{Each, done, also}
 use Rattle.lists.proofs.Lists.{each-map}
-use Rattle.lists.proofs.Tests.{split, or-false-right}
-use Rattle.records.specs.Table.{table, rowOf, FP, kinds}
+use Rattle.lists.specs.Tests.{allBelow}
+use Rattle.lists.proofs.Tests.{split, or-false-right, below-at}
+use Rattle.records.specs.Table.{table, rowOf, CH, FP, LC, kinds}
 use Rattle.records.specs.Record.{mark, size, keyOf, widths}
 use Rattle.records.specs.MarkShapes.{shape, shapeOf, keyTest}
 use Rattle.records.specs.declared.Answer.the-variants.{Accepted}
@@ -25,7 +26,21 @@ use Rattle.index.proofs.KeyBounds.{Spans, InKey, at-mark, in-key, key-test, tes
 use Rattle.index.proofs.Slots.{slot-lt, early, slot-short, slot-narrow, in-empty}
 use Rattle.index.proofs.Holds.{Holds, absent, there, Good, good-records, index-holds}
 use Rattle.lookup.specs.declared.Part.{Part}
-use Rattle.lookup.specs.Parts.{part, partBytes, currentPart, indexOf, placeAt, partAt, Indexed, Complete, UpTo, Covers}
+use Rattle.lookup.specs.Parts.{part, partBytes, currentPart, indexOf, placeAt, partAt, Indexed, Complete, UpTo, slotsFor}
+
+-- ---- how many slots a mark asks for
+
+slotTest : ℕ → Bool
+slotTest k = eqb k FP || (eqb k CH || eqb k LC) || early k
+
+early-mark : (k : ℕ) → k < kinds → eqb k FP ≡ false → eqb k CH || eqb k LC ≡ false → early k ≡ true
+unfolding slotTest
+early-mark k h f g =
+    let t : eqb k FP || (eqb k CH || eqb k LC) || early k ≡ true = below-at kinds slotTest (unfold slotTest allBelow in refl) k h in
+    rw (f, g) at t
+
+pub slots-most : (k : ℕ) → slotsFor k ≤ wide
+slots-most k = split (eqb k FP) (λ t. rw t (lit≤ tt)) (λ f. rw f (split (eqb k CH || eqb k LC) (λ t. rw t (lit≤ tt)) (λ g. rw g (lit≤ tt))))
 
 -- ---- a part within the dossier
 
@@ -114,12 +129,15 @@ module _ (d ix : List ℕ) (h : Indexed d ix) where
     pub part-found : {j len : ℕ} → j ≡ slot k n → len ≡ size k → partAt d ix j len ≡ current k n (records d)
     part-found = part-current k n i (fits k n i b)
 
-  -- and FP, if it is covered
-  pub covered : (k n : ℕ) → InKey k n → Covers k ix → slot k n < length ix
+  -- and every mark, if the index has its slots
+  pub covered : (k n : ℕ) → InKey k n → slotsFor k ≤ length ix → slot k n < length ix
   covered k n i c =
       split (eqb k FP)
-      (λ t. omega (arith, slot-lt k n i, c .0 (eqb-true k FP t)))
-      (λ f. narrow-fits (c .1) k n i f)
+      (λ t. omega (arith, slot-lt k n i, rw t at c))
+      (λ f.
+      split (eqb k CH || eqb k LC)
+      (λ t. narrow-fits (rw (f, t) at c) k n i f)
+      (λ g. fits k n i (early-mark k (i .low) f g)))
 
   -- ---- no key: a clean dossier has no such record
 
@@ -157,7 +175,7 @@ module _ (d ix : List ℕ) (h : Indexed d ix) where
 
   -- ---- of every number
 
-  module _ (k n : ℕ) (b : k < kinds) (c : Covers k ix) where
+  module _ (k n : ℕ) (b : k < kinds) (c : slotsFor k ≤ length ix) where
     at-key : keyTest k n ≡ true → Holds (size k) d (length d) (getD ix (slot k n) 0) (current k n (records d)) (startOf k n (records d))
     at-key t = let i = test-key k n b t in holds k n i (covered k n i c)
 

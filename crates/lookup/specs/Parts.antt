@@ -1,5 +1,5 @@
 -- The current records through the index, and where they lie in the dossier.
-use mathlib.Core.Bool.{Bool, cond, _&&_, _||_, not}
+use mathlib.Core.Bool.{Bool, true, false, cond, _||_, not}
 use mathlib.Core.List.{List}
 use mathlib.Core.Path.{_≡_}
 use Prim.Native.Nat.{ℕ, _+_, _-_, _≤_, _<_}
@@ -7,11 +7,9 @@ use lib.Dec.{ltb, eqb}
 use lib.ListN.{length, getD, take, drop, replicate}
 use Rattle.lists.specs.Lists.{Each}
 use Rattle.lists.specs.Tests.{everyOf}
-use Rattle.fields.specs.Numbers.{number}
 use Rattle.records.specs.declared.Answer.the-variants.{Accepted}
-use Rattle.records.specs.Table.{FU, AD, MM, CH, FP, LC, thermal, nuclear}
+use Rattle.records.specs.Table.{FU, AD, MM, CH, FP, LC}
 use Rattle.records.specs.Record.{mark, keyOf}
-use Rattle.records.specs.MarkShapes.{begins}
 use Rattle.records.specs.Answers.{isAccepted}
 use Rattle.records.specs.Dossier.{records, scan}
 use Rattle.records.specs.Walk.{folded, walk}
@@ -21,6 +19,8 @@ use Rattle.index.specs.declared.Passed.{Passed}
 use Rattle.index.specs.declared.Passed.the-variants.{Stopped}
 use Rattle.index.specs.Slots.{slot, short, narrow, wide, fresh, keepStep, passOf}
 use Rattle.lookup.specs.declared.Part.{Part}
+use Rattle.lookup.specs.declared.Room.{Room}
+use Rattle.lookup.specs.declared.Room.the-variants.{TooLong, Short, Narrow, Wide}
 
 -- a part by its start and its length
 abbrev pub part : ℕ → ℕ → Part
@@ -52,13 +52,16 @@ scanned w d = cond (ltb longest (length d)) (Stopped 13 0) (passOf (walk (keepSt
 abbrev pub Empty : List ℕ → Type 0
 Empty ix = (short ≤ length ix) × (ix ≡ replicate (length ix) 0)
 
--- no record is of CH, FP or LC, whose slots come last
-unfoldable pub plain : List ℕ → Bool
-plain d = everyOf (λ r. not (eqb (mark r) CH || eqb (mark r) FP || eqb (mark r) LC)) (records d)
+-- no record is of CH, FP or LC, whose slots come last: a short index has a slot for each
+unfoldable pub fitsShort : List ℕ → Bool
+fitsShort d = everyOf (λ r. not (eqb (mark r) CH || eqb (mark r) FP || eqb (mark r) LC)) (records d)
 
--- a dossier of up to 600 bytes for which a short index is enough, or likely so, since it begins with the RS of a thermal or nuclear station; nothing rests on it
-abbrev pub lean : List ℕ → Bool
-lean d = not (ltb 600 (length d)) && (begins d 82 83 && (eqb (number 6 1 d) thermal || eqb (number 6 1 d) nuclear) || plain d)
+-- no index is needed: all that any call tells of how long an index it begins with
+abbrev pub isTooLong : Room → Bool
+isTooLong TooLong = true
+isTooLong Short = false
+isTooLong Narrow = false
+isTooLong Wide = false
 
 -- where the record of a slot of value v stands in a dossier of e bytes, n being its length; nowhere if there is none
 abbrev pub placeIn : ℕ → ℕ → ℕ → Part
@@ -103,6 +106,6 @@ Complete d ix = Each (λ r. slot (mark r) (keyOf r) < length ix) (records d)
 abbrev pub UpTo : List ℕ → ℕ → Type 0
 UpTo d m = Each (λ r. slot (mark r) (keyOf r) ≤ m) (records d)
 
--- the index has the slots of mark k
-abbrev pub Covers : ℕ → List ℕ → Type 0
-Covers k ix = (k ≡ FP → wide ≤ length ix) × (narrow ≤ length ix)
+-- how many slots an index has that holds those of mark k
+abbrev pub slotsFor : ℕ → ℕ
+slotsFor k = cond (eqb k FP) wide (cond (eqb k CH || eqb k LC) narrow short)

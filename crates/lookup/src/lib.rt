@@ -1,18 +1,19 @@
 // The current records of a dossier: it is read once, for 13 and 1 to 4, and its index then gives each current record as a part of its bytes.
 ghost use mathlib.Core.Path.{_≡_};
-ghost use mathlib.Core.Bool.{Bool};
+ghost use mathlib.Core.Bool.{Bool, false};
 ghost use mathlib.Core.List.{[], _∷_};
 ghost use Prim.Native.Nat.{ℕ, _+_, _*_, _/_, _%_, _<_, _≤_};
+ghost use lib.Dec.{ltb};
 ghost use lib.ListN.{length};
 ghost use Rattle.fields.specs.Numbers.{number};
 ghost use Rattle.records.specs.declared.Answer.the-variants.{Accepted};
 ghost use Rattle.records.specs.Table.{kinds};
 ghost use Rattle.records.specs.Record.{mark};
 ghost use Rattle.records.specs.Dossier.{records, scan};
-ghost use Rattle.station.specs.Current.{current, readable, lookupBytes};
+ghost use Rattle.station.specs.Current.{longest, current, readable, lookupBytes};
 ghost use Rattle.index.specs.declared.Passed.the-variants.{Ended};
 ghost use Rattle.index.specs.Slots.{slot, narrow};
-ghost use Rattle.lookup.specs.Parts.{held, scanned, plain, lean, placeIn, placeAt, partBytes, partAt, currentPart, lookupPart, Empty, Indexed, Complete, UpTo, Covers};
+ghost use Rattle.lookup.specs.Parts.{isTooLong, fitsShort, slotsFor, held, scanned, placeIn, placeAt, partBytes, partAt, currentPart, lookupPart, Empty, Indexed, Complete, UpTo};
 use index::Passed;
 use records::Answer;
 
@@ -25,10 +26,63 @@ pub struct Part {
     pub length: usize,
 }
 
-// Whether no record is of CH, FP or LC, which a short index has no slots for.
-pub fn plain(d: &[u8]) -> bool
+// How long an index a dossier is read with first; none is needed where it is too long.
+pub enum Room {
+    TooLong,
+    Short,
+    Narrow,
+    Wide,
+}
+
+// What an RS at the front tells of the station, or a record of the first 600 bytes: HP is a thermal one's, FP a hydroelectric one's, CH and LC are a
+// battery's, which may have neither. So a dossier of up to 600 bytes without them wants a short index; to clear a longer one would cost more than its
+// records do. In a longer dossier that costs little, while a wrong guess costs a second pass.
+fn guess(d: &[u8]) -> Room
+    ensures { λ r. ⌜ isTooLong r ≡ false ⌝ }
+{
+    if records::is_mark(d, b"RS") {
+        let technology = fields::u8_at(d, 6);
+        if technology == 4 {
+            return Room::Wide;
+        }
+        if technology != 3 {
+            return Room::Short;
+        }
+    }
+    let small = d.len() <= 600;
+    let end = lists::choose(small, d.len(), 600);
+    let mut at = 0;
+    while at < end {
+        let k = records::kind_at(&d[at..]);
+        if k == 10 {
+            return Room::Wide;
+        }
+        if (k == 8) | (k == 11) {
+            return Room::Narrow;
+        }
+        if k == 2 {
+            return Room::Short;
+        }
+        at += records::length_of(k);
+    }
+    if small { Room::Short } else { Room::Narrow }
+}
+
+// The way in for every call: 13, and how long an index the dossier is likely to want. The guess decides how soon an answer comes and never which: a record
+// without a slot is noticed, and the dossier read again.
+pub fn room_for(d: &[u8]) -> Room
+    ensures { λ r. ⌜ isTooLong r ≡ ltb longest (length (now (d .entry))) ⌝ }
+{
+    if LONGEST < d.len() {
+        return Room::TooLong;
+    }
+    guess(d)
+}
+
+// Whether a short index has a slot for every record: none is of CH, FP or LC.
+pub fn fits_short(d: &[u8]) -> bool
     requires { ⌜ length (now d) ≤ 60000 ⌝ }
-    ensures { λ r. ⌜ r ≡ plain (now (d .entry)) ⌝ }
+    ensures { λ r. ⌜ r ≡ fitsShort (now (d .entry)) ⌝ }
 {
     let mut at = 0;
     while at < d.len() {
@@ -39,21 +93,6 @@ pub fn plain(d: &[u8]) -> bool
         at += records::length_of(k);
     }
     true
-}
-
-// Whether a short index is enough, or likely so, since the dossier begins with the RS of a thermal or nuclear station. To look through a long
-// dossier would cost more than a longer index does. Nothing rests on it.
-pub fn lean(d: &[u8]) -> bool
-    ensures { λ r. ⌜ r ≡ lean (now (d .entry)) ⌝ }
-{
-    if 600 < d.len() {
-        return false;
-    }
-    let t = fields::u8_at(d, 6);
-    if records::is_mark(d, b"RS") & ((t == 1) | (t == 2)) {
-        return true;
-    }
-    plain(d)
 }
 
 // The first part of it: 13, 1 to 3, and the index.
@@ -265,7 +304,7 @@ pub fn slot_of(kind: usize, n: usize) -> usize
 
 // Where the current record of a mark and key stands; a number that is no key has none.
 fn place_of(d: &[u8], index: &[u16], kind: usize, n: usize) -> Part
-    requires { ⌜ Indexed (now d) (now index) × (kind < kinds) × Covers kind (now index) ⌝ }
+    requires { ⌜ Indexed (now d) (now index) × (kind < kinds) × (slotsFor kind ≤ length (now index)) ⌝ }
     ensures { λ r. ⌜ r ≡ currentPart kind n (records (now (d .entry))) ⌝ }
 {
     if records::in_key(kind, n) {
@@ -280,7 +319,7 @@ fn place_of(d: &[u8], index: &[u16], kind: usize, n: usize) -> Part
 
 // The lookup by kind and key number, as start and length, with an empty index for it.
 fn part_in(d: &[u8], index: &mut [u16], kind: usize, n: usize) -> Part
-    requires { ⌜ Empty (now index) × (kind < kinds) × Covers kind (now index) ⌝ }
+    requires { ⌜ Empty (now index) × (kind < kinds) × (slotsFor kind ≤ length (now index)) ⌝ }
     ensures { λ r. ⌜ r ≡ lookupPart (now (d .entry)) kind n ⌝ }
 {
     match open(d, index) {
@@ -295,17 +334,54 @@ fn part_in(d: &[u8], index: &mut [u16], kind: usize, n: usize) -> Part
     }
 }
 
-// The same; only a lookup of FP needs its slots.
+// How many slots an index has that holds those of a kind.
+fn slots_for(kind: usize) -> usize
+    ensures { λ r. ⌜ r ≡ slotsFor kind ⌝ }
+{
+    if kind == 10 {
+        return index::WIDE;
+    }
+    if (kind == 8) | (kind == 11) {
+        return index::NARROW;
+    }
+    index::SHORT
+}
+
+// The same with any empty index, and the widest where that hasn't the slots of the kind.
+fn lookup_part_in(d: &[u8], index: &mut [u16], kind: usize, n: usize) -> Part
+    requires { ⌜ Empty (now index) × (kind < kinds) ⌝ }
+    ensures { λ r. ⌜ r ≡ lookupPart (now (d .entry)) kind n ⌝ }
+{
+    if slots_for(kind) <= index.len() {
+        return part_in(d, index, kind, n);
+    }
+    let mut widest = [0u16; index::WIDE];
+    part_in(d, &mut widest, kind, n)
+}
+
+// The same of a dossier.
 fn lookup_part(d: &[u8], kind: usize, n: usize) -> Part
     requires { ⌜ kind < kinds ⌝ }
     ensures { λ r. ⌜ r ≡ lookupPart (now (d .entry)) kind n ⌝ }
 {
-    if kind == 10 {
-        let mut slots = [0u16; index::WIDE];
-        return part_in(d, &mut slots, kind, n);
+    match room_for(d) {
+        Room::TooLong => Part {
+            start: 0,
+            length: 0,
+        },
+        Room::Short => {
+            let mut index = [0u16; index::SHORT];
+            lookup_part_in(d, &mut index, kind, n)
+        }
+        Room::Narrow => {
+            let mut index = [0u16; index::NARROW];
+            lookup_part_in(d, &mut index, kind, n)
+        }
+        Room::Wide => {
+            let mut index = [0u16; index::WIDE];
+            lookup_part_in(d, &mut index, kind, n)
+        }
     }
-    let mut slots = [0u16; index::NARROW];
-    part_in(d, &mut slots, kind, n)
 }
 
 // A key's bytes as a number.

@@ -9,8 +9,8 @@ use Rattle.acceptance.proofs.answer_in.Tie as tie
 enum-told : tie.Need-enum-told
 enum-told c = search needs
 
-beyond-reading-requires : tie.Need-beyond-reading-requires
-beyond-reading-requires c κs =
+rules-after-reading-requires : tie.Need-rules-after-reading-requires
+rules-after-reading-requires c κs =
     let o = c .before .before .before .before .before .«open» in
     let a = c .before .enum-told .given .1 in
     let i = o .ensures .1 a in
@@ -26,7 +26,7 @@ answer-in-spec =
     (tie.spec
     (λ c κs. search needs)
     enum-told
-    beyond-reading-requires
+    rules-after-reading-requires
     (λ c. search needs)
     (λ c. search needs)
     (λ c. search needs)

@@ -5,14 +5,14 @@ use Rattle.rules.proofs.Draws.{unreadable}
 use Rattle.acceptance.proofs.indexed_answer.Statement.{statement}
 use Rattle.acceptance.proofs.indexed_answer.Tie as tie
 
-beyond-reading-requires : tie.Need-beyond-reading-requires
-beyond-reading-requires c κs = let p = c .before .before .before .pre in (p .0, p .1, p .2, p .3 (c .if1 .taken))
+rules-after-reading-requires : tie.Need-rules-after-reading-requires
+rules-after-reading-requires c κs = let p = c .before .before .before .pre in (p .0, p .1, p .2, p .3 (c .if1 .taken))
 
 enum-told : tie.Need-enum-told
 enum-told c = search needs
 
-beyond-reading-requires-2 : tie.Need-beyond-reading-requires-2
-beyond-reading-requires-2 c κs =
+rules-after-reading-requires-2 : tie.Need-rules-after-reading-requires-2
+rules-after-reading-requires-2 c κs =
     let p = c .before .before .before .before .before .before .pre in
     (p .0, p .1, p .2, scan-twins _ (p .0) ∙ sym (c .before .before .first-twin .ensures) ∙ c .enum-told .given .1)
 
@@ -23,11 +23,11 @@ pub indexed-answer-spec : {M : Type 1} → statement M
 indexed-answer-spec =
     tie.close
     (tie.spec
-    beyond-reading-requires
+    rules-after-reading-requires
     (λ c. search needs)
     (λ c κs. search needs)
     enum-told
-    beyond-reading-requires-2
+    rules-after-reading-requires-2
     (λ c. search needs)
     (λ c. search needs)
     returns-3)

@@ -17,8 +17,8 @@ indexed-answer-requires c κs =
     let h = c .before .if1 .taken in
     (i .0, up-to-complete (i .0) (i .1) (omega (arith, h, c .before .before .before .before .before .before .before .scan .kept)), i .1, λ e. sym (scan-rising _ _ (ap (λ (b : Bool). Ended b (c .before .before .before .rising .given .0 .1 .0)) (sym e) ∙ sym g ∙ s .0) (omega (arith, h, c .before .before .before .before .before .before .before .scan .kept)) (i .0)))
 
-judge-again-requires : tie.Need-judge-again-requires
-judge-again-requires c κs =
+judge-with-wider-index-requires : tie.Need-judge-with-wider-index-requires
+judge-with-wider-index-requires c κs =
     let i = c .before .before .before .before .before .before .scan .ensures .1 _ _ (c .before .before .rising .given .1) in
     (i .0 .clean, i .1)
 
@@ -26,7 +26,7 @@ returns : tie.Need-returns
 returns c = (c .indexed-answer .ensures, λ _. c .before .before .before .before .before .before .before .before .scan .ensures .1 _ _ (c .before .before .before .before .rising .given .1) .0)
 
 returns-2 : tie.Need-returns-2
-returns-2 c = (c .judge-again .ensures, λ _. c .before .before .before .before .before .before .before .scan .ensures .1 _ _ (c .before .before .before .rising .given .1) .0)
+returns-2 c = (c .judge-with-wider-index .ensures, λ _. c .before .before .before .before .before .before .before .scan .ensures .1 _ _ (c .before .before .before .rising .given .1) .0)
 
 returns-3 : tie.Need-returns-3
 returns-3 c = (unreadable _ _ _ (scan-stopped _ _ (sym (c .before .number .given .1) ∙ c .before .before .before .before .before .scan .ensures .0)), λ e. absurd (not-refused _ _ e))
@@ -38,7 +38,7 @@ judge-spec =
     (λ c κs. search needs)
     (λ c. search needs)
     indexed-answer-requires
-    judge-again-requires
+    judge-with-wider-index-requires
     (λ c. search needs)
     (λ c. search needs)
     returns

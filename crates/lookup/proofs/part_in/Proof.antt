@@ -11,7 +11,8 @@ enum-told c = search needs
 place-of-requires : tie.Need-place-of-requires
 place-of-requires c κs =
     let p = c .before .before .before .before .before .before .before .before .before .pre in
-    (c .before .before .before .before .before .«open» .ensures .1 (c .before .enum-told .given .1), p .1, ((λ e. omega (arith, p .2 .0 e, c .before .before .before .before .before .«open» .kept .1 .0)), omega (arith, p .2 .1, c .before .before .before .before .before .«open» .kept .1 .0)))
+    let o = c .before .before .before .before .before .«open» in
+    (o .ensures .1 (c .before .enum-told .given .1), p .1, omega (arith, p .2, o .kept .1 .0))
 
 returns : tie.Need-returns
 returns c = c .place-of .ensures ∙ part-accepted _ _ _ (sym (c .before .before .enum-told .given .1) ∙ c .before .before .before .before .before .before .«open» .ensures .0)

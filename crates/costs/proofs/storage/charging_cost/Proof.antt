@@ -1,12 +1,12 @@
 use mathlib.Core.Path.{sym, _∙_}
 use native.Mathlib.Omega.{arith}
-use Rattle.costs.proofs.Intervals.{plain-uncharged}
+use Rattle.costs.proofs.Intervals.{short-uncharged}
 use borrow.Author.Needs.{needs}
 use Rattle.costs.proofs.storage.charging_cost.Statement.{statement}
 use Rattle.costs.proofs.storage.charging_cost.Tie as tie
 
 returns-2 : tie.Need-returns-2
-returns-2 c = (plain-uncharged _ _ (c .before .before .before .before .before .pre) (sym (c .if2 .taken) ∙ c .before .plain .ensures), omega arith)
+returns-2 c = (short-uncharged _ _ (c .before .before .before .before .before .pre) (sym (c .if2 .taken) ∙ c .before .fits-short .ensures), omega arith)
 
 pub charging-cost-spec : {M : Type 1} → statement M
 charging-cost-spec =

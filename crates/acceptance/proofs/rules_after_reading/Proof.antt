@@ -9,8 +9,8 @@ use Rattle.fields.specs.Numbers.{number}
 use Prim.Native.Nat.{ℕ}
 use mathlib.Core.Path.{ap, sym, subst, _∙_}
 use borrow.Author.Needs.{needs}
-use Rattle.acceptance.proofs.beyond_reading.Statement.{statement}
-use Rattle.acceptance.proofs.beyond_reading.Tie as tie
+use Rattle.acceptance.proofs.rules_after_reading.Statement.{statement}
+use Rattle.acceptance.proofs.rules_after_reading.Tie as tie
 
 returns : tie.Need-returns
 returns c = no-station (c .before .before .before .before .args .d .now) (c .before .before .before .before .pre .3) (none-there (records (c .before .before .before .before .args .d .now)) RS 0 (c .before .rs .ensures) (c .if1 .taken))
@@ -30,8 +30,8 @@ returns-2 c = the-rest (c .before .before .before .before .before .before .befor
 returns-3 : tie.Need-returns-3
 returns-3 c = draws-6 (c .before .before .before .before .before .before .before .before .before .args .d .now) (c .before .before .before .before .before .before .before .before .before .pre .3) (one-there (records (c .before .before .before .before .before .before .before .before .before .args .d .now)) RS 0 (c .before .before .before .before .before .before .rs .ensures) (c .before .before .before .before .before .if1 .left)) _ _ (sym (c .before .number .given .1) ∙ c .before .before .before .unfit-of .ensures ∙ ap (λ (t : ℕ). unfit t (records (c .before .before .before .before .before .before .before .before .before .args .d .now))) (c .before .before .before .before .u8-at .ensures ∙ ap (number 6 1) (c .before .before .before .before .before .before .rs .ensures) ∙ sym (technology-at (records (c .before .before .before .before .before .before .before .before .before .args .d .now)))))
 
-pub beyond-reading-spec : {M : Type 1} → statement M
-beyond-reading-spec =
+pub rules-after-reading-spec : {M : Type 1} → statement M
+rules-after-reading-spec =
     tie.close
     (tie.spec
     (λ c κs. search needs)

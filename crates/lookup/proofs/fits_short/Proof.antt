@@ -4,9 +4,9 @@ use lib.ListN.{length}
 use borrow.Author.Needs.{needs}
 use Rattle.records.proofs.Marks.{mark-lt}
 use Rattle.records.proofs.Record.{size-ge}
-use Rattle.lookup.proofs.Guess.{size-le, Left, all-left, none-left, at-late, at-next}
-use Rattle.lookup.proofs.plain.Statement.{statement}
-use Rattle.lookup.proofs.plain.Tie as tie
+use Rattle.lookup.proofs.Rooms.{size-le, Left, all-left, none-left, at-late, at-next}
+use Rattle.lookup.proofs.fits_short.Statement.{statement}
+use Rattle.lookup.proofs.fits_short.Tie as tie
 
 abbrev Inv-loop : tie.InvT-loop
 Inv-loop d at₀ at = Left d at
@@ -35,8 +35,8 @@ loop-again c = let l = c .before .before .before .before .before .loop in at-nex
 returns-2 : tie.Need-returns-2 Inv-loop μ-loop
 returns-2 c = let l = c .before .loop in none-left _ (l .at) (omega arith) (l .inv)
 
-pub plain-spec : {M : Type 1} → statement M
-plain-spec =
+pub fits-short-spec : {M : Type 1} → statement M
+fits-short-spec =
     tie.close
     (tie.spec
     Inv-loop

@@ -1,11 +1,11 @@
--- The records by their marks, one after the other.
+-- How long an index a dossier is read with, and whether a short one has a slot for every record.
 use mathlib.Core.Path.{_≡_, refl, ap, sym, subst, _∙_}
-use mathlib.Core.Bool.{Bool, true, false, _&&_, _||_, not, true≢false}
+use mathlib.Core.Bool.{Bool, true, false, cond, _&&_, _||_, not, true≢false}
 use mathlib.Core.List.{List, [], _∷_}
 use Prim.Native.Nat.{ℕ, _+_, _-_, _≤_, _<_}
 use native.Mathlib.Omega.{arith}
-use lib.Dec.{eqb, lit≤}
-use borrow.Author.Tests.{eqb-true, eqb-false}
+use lib.Dec.{eqb, ltb, leb, lit≤}
+use borrow.Author.Tests.{eqb-true, eqb-false, ltb-true, leb-true, leb-false}
 use lib.ListN.{length, take, drop, length-drop, drop-of-length-le}
 use lib.Seq.{drop-drop}
 use Rattle.lists.specs.Lists.{Each, done, also}
@@ -18,11 +18,23 @@ use Rattle.records.specs.Dossier.{restOf, recordsIn, records}
 use Rattle.records.proofs.Record.{no-size}
 use Rattle.records.proofs.Marks.{size-most}
 use Rattle.records.proofs.Dossier.{first-mark, records-step}
-use Rattle.station.specs.Current.{matches, current}
+use Rattle.station.specs.Current.{longest, matches, current}
 use Rattle.station.proofs.Current.{matches-mark}
 use Rattle.index.proofs.Turn.{tail}
-use Rattle.lookup.specs.Parts.{plain, Indexed}
+use Rattle.lookup.specs.declared.Room.{Room}
+use Rattle.lookup.specs.declared.Room.the-variants.{TooLong}
+use Rattle.lookup.specs.Parts.{isTooLong, fitsShort, Indexed}
 use Rattle.lookup.proofs.Parts.{none-current}
+
+-- what 13 rests on, of the way in to every call
+pub overlong-room : {r : Room} (d : List ℕ) → isTooLong r ≡ ltb longest (length d) → r ≡ TooLong → longest < length d
+overlong-room d e t = ltb-true longest (length d) (sym e ∙ ap isTooLong t)
+
+-- ---- the records by their marks, one after the other
+
+-- where a look at the first bytes ends
+pub look-ends : {n e : ℕ} → e ≡ cond (leb n 600) n 600 → (e ≤ n) × (e ≤ 600)
+look-ends {n} {e} q = split (leb n 600) (λ t. (omega (arith, rw t at q), omega (arith, rw t at q, leb-true n 600 t))) (λ f. (omega (arith, rw f at q, leb-false n 600 f), omega (arith, rw f at q)))
 
 -- a mark whose slots come last
 abbrev Late : ℕ → Bool
@@ -34,23 +46,23 @@ size-le k h = split (eqb k 0) (λ z. rw (eqb-true k 0 z, no-size) (lit≤ tt)) (
 
 -- what is left from place p on tells
 abbrev pub Left : List ℕ → ℕ → Type 0
-Left d p = everyOf (λ r. not (Late (mark r))) (records (drop p d)) ≡ plain d
+Left d p = everyOf (λ r. not (Late (mark r))) (records (drop p d)) ≡ fitsShort d
 
 pub all-left : (d : List ℕ) → Left d 0
-unfolding plain
+unfolding fitsShort
 all-left d = refl
 
-pub none-left : (d : List ℕ) (p : ℕ) → length d ≤ p → Left d p → true ≡ plain d
+pub none-left : (d : List ℕ) (p : ℕ) → length d ≤ p → Left d p → true ≡ fitsShort d
 unfolding records recordsIn everyOf
 none-left d p h left = rw (drop-of-length-le d {i = p} h) at left
 
 module _ (d : List ℕ) (p : ℕ) (h : p < length d) (left : Left d p) {k : ℕ} (q : k ≡ mark (take (length d - p) (drop p d))) where
-  step : not (Late k) && everyOf (λ r. not (Late (mark r))) (records (restOf (drop p d))) ≡ plain d
+  step : not (Late k) && everyOf (λ r. not (Late (mark r))) (records (restOf (drop p d))) ≡ fitsShort d
   unfolding everyOf
   step =
-      rw (q, tail d p, ← first-mark (drop p d)) (subst (λ (l : List (List ℕ)). everyOf (λ r. not (Late (mark r))) l ≡ plain d) (records-step (drop p d) (omega (arith, length-drop p d))) left)
+      rw (q, tail d p, ← first-mark (drop p d)) (subst (λ (l : List (List ℕ)). everyOf (λ r. not (Late (mark r))) l ≡ fitsShort d) (records-step (drop p d) (omega (arith, length-drop p d))) left)
 
-  pub at-late : Late k ≡ true → false ≡ plain d
+  pub at-late : Late k ≡ true → false ≡ fitsShort d
   at-late e = rw e at step
 
   pub at-next : Late k ≡ false → {n : ℕ} → n ≡ size k → Left d (p + n)
@@ -63,9 +75,9 @@ every-each f [] e = done
 every-each f (a ∷ l) e = also (and-left (f a) (everyOf f l) e) (every-each f l (and-right (f a) (everyOf f l) e))
 
 -- a dossier without such a record has none of them
-pub plain-none : (d ix : List ℕ) → Indexed d ix → true ≡ plain d → (k n : ℕ) → Late k ≡ true → current k n (records d) ≡ []
-unfolding plain current
-plain-none d ix h e k n late =
+pub short-none : (d ix : List ℕ) → Indexed d ix → true ≡ fitsShort d → (k n : ℕ) → Late k ≡ true → current k n (records d) ≡ []
+unfolding fitsShort current
+short-none d ix h e k n late =
     none-current d ix h k n []
     (each-map
     (λ r z. split (matches k n r) (λ m. absurd (true≢false (sym late ∙ ap Late (sym (matches-mark k n r m)) ∙ not-late r z))) (λ m. m))
