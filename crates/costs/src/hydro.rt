@@ -2,8 +2,6 @@
 ghost use mathlib.Core.Path.{_≡_};
 ghost use Prim.Native.Nat.{_/_, _-_, _≤_};
 ghost use lib.ListN.{length, drop};
-ghost use Rattle.records.specs.declared.Answer.the-variants.{Accepted};
-ghost use Rattle.records.specs.Dossier.{records, scan};
 ghost use Rattle.station.specs.Parameters.{window, placePrice};
 ghost use Rattle.lookup.specs.Parts.{Indexed, Complete, parametersHeld, amountsHeld};
 ghost use Rattle.formulas.specs.Sums.{listTo, fromTop};
@@ -35,15 +33,26 @@ fn price_from_top(d: &[u8], index: &[u16], places: usize, place: usize) -> u32
     arithmetic::highest::from_top(&table[from..], place)
 }
 
-// The greater of 0 and the price at the forecast's place, in cents. The index at hand may have no slot for FP, so it is filled anew.
-fn forecast_price(d: &[u8], places: usize) -> u64
-    requires { ⌜ (length (now d) ≤ 60000) × (scan 0 (records (now d)) ≡ Accepted) × (places ≡ window (parametersIn (now d))) × (50 ≤ places) × (places ≤ 4000) ⌝ }
+// The greater of 0 and the price at the forecast's place, in cents, through an index of every record.
+fn forecast_through(d: &[u8], index: &[u16], places: usize) -> u64
+    requires { ⌜ Indexed (now d) (now index) × Complete (now d) (now index) × (places ≡ window (parametersIn (now d))) × (50 ≤ places) × (places ≤ 4000) ⌝ }
     ensures { λ r. ⌜ (r ≡ forecastPrice (parametersIn (now (d .entry))) (amountsIn (now (d .entry)))) × (r ≤ 200000) ⌝ }
 {
-    let mut index = [0u16; index::WIDE];
-    lookup::fill(d, &mut index);
-    let price = price_from_top(d, &index, places, places / 50);
+    let price = price_from_top(d, index, places, places / 50);
     arithmetic::less(price as u64, 2147483648)
+}
+
+// The same. An index at hand with the slots of FP has one for every record; without them another is filled.
+fn forecast_price(d: &[u8], index: &[u16], places: usize) -> u64
+    requires { ⌜ Indexed (now d) (now index) × (places ≡ window (parametersIn (now d))) × (50 ≤ places) × (places ≤ 4000) ⌝ }
+    ensures { λ r. ⌜ (r ≡ forecastPrice (parametersIn (now (d .entry))) (amountsIn (now (d .entry)))) × (r ≤ 200000) ⌝ }
+{
+    if index::WIDE <= index.len() {
+        return forecast_through(d, index, places);
+    }
+    let mut full = [0u16; index::WIDE];
+    lookup::fill(d, &mut full);
+    forecast_through(d, &full, places)
 }
 
 // The sum of its one lamination.
@@ -51,6 +60,6 @@ pub fn hydro_energy(d: &[u8], index: &[u16], p: usize) -> u64
     requires { ⌜ Indexed (now d) (now index) × (1 ≤ p) × (p ≤ 4) × (50 ≤ window (parametersHeld (now d) (now index))) ⌝ }
     ensures { λ r. ⌜ r ≡ microDollars (hydroEnergy (parametersHeld (now (d .entry)) (now (index .entry))) (amountsHeld (now (d .entry)) (now (index .entry))) p) ⌝ }
 {
-    let price = forecast_price(d, parameters::window(d, index));
+    let price = forecast_price(d, index, parameters::window(d, index));
     price * 10000 + adders(d, index, p, 1) + maintenance(d, index, p)
 }

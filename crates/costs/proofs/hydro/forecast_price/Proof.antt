@@ -1,39 +1,29 @@
 use borrow.Author.Needs.{needs}
-use mathlib.Core.Path.{ap, _∙_}
-use Prim.Native.Nat.{ℕ, _-_, _/_}
+use Prim.Native.Nat.{ℕ}
 use native.Mathlib.Omega.{arith}
 use lib.ListN.{length-replicate}
-use Rattle.records.specs.Dossier.{records}
-use Rattle.station.specs.Parameters.{amounts, placePrice}
 use Rattle.index.specs.Slots.{wide}
 use Rattle.lookup.proofs.Parts.{wide-complete}
-use Rattle.formulas.specs.Sums.{listTo, fromTop}
-use Rattle.formulas.specs.Levels.{forecastPlace, forecastPrice}
 use Rattle.costs.proofs.hydro.forecast_price.Statement.{statement}
 use Rattle.costs.proofs.hydro.forecast_price.Tie as tie
 
-price-from-top-requires : tie.Need-price-from-top-requires
-price-from-top-requires c κs =
-    let f = c .before .before .fill in
-    let p = c .before .before .before .before .before .pre in
-    (f .ensures, wide-complete _ _ (f .ensures) (omega (arith, f .kept .1 .0, length-replicate {A = ℕ} wide 0)), p .4, omega (arith, p .3), omega arith)
+forecast-through-requires : tie.Need-forecast-through-requires
+forecast-through-requires c κs = let p = c .before .before .before .pre in (p .0, wide-complete _ _ (p .0) (c .if1 .taken), p .1, p .2, p .3)
 
-returns : tie.Need-returns
-unfolding forecastPrice forecastPlace
-returns c =
-    let a = c .before .before .before .before .before .before .before in
-    let m = amounts (records (a .args .d .now)) in
-    let e = c .before .price-from-top .ensures .0 ∙ ap (λ (w : ℕ). fromTop (w / 50) (listTo w (placePrice m))) (a .pre .2) in
-    (c .less .ensures ∙ ap (λ (x : ℕ). x - 2147483648) e, omega (arith, c .less .ensures, c .before .price-from-top .ensures .1))
+forecast-through-requires-2 : tie.Need-forecast-through-requires-2
+forecast-through-requires-2 c κs =
+    let f = c .before .before .fill in
+    let p = c .before .before .before .before .before .before .before .pre in
+    (f .ensures, wide-complete _ _ (f .ensures) (omega (arith, f .kept .1 .0, length-replicate {A = ℕ} wide 0)), p .1, p .2, p .3)
 
 pub forecast-price-spec : {M : Type 1} → statement M
 forecast-price-spec =
     tie.close
     (tie.spec
+    forecast-through-requires
+    (λ c. search needs)
     (λ c. search needs)
     (λ c κs. search needs)
     (λ c. search needs)
-    price-from-top-requires
-    (λ c. search needs)
-    (λ c κs. search needs)
-    returns)
+    forecast-through-requires-2
+    (λ c. search needs))

@@ -11,7 +11,7 @@ use Rattle.costs.proofs.hydro.hydro_energy.Tie as tie
 forecast-price-requires : tie.Need-forecast-price-requires
 forecast-price-requires c κs =
     let p = c .before .before .before .pre in
-    (p .0 .short, p .0 .clean, c .window .ensures .0 ∙ says-always (p .0) RS 0 refl 8, omega (arith, p .3, c .window .ensures .0), c .window .ensures .1)
+    (p .0, c .window .ensures .0 ∙ says-always (p .0) RS 0 refl 8, omega (arith, p .3, c .window .ensures .0), c .window .ensures .1)
 
 returns : tie.Need-returns
 returns c = hydro-costs _ _ _ (c .before .before .forecast-price .ensures .0 ∙ sym (forecast-always (c .before .before .before .before .before .before .pre .0))) (c .before .adders .ensures .0) (c .maintenance .ensures .0)

@@ -7,7 +7,7 @@ use Rattle.records.specs.Record.{mark}
 use Rattle.records.proofs.Marks.{mark-lt}
 use Rattle.records.proofs.Record.{size-ge}
 use Rattle.index.proofs.Turn.{tail}
-use Rattle.lookup.proofs.Guess.{size-le}
+use Rattle.lookup.proofs.Rooms.{size-le}
 use Rattle.costs.specs.Intervals.{Walked}
 use Rattle.costs.proofs.ByRecords.{walk-begins, walk-ends}
 use Rattle.costs.proofs.storage.by_records.Statement.{statement}
