@@ -13,6 +13,7 @@ ghost use Rattle.verdicts.specs.Verdict.{offerVerdict, priceVerdict, onOffer, o
 use crate::refusals::offer_refusal;
 use crate::refusals::price_refusal;
 use limits::Threshold;
+use lookup::Room;
 use records::Answer;
 use verdicts::Verdict;
 
@@ -85,22 +86,28 @@ fn energy_test_in(d: &[u8], index: &mut [u16], hour: u32, condition: u8, offer: 
     }
 }
 
-// The same. A dossier that is too long needs no index; for a small one a short index is mostly enough, and sooner made.
+// The same of a dossier.
 pub fn energy_test(d: &[u8], hour: u32, condition: u8, offer: &[u8]) -> Verdict
     ensures { λ r. ⌜ r ≡ onOffer (now (d .entry)) hour condition (now (offer .entry)) ⌝ }
 {
-    if lookup::LONGEST < d.len() {
-        return Verdict::Refused {
+    match lookup::room_for(d) {
+        Room::TooLong => Verdict::Refused {
             number: 13,
             place: 0,
-        };
+        },
+        Room::Short => {
+            let mut index = [0u16; index::SHORT];
+            energy_test_in(d, &mut index, hour, condition, offer)
+        }
+        Room::Narrow => {
+            let mut index = [0u16; index::NARROW];
+            energy_test_in(d, &mut index, hour, condition, offer)
+        }
+        Room::Wide => {
+            let mut index = [0u16; index::WIDE];
+            energy_test_in(d, &mut index, hour, condition, offer)
+        }
     }
-    if lookup::lean(d) {
-        let mut index = [0u16; index::SHORT];
-        return energy_test_in(d, &mut index, hour, condition, offer);
-    }
-    let mut index = [0u16; index::NARROW];
-    energy_test_in(d, &mut index, hour, condition, offer)
 }
 
 // The conduct test of a single price in cents, for a level other than energy, worked out in an empty index.
@@ -121,20 +128,26 @@ fn price_test_in(
     }
 }
 
-// The same. A dossier that is too long needs no index; for a small one a short index is mostly enough, and sooner made.
+// The same of a dossier.
 pub fn price_test(d: &[u8], hour: u32, level: u8, condition: u8, price: i32) -> Verdict
     ensures { λ r. ⌜ r ≡ onPrice (now (d .entry)) hour level condition price ⌝ }
 {
-    if lookup::LONGEST < d.len() {
-        return Verdict::Refused {
+    match lookup::room_for(d) {
+        Room::TooLong => Verdict::Refused {
             number: 13,
             place: 0,
-        };
+        },
+        Room::Short => {
+            let mut index = [0u16; index::SHORT];
+            price_test_in(d, &mut index, hour, level, condition, price)
+        }
+        Room::Narrow => {
+            let mut index = [0u16; index::NARROW];
+            price_test_in(d, &mut index, hour, level, condition, price)
+        }
+        Room::Wide => {
+            let mut index = [0u16; index::WIDE];
+            price_test_in(d, &mut index, hour, level, condition, price)
+        }
     }
-    if lookup::lean(d) {
-        let mut index = [0u16; index::SHORT];
-        return price_test_in(d, &mut index, hour, level, condition, price);
-    }
-    let mut index = [0u16; index::NARROW];
-    price_test_in(d, &mut index, hour, level, condition, price)
 }

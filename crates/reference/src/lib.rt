@@ -18,6 +18,7 @@ ghost use Rattle.reference.specs.Answer.{levelsAnswer};
 use arithmetic::Money;
 use arrays::HourLevels;
 use arrays::SingleLevels;
+use lookup::Room;
 use records::Answer;
 
 // The answer to a dossier with its levels at an hour: all zero where it is refused.
@@ -196,22 +197,30 @@ fn levels_in(d: &[u8], index: &mut [u16], hour: u32) -> LevelsAnswer
     }
 }
 
-// The same. A dossier that is too long needs no index; for a small one a short index is mostly enough, and sooner made.
+// The same of a dossier.
 pub fn levels(d: &[u8], hour: u32) -> LevelsAnswer
     ensures { λ r. ⌜ r ≡ levelsAnswer (now (d .entry)) hour ⌝ }
 {
-    if lookup::LONGEST < d.len() {
-        let answer = Answer::Refused {
-            number: 13,
-            place: 0,
-        };
-        let levels = no_levels();
-        return LevelsAnswer { answer, levels };
+    match lookup::room_for(d) {
+        Room::TooLong => {
+            let answer = Answer::Refused {
+                number: 13,
+                place: 0,
+            };
+            let levels = no_levels();
+            LevelsAnswer { answer, levels }
+        },
+        Room::Short => {
+            let mut index = [0u16; index::SHORT];
+            levels_in(d, &mut index, hour)
+        }
+        Room::Narrow => {
+            let mut index = [0u16; index::NARROW];
+            levels_in(d, &mut index, hour)
+        }
+        Room::Wide => {
+            let mut index = [0u16; index::WIDE];
+            levels_in(d, &mut index, hour)
+        }
     }
-    if lookup::lean(d) {
-        let mut index = [0u16; index::SHORT];
-        return levels_in(d, &mut index, hour);
-    }
-    let mut index = [0u16; index::NARROW];
-    levels_in(d, &mut index, hour)
 }

@@ -9,6 +9,7 @@ ghost use Rattle.arrays.specs.Packed.{hourOf, inArrays};
 ghost use Rattle.words.specs.Words.{heldBits, Blank, wordsTo, wordsOf, wordsAnswer, wordsAfter};
 use arrays::SingleLevels;
 use lists::choose;
+use lookup::Room;
 use records::Answer;
 use rules::level_held;
 
@@ -102,20 +103,26 @@ fn levels_words_in(d: &[u8], index: &mut [u16], hour: u32, words: &mut [u64]) ->
     }
 }
 
-// The same. A dossier that is too long needs no index; for a small one a short index is mostly enough, and sooner made.
+// The same of a dossier.
 pub fn levels_words(d: &[u8], hour: u32, words: &mut [u64]) -> Answer
     ensures { λ r. ⌜ (r ≡ wordsAnswer (now (d .entry)) hour (length (now (words .entry)))) × (now (words .exit) ≡ wordsAfter (now (d .entry)) hour (now (words .entry))) ⌝ }
 {
-    if lookup::LONGEST < d.len() {
-        return Answer::Refused {
+    match lookup::room_for(d) {
+        Room::TooLong => Answer::Refused {
             number: 13,
             place: 0,
-        };
+        },
+        Room::Short => {
+            let mut index = [0u16; index::SHORT];
+            levels_words_in(d, &mut index, hour, words)
+        }
+        Room::Narrow => {
+            let mut index = [0u16; index::NARROW];
+            levels_words_in(d, &mut index, hour, words)
+        }
+        Room::Wide => {
+            let mut index = [0u16; index::WIDE];
+            levels_words_in(d, &mut index, hour, words)
+        }
     }
-    if lookup::lean(d) {
-        let mut index = [0u16; index::SHORT];
-        return levels_words_in(d, &mut index, hour, words);
-    }
-    let mut index = [0u16; index::NARROW];
-    levels_words_in(d, &mut index, hour, words)
 }

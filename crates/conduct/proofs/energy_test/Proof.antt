@@ -1,4 +1,4 @@
-use Rattle.rules.proofs.Draws.{overlong}
+use Rattle.acceptance.proofs.Entry.{no-room}
 use Rattle.verdicts.proofs.Settled.{settle-refused}
 use Rattle.verdicts.specs.Verdict.{onOffer}
 use borrow.Author.Needs.{needs}
@@ -7,17 +7,26 @@ use Rattle.conduct.proofs.energy_test.Tie as tie
 
 returns : tie.Need-returns
 unfolding onOffer
-returns c = settle-refused _ (overlong _ (c .if1 .taken))
+returns c =
+    let m = c .before .before in
+    settle-refused _ (no-room (m .before .before .before .args .d .now) (m .room-for .ensures) (c .enum-told .given .1))
 
 pub energy-test-spec : {M : Type 1} → statement M
 energy-test-spec =
     tie.close
     (tie.spec
+    (λ c κs. search needs)
+    (λ c. search needs)
+    (λ c. search needs)
+    (λ c. search needs)
+    (λ c κs. search needs)
+    (λ c. search needs)
+    (λ c. search needs)
+    (λ c κs. search needs)
+    (λ c. search needs)
+    (λ c. search needs)
+    (λ c κs. search needs)
     returns
-    (λ c κs. search needs)
-    (λ c. search needs)
-    (λ c κs. search needs)
     (λ c. search needs)
     (λ c. search needs)
-    (λ c κs. search needs)
     (λ c. search needs))

@@ -1,22 +1,31 @@
-use Rattle.rules.proofs.Draws.{overlong}
+use Rattle.acceptance.proofs.Entry.{no-room}
 use Rattle.reference.proofs.AtHour.{levels-refused}
 use borrow.Author.Needs.{needs}
 use Rattle.reference.proofs.levels.Statement.{statement}
 use Rattle.reference.proofs.levels.Tie as tie
 
 returns : tie.Need-returns
-returns c = levels-refused _ _ _ _ (overlong _ (c .before .if1 .taken)) (c .no-levels .ensures)
+returns c =
+    let m = c .before .before .before in
+    levels-refused _ _ _ _ (no-room (m .before .before .args .d .now) (m .room-for .ensures) (c .before .enum-told .given .1)) (c .no-levels .ensures)
 
 pub levels-spec : {M : Type 1} → statement M
 levels-spec =
     tie.close
     (tie.spec
     (λ c κs. search needs)
+    (λ c. search needs)
+    (λ c κs. search needs)
+    (λ c. search needs)
+    (λ c. search needs)
+    (λ c κs. search needs)
+    (λ c. search needs)
+    (λ c. search needs)
+    (λ c κs. search needs)
+    (λ c. search needs)
+    (λ c. search needs)
+    (λ c κs. search needs)
     returns
-    (λ c κs. search needs)
-    (λ c. search needs)
-    (λ c κs. search needs)
     (λ c. search needs)
     (λ c. search needs)
-    (λ c κs. search needs)
     (λ c. search needs))
