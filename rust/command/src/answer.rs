@@ -2,6 +2,7 @@
 
 use crate::args::Args;
 use crate::explain::Explained;
+use crate::form::Form;
 use crate::input::{NoInput, STANDARD};
 use crate::json::{object, Json};
 use crate::text::WrongLine;
@@ -166,15 +167,21 @@ pub fn only_file(args: &Args) -> Result<OsString, Stop> {
     }
 }
 
-/// The answer to a single input, in full. A refusal is an error; in JSON it is an answer as well.
-pub fn one(args: &Args, streams: &mut Streams, name: &str, said: &Said) -> io::Result<Status> {
+/// The answer to a single input, in full. A refusal is an error; in JSON and in a table it is an
+/// answer as well.
+pub fn one(form: &Form, streams: &mut Streams, name: &str, said: &Said) -> io::Result<Status> {
     if matches!(said.status, Status::Refused | Status::Wrong) {
         write!(streams.err, "{name}: {}", said.words)?;
-    } else if !args.has("json") {
+    } else if form.is_words() {
         write!(streams.out, "{}", said.words)?;
     }
-    if args.has("json") {
-        writeln!(streams.out, "{}", with_file(name, said))?;
+    if !form.is_words() {
+        write!(
+            streams.out,
+            "{}{}",
+            form.head(),
+            form.among_many(name, said)
+        )?;
     }
     Ok(said.status)
 }

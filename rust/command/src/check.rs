@@ -3,6 +3,7 @@
 use crate::answer::{refused, Said, Status, Stop, Streams};
 use crate::args::Args;
 use crate::explain::of_dossier;
+use crate::form::Form;
 use crate::input::Input;
 use crate::json::{object, Json};
 use crate::lacks::current;
@@ -10,7 +11,7 @@ use crate::many::each;
 use crate::record::records;
 
 pub fn run(args: &Args, streams: &mut Streams) -> Result<Status, Stop> {
-    each(args, streams, check)
+    each(args, streams, &Form::of(args, &[])?, check)
 }
 
 fn check(input: &Input) -> Said {

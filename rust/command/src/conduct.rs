@@ -2,7 +2,9 @@
 
 use crate::answer::{refused, Said, Status, Stop, Streams};
 use crate::args::{hour, Args};
+use crate::csv;
 use crate::explain::of_offer;
+use crate::form::Form;
 use crate::input::Input;
 use crate::json::{object, Json};
 use crate::levels::{dollars, megawatts};
@@ -13,17 +15,17 @@ use bench::{energy_test, price_test, Failing, Lamination, Verdict};
 
 /// What is put to the test.
 #[derive(Debug)]
-enum Offered {
+pub enum Offered {
     Energy(Vec<Pair>),
     Price { level: u8, price: i32 },
 }
 
 /// An offer with its hour and condition.
 #[derive(Debug)]
-struct Question {
-    hour: u32,
-    condition: u8,
-    offered: Offered,
+pub struct Question {
+    pub hour: u32,
+    pub condition: u8,
+    pub offered: Offered,
 }
 
 pub fn run(args: &Args, streams: &mut Streams) -> Result<Status, Stop> {
@@ -32,7 +34,8 @@ pub fn run(args: &Args, streams: &mut Streams) -> Result<Status, Stop> {
         condition: args.need("condition", offer::read_condition)?,
         offered: offered(args)?,
     };
-    each(args, streams, |input| test(input, &question))
+    let form = Form::of(args, csv::TEST)?;
+    each(args, streams, &form, |input| test(input, &question))
 }
 
 fn offered(args: &Args) -> Result<Offered, Stop> {
@@ -52,7 +55,8 @@ fn offered(args: &Args) -> Result<Offered, Stop> {
     }
 }
 
-fn test(input: &Input, question: &Question) -> Said {
+/// What the library says of an offer to a station, in words and JSON.
+pub fn test(input: &Input, question: &Question) -> Said {
     let Question {
         hour,
         condition,

@@ -1,15 +1,19 @@
 //! `bench day`: the levels over hours as a table, and a picture of one hour's energy curve.
 
-use crate::answer::{one, only_file, refused, Said, Status, Stop, Streams};
+use crate::answer::{one, refused, Said, Status, Stop, Streams};
 use crate::args::{hour, whole, Args};
 use crate::conduct::verdict;
-use crate::explain::of_offer;
-use crate::input::{name, read, Input};
+use crate::csv;
+use crate::explain::{of_dossier, of_offer};
+use crate::form::Form;
+use crate::input::Input;
 use crate::json::{object, Json};
 use crate::levels::{dollars, json, megawatts, others};
+use crate::many::each;
 use crate::offer::{self, highest_in, Pair};
 use crate::pack::write_file;
 use crate::picture::{self, Picture};
+use crate::together::only;
 use crate::unit::CONDITION;
 use bench::{energy_test, Failing, Levels, Refusal, Verdict};
 
@@ -21,6 +25,12 @@ struct Question {
     /// The hour in the picture.
     at: u32,
     offer: Option<(u8, Vec<Pair>)>,
+}
+
+/// The hours that have levels, and those that are refused.
+struct Day {
+    hours: Vec<Hour>,
+    refused: Vec<(u32, Refusal)>,
 }
 
 /// One hour of the answer.
@@ -35,25 +45,40 @@ const MOST_HOURS: u32 = 8_784;
 
 pub fn run(args: &Args, streams: &mut Streams) -> Result<Status, Stop> {
     let question = question(args)?;
-    let file = only_file(args)?;
-    let input = match read(&file) {
-        Ok(input) => input,
-        Err(error) => return Ok(one(args, streams, &name(&file), &error.said())?),
-    };
-    let hours = match hours(&input, &question) {
-        Ok(hours) => hours,
-        Err(refusal) => {
-            let pairs = question.offer.as_ref().map_or(&[][..], |(_, pairs)| pairs);
-            let said = refused(&of_offer(refusal, &input.dossier, &input.lines, pairs));
-            return Ok(one(args, streams, &input.name, &said)?);
-        }
-    };
-    if let Some(path) = args.value("svg") {
-        if let Some(hour) = hours.iter().find(|h| h.hour == question.at) {
-            write_file(path, drawn(&input, hour, &question).as_bytes())?;
-        }
+    let form = Form::of(args, csv::DAY)?;
+    if !args.has("svg") && !args.has("svg-day") {
+        return each(args, streams, &form, |input| answer(input, &question));
     }
-    Ok(one(args, streams, &input.name, &said(&hours))?)
+    let input = match only(args)? {
+        Ok(input) => input,
+        Err((name, said)) => return Ok(one(&form, streams, &name, &said)?),
+    };
+    let day = match asked(&input, &question) {
+        Ok(day) => day,
+        Err(said) => return Ok(one(&form, streams, &input.name, &said)?),
+    };
+    draw(args, &input, &question, &day)?;
+    Ok(one(&form, streams, &input.name, &said(&input, &day))?)
+}
+
+/// What is said of the hours of one station.
+fn answer(input: &Input, question: &Question) -> Said {
+    match asked(input, question) {
+        Ok(day) => said(input, &day),
+        Err(said) => said,
+    }
+}
+
+/// Writes the pictures that a call asks for.
+fn draw(args: &Args, input: &Input, question: &Question, day: &Day) -> Result<(), Stop> {
+    let at = day.hours.iter().find(|h| h.hour == question.at);
+    if let (Some(path), Some(hour)) = (args.value("svg"), at) {
+        write_file(path, drawn(input, hour, question).as_bytes())?;
+    }
+    if let Some(path) = args.value("svg-day") {
+        write_file(path, drawn_day(input, question, day).as_bytes())?;
+    }
+    Ok(())
 }
 
 fn question(args: &Args) -> Result<Question, Stop> {
@@ -78,38 +103,73 @@ fn question(args: &Args) -> Result<Question, Stop> {
     })
 }
 
-/// Every hour's levels and verdict, or the refusal of the first that is refused.
-fn hours(input: &Input, question: &Question) -> Result<Vec<Hour>, Refusal> {
-    let hour = |n: u32| {
-        let hour = question.from + n;
-        let verdict = match &question.offer {
-            Some((condition, pairs)) => Some(tested(input, hour, *condition, pairs)?),
-            None => None,
-        };
-        Ok(Hour {
-            hour,
-            levels: bench::levels(&input.dossier, hour)?,
-            verdict,
-        })
+/// Every hour's levels and verdict. Where no hour has them, that is the refusal of the first.
+fn asked(input: &Input, question: &Question) -> Result<Day, Said> {
+    let mut day = Day {
+        hours: Vec::new(),
+        refused: Vec::new(),
     };
-    (0..question.hours).map(hour).collect()
+    for n in 0..question.hours {
+        match at(input, question, question.from + n) {
+            Ok(hour) => day.hours.push(hour),
+            Err(refusal) => day.refused.push((question.from + n, refusal)),
+        }
+    }
+    match day.refused.first() {
+        Some((_, refusal)) if day.hours.is_empty() => {
+            let pairs = question.offer.as_ref().map_or(&[][..], |(_, pairs)| pairs);
+            Err(refused(&of_offer(
+                *refusal,
+                &input.dossier,
+                &input.lines,
+                pairs,
+            )))
+        }
+        _ => Ok(day),
+    }
+}
+
+fn at(input: &Input, question: &Question, hour: u32) -> Result<Hour, Refusal> {
+    let verdict = match &question.offer {
+        Some((condition, pairs)) => Some(tested(input, hour, *condition, pairs)?),
+        None => None,
+    };
+    Ok(Hour {
+        hour,
+        levels: bench::levels(&input.dossier, hour)?,
+        verdict,
+    })
 }
 
 fn tested(input: &Input, hour: u32, condition: u8, pairs: &[Pair]) -> Result<Verdict, Refusal> {
     energy_test(&input.dossier, hour, condition, &offer::bytes(pairs))
 }
 
-fn said(hours: &[Hour]) -> Said {
-    let status = match hours.iter().any(|h| h.fails().is_some()) {
+fn said(input: &Input, day: &Day) -> Said {
+    let status = match day.hours.iter().any(|h| h.fails().is_some()) {
+        _ if !day.refused.is_empty() => Status::Refused,
         true => Status::Fails,
         false => Status::Done,
     };
+    let refusals = day.refused.iter().map(|(hour, refusal)| {
+        let explained = of_dossier(*refusal, &input.dossier, &input.lines);
+        (*hour, explained)
+    });
+    let (mut words, mut hours) = (table(&day.hours), Vec::new());
+    hours.extend(day.hours.iter().map(|hour| (hour.hour, hour.json())));
+    for (hour, explained) in refusals {
+        words += &format!("hour {hour}: {}\n", explained.line());
+        let json = object([("hour", Json::whole(hour as usize))]);
+        hours.push((hour, json.with("refused", explained.json())));
+    }
+    hours.sort_by_key(|(hour, _)| *hour);
+    let hours = hours.into_iter().map(|(_, json)| json).collect();
     Said {
         status,
         counts_as: "with levels",
         line: String::new(),
-        words: table(hours),
-        json: object([("hours", Json::List(hours.iter().map(Hour::json).collect()))]),
+        words,
+        json: object([("hours", Json::List(hours))]),
     }
 }
 
@@ -213,4 +273,10 @@ fn drawn(input: &Input, hour: &Hour, question: &Question) -> String {
             fails: hour.fails(),
         }),
     })
+}
+
+/// The picture of a day.
+fn drawn_day(input: &Input, question: &Question, day: &Day) -> String {
+    let _ = (input, question, day);
+    String::new()
 }

@@ -3,6 +3,7 @@
 
 use crate::json::{object, Json};
 use crate::lacks::{current, lacks};
+use crate::lines::{Lines, Origin};
 use crate::marks::Mark;
 use crate::offer::Pair;
 use crate::record::{records, Record};
@@ -28,13 +29,13 @@ pub struct Standing {
     pub mark: &'static str,
     pub key: String,
     pub issue: i128,
-    /// Its line, where the dossier came as text.
-    pub line: Option<usize>,
+    /// Its line or place in its file.
+    pub origin: Origin,
     pub text: String,
 }
 
 /// The refusal of a dossier; `lines` are those of its records, if it came as text.
-pub fn of_dossier(refusal: Refusal, dossier: &[u8], lines: &[usize]) -> Explained {
+pub fn of_dossier(refusal: Refusal, dossier: &[u8], lines: &Lines) -> Explained {
     let at_record = matches!(refusal.number, 1..=4 | 6);
     let record = records(dossier).find(|r| at_record && r.start == refusal.place);
     Explained {
@@ -50,7 +51,7 @@ pub fn of_dossier(refusal: Refusal, dossier: &[u8], lines: &[usize]) -> Explaine
 }
 
 /// The refusal of an offer or a price put to a dossier.
-pub fn of_offer(refusal: Refusal, dossier: &[u8], lines: &[usize], offer: &[Pair]) -> Explained {
+pub fn of_offer(refusal: Refusal, dossier: &[u8], lines: &Lines, offer: &[Pair]) -> Explained {
     let mut explained = of_dossier(refusal, dossier, lines);
     let place = refusal.place / Pair::BYTES;
     let pair = offer.get(place);
@@ -143,41 +144,53 @@ fn shown([a, b]: &[u8; 2]) -> String {
     format!("{letters}bytes {a} and {b}")
 }
 
-fn standing(record: &Record, lines: &[usize]) -> Standing {
+pub fn standing(record: &Record, lines: &Lines) -> Standing {
     Standing {
         number: record.number,
         start: record.start,
         mark: record.mark.letters,
         key: record.key(),
         issue: record.get("issue"),
-        line: lines.get(record.number - 1).copied(),
+        origin: lines.origin(record),
         text: record.text(),
     }
 }
 
 impl Standing {
+    /// The record in a few words, with what it says: a price's is wanted where many are listed.
+    pub fn short(&self) -> String {
+        let origin = match self.origin.words() {
+            words if words.is_empty() => format!("byte {}", self.start),
+            words => words,
+        };
+        format!("{} ({origin})", self.text)
+    }
+
     /// Which record it is, without its text.
     fn words(&self) -> String {
         let key = match self.key.is_empty() {
             true => String::new(),
             false => format!(" of {}", self.key),
         };
-        let line = self.line.map(|n| format!(", line {n}"));
         let (number, start, mark, issue) = (self.number, self.start, self.mark, self.issue);
-        let line = line.unwrap_or_default();
-        format!("record {number} at byte {start}{line}: {mark}{key}, issue {issue}")
+        let origin = match self.origin.words() {
+            words if words.is_empty() => words,
+            words => format!(", {words}"),
+        };
+        format!("record {number} at byte {start}{origin}: {mark}{key}, issue {issue}")
     }
 
-    fn json(&self) -> Json {
-        object([
+    pub fn json(&self) -> Json {
+        let record = object([
             ("number", Json::whole(self.number)),
             ("place", Json::whole(self.start)),
             ("mark", Json::text(self.mark)),
             ("key", Json::text(&self.key)),
             ("issue", Json::Number(self.issue.to_string())),
-            ("line", self.line.map_or(Json::Null, Json::whole)),
+            ("line", self.origin.line.map_or(Json::Null, Json::whole)),
             ("text", Json::text(&self.text)),
-        ])
+        ]);
+        record.and(self.origin.json())
     }
 }
 

@@ -54,6 +54,15 @@ MW and its level, and the other levels that the station holds, in dollars. Of ma
 line.
 ";
 
+pub const EXPLAIN: &str = "\
+bench explain [FILE...] --hour H [--level L] [--together] [--json]
+
+Shows each level of an hour term by term: fuel, emission, each adder and maintenance item, a battery's
+charging and opportunity side, a river station's place in the forecast, each with its records; then the
+sum in micro-dollars and the level in cents. L is energy, start, no-load or reserve. The terms are held
+against the library's level; where they don't add up to it, the answer says so and the status is 2.
+";
+
 pub const TEST: &str = "\
 bench test [FILE...] --hour H --condition C --offer PAIRS [--json]
 bench test [FILE...] --hour H --condition C --level L --price P [--json]

@@ -1,16 +1,17 @@
 //! Where a dossier comes from: a file or standard input, text or bytes.
 
+use crate::lines::Lines;
 use crate::text::{is_text, pack, WrongLine};
 use std::ffi::{OsStr, OsString};
 use std::fs::File;
 use std::io::{self, Read};
 
-/// A dossier with the name of its input and, where that was text, the line of each record.
+/// A dossier with the name of its input and where each record stands in that.
 #[derive(Debug)]
 pub struct Input {
     pub name: String,
     pub dossier: Vec<u8>,
-    pub lines: Vec<usize>,
+    pub lines: Lines,
 }
 
 /// Why there is no dossier.
@@ -72,13 +73,13 @@ pub fn read(file: &OsString) -> Result<Input, NoInput> {
         return Ok(Input {
             name,
             dossier: bytes,
-            lines: Vec::new(),
+            lines: Lines::default(),
         });
     }
     let packed = pack(&bytes).map_err(NoInput::Wrong)?;
     Ok(Input {
         name,
         dossier: packed.dossier,
-        lines: packed.lines,
+        lines: packed.lines.into(),
     })
 }

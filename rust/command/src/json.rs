@@ -35,6 +35,15 @@ impl Json {
         }
     }
 
+    /// The member of an object.
+    pub fn member(&self, name: &str) -> Option<&Json> {
+        let Json::Object(members) = self else {
+            return None;
+        };
+        let member = members.iter().find(|(n, _)| *n == name);
+        member.map(|(_, value)| value)
+    }
+
     /// The object with one member more.
     pub fn with(self, name: &'static str, value: Json) -> Json {
         self.and(object([(name, value)]))

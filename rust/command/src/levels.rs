@@ -2,7 +2,9 @@
 
 use crate::answer::{refused, Said, Status, Stop, Streams};
 use crate::args::{hour, Args};
+use crate::csv;
 use crate::explain::of_dossier;
+use crate::form::Form;
 use crate::input::Input;
 use crate::json::{object, Json};
 use crate::many::each;
@@ -11,7 +13,8 @@ use bench::{Lamination, Levels, Refusal};
 
 pub fn run(args: &Args, streams: &mut Streams) -> Result<Status, Stop> {
     let hour = args.need("hour", hour)?;
-    each(args, streams, |input| levels(input, hour))
+    let form = Form::of(args, csv::LEVELS)?;
+    each(args, streams, &form, |input| levels(input, hour))
 }
 
 fn levels(input: &Input, hour: u32) -> Said {

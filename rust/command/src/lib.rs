@@ -7,13 +7,16 @@ pub mod answer;
 pub mod args;
 mod check;
 mod conduct;
+mod csv;
 mod day;
 pub mod explain;
+mod form;
 mod help;
 pub mod input;
 pub mod json;
 mod lacks;
 mod levels;
+pub mod lines;
 mod many;
 pub mod marks;
 pub mod offer;
@@ -21,7 +24,9 @@ mod pack;
 pub mod picture;
 pub mod record;
 pub mod rules;
+pub mod terms;
 pub mod text;
+mod together;
 pub mod unit;
 
 use answer::{Status, Stop, Streams};
@@ -37,10 +42,10 @@ struct Command {
     run: fn(&Args, &mut Streams) -> Result<Status, Stop>,
 }
 
-const COMMANDS: [Command; 6] = [
+const COMMANDS: [Command; 7] = [
     Command {
         name: "pack",
-        choices: &[("out", true)],
+        choices: &[("out", true), ("together", false)],
         help: help::PACK,
         run: pack::pack,
     },
@@ -52,15 +57,31 @@ const COMMANDS: [Command; 6] = [
     },
     Command {
         name: "check",
-        choices: &[("json", false)],
+        choices: &[("together", false), ("json", false)],
         help: help::CHECK,
         run: check::run,
     },
     Command {
         name: "levels",
-        choices: &[("hour", true), ("json", false)],
+        choices: &[
+            ("hour", true),
+            ("together", false),
+            ("json", false),
+            ("csv", false),
+        ],
         help: help::LEVELS,
         run: levels::run,
+    },
+    Command {
+        name: "explain",
+        choices: &[
+            ("hour", true),
+            ("level", true),
+            ("together", false),
+            ("json", false),
+        ],
+        help: help::EXPLAIN,
+        run: terms::run,
     },
     Command {
         name: "test",
@@ -70,7 +91,9 @@ const COMMANDS: [Command; 6] = [
             ("offer", true),
             ("level", true),
             ("price", true),
+            ("together", false),
             ("json", false),
+            ("csv", false),
         ],
         help: help::TEST,
         run: conduct::run,
@@ -82,9 +105,12 @@ const COMMANDS: [Command; 6] = [
             ("hours", true),
             ("svg", true),
             ("at", true),
+            ("svg-day", true),
             ("condition", true),
             ("offer", true),
+            ("together", false),
             ("json", false),
+            ("csv", false),
         ],
         help: help::DAY,
         run: day::run,

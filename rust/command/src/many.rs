@@ -1,8 +1,10 @@
 //! Many inputs at once: a line each, a count at the end, and for a person who waits how far it is.
 
-use crate::answer::{files, one, with_file, Said, Status, Stop, Streams};
+use crate::answer::{files, one, Said, Status, Stop, Streams};
 use crate::args::Args;
+use crate::form::Form;
 use crate::input::{name, read, Input};
+use crate::together;
 use std::ffi::OsString;
 use std::io;
 use std::time::{Duration, Instant};
@@ -11,31 +13,33 @@ use std::time::{Duration, Instant};
 pub fn each(
     args: &Args,
     streams: &mut Streams,
+    form: &Form,
     ask: impl Fn(&Input) -> Said,
 ) -> Result<Status, Stop> {
     let files = files(args)?;
+    if args.has("together") {
+        return together::ask(&files, streams, form, ask);
+    }
     let said = |file: &OsString| match read(file) {
         Ok(input) => ask(&input),
         Err(error) => error.said(),
     };
     if let [file] = &files[..] {
-        return Ok(one(args, streams, &name(file), &said(file))?);
+        return Ok(one(form, streams, &name(file), &said(file))?);
     }
     let (mut status, mut counts) = (Status::Done, Vec::new());
     let mut progress = Progress::new(files.len());
+    write!(streams.out, "{}", form.head())?;
     for file in &files {
         progress.next(streams)?;
         let said = said(file);
         status = status.max(said.status);
         count(&mut counts, said.counts_as);
         progress.give_way(streams)?;
-        match args.has("json") {
-            true => writeln!(streams.out, "{}", with_file(&name(file), &said))?,
-            false => writeln!(streams.out, "{}: {}", name(file), said.line)?,
-        }
+        write!(streams.out, "{}", form.among_many(&name(file), &said))?;
     }
     progress.clear(streams)?;
-    if !args.has("json") {
+    if form.is_words() {
         let counts = counts.iter().map(|(what, n)| format!("{n} {what}"));
         let counts: Vec<String> = counts.collect();
         writeln!(streams.out, "{} files: {}", files.len(), counts.join(", "))?;

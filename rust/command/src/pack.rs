@@ -3,21 +3,24 @@
 use crate::answer::{one, only_file, refused, wrong_lines, Said, Status, Stop, Streams};
 use crate::args::Args;
 use crate::explain::of_dossier;
+use crate::form::Form;
 use crate::input::{is_cut, name, read_bytes};
+use crate::lines::Lines;
 use crate::text::{is_text, pack as packed, unpack as unpacked};
+use crate::together::only;
 use bench::Refusal;
 use std::fs;
 
-/// A dossier from text; one in bytes stays as it is.
+/// A dossier from text; one in bytes stays as it is. Several files are one dossier `--together`.
 pub fn pack(args: &Args, streams: &mut Streams) -> Result<Status, Stop> {
-    convert(args, streams, |input| {
-        let dossier = match is_text(input) {
-            true => packed(input).map_err(|lines| wrong_lines(&lines))?.dossier,
-            false => input.to_vec(),
-        };
-        readable(&dossier)?;
-        Ok(dossier)
-    })
+    let (name, packed) = match only(args)? {
+        Ok(input) => {
+            let packed = readable(&input.dossier).map(|()| input.dossier);
+            (input.name, packed)
+        }
+        Err((name, said)) => (name, Err(said)),
+    };
+    finish(args, streams, &name, packed)
 }
 
 /// Text from a dossier, and tidy text from text. What the library can read is a dossier, even one
@@ -38,7 +41,7 @@ pub fn unpack(args: &Args, streams: &mut Streams) -> Result<Status, Stop> {
 fn readable(dossier: &[u8]) -> Result<(), Said> {
     match bench::accept(dossier) {
         Err(refusal) if matches!(refusal.number, 1..=3 | 13) => {
-            Err(refused(&of_dossier(refusal, dossier, &[])))
+            Err(refused(&of_dossier(refusal, dossier, &Lines::default())))
         }
         _ => Ok(()),
     }
@@ -58,13 +61,23 @@ fn convert(
             number: 13,
             place: 0,
         };
-        Err(refused(&of_dossier(refusal, &[], &[])))
+        Err(refused(&of_dossier(refusal, &[], &Lines::default())))
     } else {
         become_of(&bytes)
     };
+    finish(args, streams, &name, result)
+}
+
+/// Writes what became of the input, or says why there is nothing.
+fn finish(
+    args: &Args,
+    streams: &mut Streams,
+    name: &str,
+    result: Result<Vec<u8>, Said>,
+) -> Result<Status, Stop> {
     match result {
         Ok(bytes) => write(args, streams, &bytes),
-        Err(said) => Ok(one(args, streams, &name, &said)?),
+        Err(said) => Ok(one(&Form::Words, streams, name, &said)?),
     }
 }
 

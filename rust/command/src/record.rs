@@ -61,6 +61,13 @@ impl Record<'_> {
         joined(self.fields().skip(1).take(self.mark.key))
     }
 
+    /// The key's bytes as one number, as the library's lookup takes it; 0 where there is none.
+    pub fn key_number(&self) -> u32 {
+        let key = &self.claim()[2 + self.mark.fields[0].width..];
+        key.iter()
+            .fold(0, |number, byte| number << 8 | u32::from(*byte))
+    }
+
     /// Mark, issue and key: what no two records may share.
     pub fn claim(&self) -> &[u8] {
         let widths = self.mark.fields.iter().take(1 + self.mark.key);

@@ -1,10 +1,13 @@
 //! What the command says, held against the library and the model: words, JSON, statuses, and no
 //! panic on any input.
 
+mod calls;
 mod json;
 
+use calls::{call, Ended, Kept};
 use command::answer::{Status, Streams};
 use command::explain::of_dossier;
+use command::lines::Lines;
 use command::offer::{bytes, highest_for, highest_in, Pair};
 use command::text::{pack, unpack};
 use model::cases::{run, same, Check};
@@ -12,58 +15,6 @@ use model::make;
 use model::make::offers::Target;
 use model::random::Random;
 use std::ffi::OsString;
-use std::path::PathBuf;
-use std::sync::atomic::{AtomicU64, Ordering};
-
-/// What a call came to: its status, standard output and standard error.
-struct Ended {
-    status: Status,
-    out: String,
-    err: String,
-}
-
-fn call(words: &[&str]) -> Ended {
-    let words: Vec<OsString> = words.iter().map(OsString::from).collect();
-    let (mut out, mut err) = (Vec::new(), Vec::new());
-    let mut streams = Streams {
-        out: &mut out,
-        err: &mut err,
-        out_watched: false,
-        err_watched: false,
-    };
-    let status = command::run(&words, &mut streams);
-    // a packed dossier is no text
-    let text = |bytes: Vec<u8>| String::from_utf8_lossy(&bytes).into_owned();
-    Ended {
-        status,
-        out: text(out),
-        err: text(err),
-    }
-}
-
-/// A file of its own that is gone when the test is.
-struct Kept(PathBuf);
-
-impl Kept {
-    fn new(bytes: &[u8]) -> Kept {
-        static NUMBER: AtomicU64 = AtomicU64::new(0);
-        let number = NUMBER.fetch_add(1, Ordering::Relaxed);
-        let name = format!("bench-answers-{}-{number}", std::process::id());
-        let path = std::env::temp_dir().join(name);
-        std::fs::write(&path, bytes).expect("a temporary file");
-        Kept(path)
-    }
-
-    fn name(&self) -> &str {
-        self.0.to_str().expect("a path that is text")
-    }
-}
-
-impl Drop for Kept {
-    fn drop(&mut self) {
-        let _ = std::fs::remove_file(&self.0);
-    }
-}
 
 /// Refused with the library's number and place, in words that name the record which stands there.
 #[test]
@@ -72,7 +23,7 @@ fn refusals_name_their_record() {
         let Err(refusal) = bench::accept(dossier) else {
             return Ok(());
         };
-        let explained = of_dossier(refusal, dossier, &[]);
+        let explained = of_dossier(refusal, dossier, &Lines::default());
         let head = format!("refused {} at {}: ", refusal.number, refusal.place);
         let words = explained.words();
         same("head", words.starts_with(&head), true)?;

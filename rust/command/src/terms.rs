@@ -1,0 +1,228 @@
+//! `bench explain`: each level of an hour term by term, with the records that it rests on.
+//!
+//! The library works the levels out. Here the terms are put beside them: the records come from the
+//! library's lookup, each term from a formula of the papers, and where the terms don't come to the
+//! library's level the answer says so and is an error.
+
+mod book;
+mod costs;
+mod words;
+
+use crate::answer::{refused, Said, Status, Stop, Streams};
+use crate::args::{hour, Args};
+use crate::explain::{of_dossier, of_offer, standing, Standing};
+use crate::form::Form;
+use crate::input::Input;
+use crate::json::object;
+use crate::levels::others;
+use crate::many::each;
+use crate::offer::read_level;
+use crate::unit::LEVEL;
+use bench::{Levels, Refusal, Verdict};
+use book::Book;
+
+/// An amount that a level is made of, in micro-dollars.
+#[derive(Debug)]
+pub struct Term {
+    pub name: String,
+    pub amount: i128,
+    /// How the amount comes about, in numbers.
+    pub working: String,
+    pub records: Vec<Standing>,
+    /// What is worked out on the way to the amount.
+    pub steps: Vec<Term>,
+}
+
+/// Terms that are added up. A battery's energy has two sides, of which the greater is taken.
+#[derive(Debug)]
+pub struct Side {
+    pub name: &'static str,
+    pub terms: Vec<Term>,
+}
+
+impl Side {
+    pub fn sum(&self) -> i128 {
+        self.terms.iter().map(|term| term.amount).sum()
+    }
+}
+
+/// A level's name and, for energy, its lamination: number, and ends in 0.1 MW.
+#[derive(Clone, Copy, Debug, PartialEq, Eq)]
+pub struct Place {
+    pub level: u8,
+    pub lamination: Option<(usize, u16, u16)>,
+}
+
+/// What a level is made of.
+#[derive(Debug)]
+pub struct Level {
+    pub place: Place,
+    pub sides: Vec<Side>,
+}
+
+/// Micro-dollars in a cent.
+const PER_CENT: i128 = 10_000;
+
+impl Level {
+    /// The side that is taken: the greater one, and the first of two that are equal.
+    pub fn taken(&self) -> Option<&Side> {
+        let greater =
+            |best: Option<&'_ Side>, side: &Side| best.is_none_or(|b| side.sum() > b.sum());
+        let mut best = None;
+        for side in &self.sides {
+            best = if greater(best, side) {
+                Some(side)
+            } else {
+                best
+            };
+        }
+        best
+    }
+
+    /// The sum of the side that is taken, in micro-dollars.
+    pub fn sum(&self) -> i128 {
+        self.taken().map_or(0, Side::sum)
+    }
+
+    /// The sum to the cent, half up.
+    pub fn cents(&self) -> i128 {
+        (self.sum() + PER_CENT / 2).div_euclid(PER_CENT)
+    }
+}
+
+/// The levels of an hour, term by term, beside what the library says they are.
+#[derive(Debug)]
+pub struct Explanation {
+    pub hour: u32,
+    pub profile: u8,
+    /// The request that asks for the profile.
+    pub request: Option<Standing>,
+    pub station: Option<Standing>,
+    pub levels: Vec<Level>,
+    /// Each level in cents as the library has it.
+    pub library: Vec<(Place, i128)>,
+    pub library_profile: u8,
+}
+
+pub fn run(args: &Args, streams: &mut Streams) -> Result<Status, Stop> {
+    let hour = args.need("hour", hour)?;
+    let level = args.get("level", read_level)?;
+    let form = Form::of(args, &[])?;
+    each(args, streams, &form, |input| explain(input, hour, level))
+}
+
+fn explain(input: &Input, hour: u32, level: Option<u8>) -> Said {
+    if let Some(refusal) = level.and_then(|level| unheld(&input.dossier, hour, level)) {
+        return refused(&of_offer(refusal, &input.dossier, &input.lines, &[]));
+    }
+    match Explanation::of(input, hour) {
+        Ok(explanation) => explanation.only(level).said(),
+        Err(refusal) => refused(&of_dossier(refusal, &input.dossier, &input.lines)),
+    }
+}
+
+/// The library's refusal of a level that the technology doesn't hold, 12.
+fn unheld(dossier: &[u8], hour: u32, level: u8) -> Option<Refusal> {
+    const ENERGY: u8 = 1;
+    match bench::price_test(dossier, hour, level, 1, 0) {
+        Verdict::Refused(refusal) if refusal.number == 12 && level != ENERGY => Some(refusal),
+        _ => None,
+    }
+}
+
+impl Explanation {
+    /// The levels of an hour; a refusal is the library's.
+    pub fn of(input: &Input, hour: u32) -> Result<Explanation, Refusal> {
+        let levels = bench::levels(&input.dossier, hour)?;
+        let book = Book::open(input, hour);
+        let cited = |record| standing(&record, &input.lines);
+        Ok(Explanation {
+            hour,
+            profile: book.profile,
+            request: book.request.map(cited),
+            station: book.counting("RS", 0).map(cited),
+            levels: costs::levels(&book),
+            library: library(&levels),
+            library_profile: levels.profile,
+        })
+    }
+
+    /// The same with one level alone, if one is asked for.
+    pub fn only(mut self, level: Option<u8>) -> Explanation {
+        let asked = |place: &Place| level.is_none_or(|level| place.level == level);
+        self.levels.retain(|level| asked(&level.place));
+        self.library.retain(|(place, _)| asked(place));
+        self
+    }
+
+    /// Where the terms don't come to what the library says, in words.
+    pub fn differences(&self) -> Vec<String> {
+        let mut differences = Vec::new();
+        if self.profile != self.library_profile {
+            let (here, there) = (self.profile, self.library_profile);
+            differences.push(format!("profile {here} here, {there} in the library"));
+        }
+        let count = self.levels.len().max(self.library.len());
+        differences.extend((0..count).filter_map(|i| self.difference(i)));
+        differences
+    }
+
+    /// How the level at this place of the list differs, if it does.
+    fn difference(&self, index: usize) -> Option<String> {
+        let here = self.levels.get(index).map(|l| (l.place, l.cents()));
+        let there = self.library.get(index).copied();
+        if here == there {
+            return None;
+        }
+        let told = |level: Option<(Place, i128)>| match level {
+            Some((place, cents)) => format!("{} is {}", place.words(), words::dollars(cents)),
+            None => "there is no such level".to_string(),
+        };
+        Some(format!(
+            "by the terms {}; by the library {}",
+            told(here),
+            told(there)
+        ))
+    }
+
+    /// The answer. Terms that don't come to the library's levels are an error of this program.
+    pub fn said(&self) -> Said {
+        let differences = self.differences();
+        let mut words = self.words();
+        let mut status = Status::Done;
+        if !differences.is_empty() {
+            let told: String = differences.iter().map(|d| format!("  {d}\n")).collect();
+            words = format!("the terms don't add up to the library's levels, an error of this program\n{told}{words}");
+            status = Status::Wrong;
+        }
+        Said {
+            status,
+            counts_as: if status == Status::Done {
+                "explained"
+            } else {
+                "not explained"
+            },
+            line: String::new(),
+            words,
+            json: object([]).and(self.json(&differences)),
+        }
+    }
+}
+
+/// The library's levels in the order of the report.
+fn library(levels: &Levels) -> Vec<(Place, i128)> {
+    let energy = levels.energy.iter().zip(1..).map(|(l, number)| {
+        let lamination = Some((number, l.from, l.to));
+        let place = Place {
+            level: 1,
+            lamination,
+        };
+        (place, i128::from(l.level))
+    });
+    let others = others(levels).into_iter().filter_map(|(name, cents)| {
+        let level = LEVEL.read(name).ok().and_then(|n| u8::try_from(n).ok())?;
+        let lamination = None;
+        Some((Place { level, lamination }, i128::from(cents?)))
+    });
+    energy.chain(others).collect()
+}

@@ -1,0 +1,204 @@
+//! Levels term by term, in words and in JSON.
+
+use super::{Explanation, Level, Place, Side, Term};
+use crate::explain::Standing;
+use crate::json::{object, Json};
+use crate::levels::megawatts;
+use crate::unit::{decimal, parts, DOLLARS, FINE_DOLLARS, LEVEL};
+
+/// Micro-dollars with all their places.
+fn micro(amount: i128) -> String {
+    parts(6, "dollars").write(amount)
+}
+
+/// Micro-dollars with the places that they need.
+pub fn fine(amount: i128) -> String {
+    FINE_DOLLARS.write(amount)
+}
+
+/// Cents as dollars.
+pub fn cents(amount: i128) -> String {
+    DOLLARS.write(amount)
+}
+
+pub use cents as dollars;
+
+/// What was paid for charged energy, a sum of cents per MWh times kWh, as dollars.
+pub fn paid(sum: i128) -> String {
+    let below = if sum < 0 { ", counted as 0," } else { "" };
+    format!("paid {}{below}", decimal(5, 2, "dollars").write(sum))
+}
+
+/// How many records of a term are told in words; in JSON all are.
+const MOST: usize = 24;
+
+impl Place {
+    pub fn words(&self) -> String {
+        let name = LEVEL.write(self.level.into());
+        match self.lamination {
+            Some((number, from, to)) => {
+                let (from, to) = (megawatts(from), megawatts(to));
+                format!("{name} {number}, {from} to {to} MW")
+            }
+            None => name,
+        }
+    }
+
+    fn json(&self) -> Json {
+        let number = |n: String| Json::Number(n);
+        let lamination = self.lamination;
+        object([
+            ("level", Json::text(LEVEL.write(self.level.into()))),
+            (
+                "lamination",
+                lamination.map_or(Json::Null, |(n, ..)| Json::whole(n)),
+            ),
+            (
+                "from",
+                lamination.map_or(Json::Null, |(_, from, _)| number(megawatts(from))),
+            ),
+            (
+                "to",
+                lamination.map_or(Json::Null, |(.., to)| number(megawatts(to))),
+            ),
+        ])
+    }
+}
+
+impl Explanation {
+    /// The levels, each under its name, behind the profile and what asks for it.
+    pub fn words(&self) -> String {
+        let why = match &self.request {
+            Some(request) => format!("asked for by {}", request.short()),
+            None => "as no request covers the hour".to_string(),
+        };
+        let mut words = format!("hour {}: profile {}, {why}\n", self.hour, self.profile);
+        if let Some(station) = &self.station {
+            words += &format!("station: {}\n", station.short());
+        }
+        let levels = self.levels.iter().map(|level| {
+            let there = self.library.iter().find(|(place, _)| *place == level.place);
+            level.words(there.map(|(_, cents)| *cents))
+        });
+        words + &levels.collect::<String>()
+    }
+
+    pub fn json(&self, differences: &[String]) -> Json {
+        let levels = self.levels.iter().map(|level| {
+            let there = self.library.iter().find(|(place, _)| *place == level.place);
+            let library = there.map_or(Json::Null, |(_, n)| Json::Number(cents(*n)));
+            level.json().with("library", library)
+        });
+        let cited = |record: &Option<Standing>| record.as_ref().map_or(Json::Null, Standing::json);
+        object([
+            ("hour", Json::whole(self.hour as usize)),
+            ("profile", Json::whole(self.profile.into())),
+            ("request", cited(&self.request)),
+            ("station", cited(&self.station)),
+            ("levels", Json::List(levels.collect())),
+            (
+                "differences",
+                Json::List(differences.iter().map(Json::text).collect()),
+            ),
+        ])
+    }
+}
+
+impl Level {
+    fn words(&self, library: Option<i128>) -> String {
+        let sides: String = self
+            .sides
+            .iter()
+            .map(|side| side.words(self.sides.len()))
+            .collect();
+        let taken = match (self.sides.len(), self.taken()) {
+            (2.., Some(side)) => {
+                format!("  {:>14}  the greater, {}\n", micro(self.sum()), side.name)
+            }
+            _ => String::new(),
+        };
+        let library = library.map_or("none".to_string(), cents);
+        let place = self.place.words();
+        let level = cents(self.cents());
+        format!("\n{place}\n{sides}{taken}  {level:>14}  to the cent, half up; the library's level is {library}\n")
+    }
+
+    fn json(&self) -> Json {
+        let sides = self.sides.iter().map(Side::json).collect();
+        let taken = self
+            .taken()
+            .map_or(Json::Null, |side| Json::text(side.name));
+        self.place.json().and(object([
+            ("sides", Json::List(sides)),
+            ("taken", taken),
+            ("sum", Json::Number(micro(self.sum()))),
+            ("dollars", Json::Number(cents(self.cents()))),
+        ]))
+    }
+}
+
+impl Side {
+    /// The terms and their sum; with its name where there is another side.
+    fn words(&self, sides: usize) -> String {
+        let terms: String = self.terms.iter().map(|term| term.words("")).collect();
+        let (name, of) = match sides {
+            1 => (String::new(), String::new()),
+            _ => (format!("  {}:\n", self.name), format!(", {}", self.name)),
+        };
+        format!("{name}{terms}  {:>14}  sum{of}\n", micro(self.sum()))
+    }
+
+    fn json(&self) -> Json {
+        object([
+            ("side", Json::text(self.name)),
+            (
+                "terms",
+                Json::List(self.terms.iter().map(Term::json).collect()),
+            ),
+            ("sum", Json::Number(micro(self.sum()))),
+        ])
+    }
+}
+
+impl Term {
+    /// The amount, how it comes about, and the records under it.
+    fn words(&self, inset: &str) -> String {
+        let (amount, name) = (micro(self.amount), &self.name);
+        let working = match self.working.is_empty() {
+            true => String::new(),
+            false => format!(" = {}", self.working),
+        };
+        let mut words = format!("  {inset}{amount:>14}  {name}{working}\n");
+        let gap = format!("  {inset}{:>14}    ", "");
+        // The station's record stands in the head.
+        let told: Vec<&Standing> = self.records.iter().filter(|r| r.mark != "RS").collect();
+        for record in told.iter().take(MOST) {
+            words += &format!("{gap}{}\n", record.short());
+        }
+        if told.len() > MOST {
+            let more = told.len() - MOST;
+            words += &format!("{gap}and {more} more, which --json lists\n");
+        }
+        let inset = format!("  {inset}");
+        words
+            + &self
+                .steps
+                .iter()
+                .map(|step| step.words(&inset))
+                .collect::<String>()
+    }
+
+    fn json(&self) -> Json {
+        let records = self.records.iter().map(Standing::json).collect();
+        object([
+            ("term", Json::text(&self.name)),
+            ("amount", Json::Number(micro(self.amount))),
+            ("working", Json::text(&self.working)),
+            ("records", Json::List(records)),
+            (
+                "steps",
+                Json::List(self.steps.iter().map(Term::json).collect()),
+            ),
+        ])
+    }
+}

@@ -1,0 +1,126 @@
+//! Several files as one station, `--together`: texts and bytes in any mix, joined record by record.
+//!
+//! Each file is taken by itself before it is joined, so that neither a missing line end nor a cut
+//! record at the end of one can reach into the next.
+
+use crate::answer::{files, one, only_file, refused, Said, Status, Stop, Streams};
+use crate::args::Args;
+use crate::explain::of_dossier;
+use crate::form::Form;
+use crate::input::{self, Input};
+use crate::json::{object, Json};
+use crate::lines::{Lines, Part};
+use crate::record::records;
+use std::ffi::OsString;
+
+/// Asks for the one station that these files form, and writes the answer.
+pub fn ask(
+    files: &[OsString],
+    streams: &mut Streams,
+    form: &Form,
+    ask: impl Fn(&Input) -> Said,
+) -> Result<Status, Stop> {
+    let (name, said) = match join(files) {
+        Ok(input) => (input.name.clone(), ask(&input)),
+        Err(wrong) => (joined_name(files), wrong),
+    };
+    Ok(one(form, streams, &name, &with_files(files, said))?)
+}
+
+/// The station of a call that takes one: from its only file, or from all of them together. Without
+/// one, what is said of that, under its name.
+pub fn only(args: &Args) -> Result<Result<Input, (String, Said)>, Stop> {
+    if args.has("together") {
+        let files = files(args)?;
+        let wrong = |said| (joined_name(&files), with_files(&files, said));
+        return Ok(join(&files).map_err(wrong));
+    }
+    let file = only_file(args)?;
+    let wrong = |error: input::NoInput| (input::name(&file), error.said());
+    Ok(input::read(&file).map_err(wrong))
+}
+
+/// The names of the files in an answer's object, before what is said of them.
+fn with_files(files: &[OsString], said: Said) -> Said {
+    let names = files.iter().map(|file| Json::text(input::name(file)));
+    let names = object([("files", Json::List(names.collect()))]);
+    let json = names.and(said.json);
+    Said { json, ..said }
+}
+
+fn joined_name(files: &[OsString]) -> String {
+    let names: Vec<String> = files.iter().map(|file| input::name(file)).collect();
+    names.join(" + ")
+}
+
+/// The station that files form, or what is said of those that can't be taken.
+pub fn join(files: &[OsString]) -> Result<Input, Said> {
+    let (mut dossier, mut lines, mut wrong) = (Vec::new(), Lines::default(), Vec::new());
+    for file in files {
+        match alone(file) {
+            Ok(input) => append(&mut dossier, &mut lines, input),
+            Err(said) => wrong.push((input::name(file), said)),
+        }
+    }
+    let name = joined_name(files);
+    match wrong.is_empty() {
+        true => Ok(Input {
+            name,
+            dossier,
+            lines,
+        }),
+        false => Err(all_wrong(wrong)),
+    }
+}
+
+/// A file that is whole by itself: a text that packs, or bytes that the library can read.
+fn alone(file: &OsString) -> Result<Input, Said> {
+    let input = input::read(file).map_err(|error| error.said())?;
+    match bench::accept(&input.dossier) {
+        Err(refusal) if matches!(refusal.number, 1..=3 | 13) => {
+            Err(refused(&of_dossier(refusal, &input.dossier, &input.lines)))
+        }
+        _ => Ok(input),
+    }
+}
+
+fn append(dossier: &mut Vec<u8>, lines: &mut Lines, input: Input) {
+    lines.parts.push(Part {
+        name: input.name,
+        records: lines.lines.len(),
+        bytes: dossier.len(),
+    });
+    let count = records(&input.dossier).count();
+    let line = |index| input.lines.get(index).copied().unwrap_or(0);
+    lines.lines.extend((0..count).map(line));
+    dossier.extend(input.dossier);
+}
+
+/// What is said of files that can't be taken, each under its name.
+fn all_wrong(wrong: Vec<(String, Said)>) -> Said {
+    let told = |(name, said): &(String, Said)| {
+        format!(
+            "\n  {name}: {}",
+            said.words.trim_end().replace('\n', "\n  ")
+        )
+    };
+    let words: String = wrong.iter().map(told).collect();
+    let object =
+        |(name, said): &(String, Said)| object([("file", Json::text(name))]).and(said.json.clone());
+    let objects = wrong.iter().map(object).collect();
+    let head = match wrong.len() {
+        1 => "a file can't be taken".to_string(),
+        n => format!("{n} files can't be taken"),
+    };
+    let status = wrong.iter().map(|(_, said)| said.status).max();
+    let first = wrong.first().map_or(String::new(), |(name, said)| {
+        format!(", {name}: {}", said.line)
+    });
+    Said {
+        status: status.unwrap_or(Status::Wrong),
+        counts_as: "refused",
+        line: format!("{head}{first}"),
+        words: format!("{head}{words}\n"),
+        json: self::object([("wrong-files", Json::List(objects))]),
+    }
+}

@@ -1,0 +1,137 @@
+//! Levels term by term: they add up to the library's for every dossier, and a term that doesn't fit
+//! is told.
+
+mod calls;
+mod json;
+
+use calls::{call, Kept};
+use command::answer::Status;
+use command::input::Input;
+use command::lines::Lines;
+use command::terms::Explanation;
+use model::cases::{run, same, Check};
+use model::make;
+use model::random::Random;
+use std::sync::atomic::{AtomicU64, Ordering};
+
+fn input(dossier: &[u8]) -> Input {
+    Input {
+        name: "made".to_string(),
+        dossier: dossier.to_vec(),
+        lines: Lines::default(),
+    }
+}
+
+fn explained(random: &mut Random, dossier: &[u8]) -> Option<Explanation> {
+    let hour = make::hour(random, dossier);
+    Explanation::of(&input(dossier), hour).ok()
+}
+
+/// The terms come to the library's levels, each record that they name lies in the dossier, and the
+/// JSON holds.
+fn adds_up(random: &mut Random, dossier: &[u8]) -> Check {
+    let Some(explanation) = explained(random, dossier) else {
+        return Ok(());
+    };
+    same("differences", explanation.differences(), Vec::new())?;
+    let said = explanation.said();
+    same("status", said.status, Status::Done)?;
+    for term in explanation
+        .levels
+        .iter()
+        .flat_map(|l| &l.sides)
+        .flat_map(|s| &s.terms)
+    {
+        for record in &term.records {
+            let packed = command::text::pack(record.text.as_bytes()).expect("a line");
+            let lies = &dossier[record.start..][..packed.dossier.len()];
+            same("record", lies, &packed.dossier[..])?;
+        }
+    }
+    json::check(&said.json.to_string())
+}
+
+#[test]
+fn terms_add_up_to_the_levels_of_the_library() {
+    run("explained levels", 4_000, make::dossier, adds_up);
+}
+
+/// A term that is a cent off, at any place, is told and is an error. In a battery's lesser side it
+/// changes nothing, unless it then is the greater.
+#[test]
+fn a_broken_term_is_told() {
+    let broken = AtomicU64::new(0);
+    run("broken terms", 1_000, make::dossier, |random, dossier| {
+        let Some(mut explanation) = explained(random, dossier) else {
+            return Ok(());
+        };
+        let at = random.below(explanation.levels.len() as u64) as usize;
+        let level = &mut explanation.levels[at];
+        let taken = level.taken().map(|side| side.name);
+        let side = level.sides.iter_mut().find(|side| Some(side.name) == taken);
+        let Some(term) = side.and_then(|side| side.terms.first_mut()) else {
+            return Ok(());
+        };
+        term.amount += 10_000;
+        broken.fetch_add(1, Ordering::Relaxed);
+        let said = explanation.said();
+        same("status", said.status, Status::Wrong)?;
+        same(
+            "told",
+            said.words.starts_with("the terms don't add up"),
+            true,
+        )?;
+        json::check(&said.json.to_string())?;
+        same(
+            "in JSON",
+            said.json.to_string().contains("\"differences\":[]"),
+            false,
+        )
+    });
+    let broken = broken.into_inner();
+    assert!(broken > 200, "{broken} terms were broken");
+}
+
+/// A level that is missing, one too many and another profile are told too.
+#[test]
+fn other_levels_and_profiles_are_told() {
+    let whole = || Explanation::of(&input(&make::written::r1()), 0).expect("R1");
+    assert_eq!(whole().differences().len(), 0);
+    let mut fewer = whole();
+    fewer.levels.pop();
+    assert_eq!(fewer.differences().len(), 1);
+    let mut more = whole();
+    more.library.pop();
+    assert_eq!(more.differences().len(), 1);
+    let mut other = whole();
+    other.profile = 2;
+    assert_eq!(other.differences(), ["profile 2 here, 1 in the library"]);
+    let mut elsewhere = whole();
+    elsewhere.levels[0].place.lamination = Some((1, 0, 999));
+    assert_eq!(elsewhere.said().status, Status::Wrong);
+}
+
+#[test]
+fn one_level_alone() {
+    let file = Kept::new(&make::written::r1());
+    let ended = call(&["explain", file.name(), "--hour", "0", "--level", "start"]);
+    assert_eq!(ended.status, Status::Done);
+    assert!(ended.out.contains("\nstart\n") && !ended.out.contains("\nenergy 1"));
+    assert!(ended
+        .out
+        .ends_with(" 3300.00  to the cent, half up; the library's level is 3300.00\n"));
+}
+
+/// A level that the technology doesn't hold is refused by the library's number.
+#[test]
+fn a_level_that_is_not_held_is_refused() {
+    let nuclear = concat!(env!("CARGO_MANIFEST_DIR"), "/../../examples/nuclear.txt");
+    for (level, status) in [("energy", Status::Done), ("start", Status::Refused)] {
+        let ended = call(&["explain", nuclear, "--hour", "0", "--level", level]);
+        assert_eq!(ended.status, status, "{level}");
+        assert_eq!(
+            ended.err.contains(": refused 12 at 0: "),
+            status == Status::Refused
+        );
+    }
+}
