@@ -74,6 +74,21 @@ The answer is passes or fails, with the first pair and lamination that fail, and
 that passes. Of many files each gets a line.
 ";
 
+pub const OFFERS: &str = "\
+bench offers [FILE] [--json | --csv]
+
+Holds many offers against the levels of many stations in one run, one a line of FILE:
+
+  # comments and blank lines are passed over
+  station=gas.txt hour=7 condition=narrow offer=50.0@42.30,100.0@63.46
+  station=gas.txt hour=7 condition=narrow level=start price=3300.00
+  station=gas.txt station=today.txt hour=8 condition=broad offer=100.0@60.00
+
+Several stations in a line are one from several files. A name is looked for from the folder that the
+call is made in; one with a space or a # stands between quotes. The answers have a line each, in the
+order of FILE, and a count ends the list.
+";
+
 pub const DAY: &str = "\
 bench day [FILE] --from H [--hours N] [--json]
           [--condition C --offer PAIRS] [--svg OUT [--at H]]

@@ -20,6 +20,7 @@ pub mod lines;
 mod many;
 pub mod marks;
 pub mod offer;
+mod offers;
 mod pack;
 pub mod picture;
 pub mod record;
@@ -42,7 +43,7 @@ struct Command {
     run: fn(&Args, &mut Streams) -> Result<Status, Stop>,
 }
 
-const COMMANDS: [Command; 7] = [
+const COMMANDS: [Command; 8] = [
     Command {
         name: "pack",
         choices: &[("out", true), ("together", false)],
@@ -97,6 +98,12 @@ const COMMANDS: [Command; 7] = [
         ],
         help: help::TEST,
         run: conduct::run,
+    },
+    Command {
+        name: "offers",
+        choices: &[("json", false), ("csv", false)],
+        help: help::OFFERS,
+        run: offers::run,
     },
     Command {
         name: "day",

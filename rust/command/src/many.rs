@@ -28,7 +28,7 @@ pub fn each(
         return Ok(one(form, streams, &name(file), &said(file))?);
     }
     let (mut status, mut counts) = (Status::Done, Vec::new());
-    let mut progress = Progress::new(files.len());
+    let mut progress = Progress::new(files.len(), "files");
     write!(streams.out, "{}", form.head())?;
     for file in &files {
         progress.next(streams)?;
@@ -40,18 +40,23 @@ pub fn each(
     }
     progress.clear(streams)?;
     if form.is_words() {
-        let counts = counts.iter().map(|(what, n)| format!("{n} {what}"));
-        let counts: Vec<String> = counts.collect();
-        writeln!(streams.out, "{} files: {}", files.len(), counts.join(", "))?;
+        writeln!(streams.out, "{} files: {}", files.len(), counted(&counts))?;
     }
     Ok(status)
 }
 
-fn count(counts: &mut Vec<(&'static str, usize)>, what: &'static str) {
+/// Counts one more answer of a sort.
+pub fn count(counts: &mut Vec<(&'static str, usize)>, what: &'static str) {
     match counts.iter_mut().find(|(w, _)| *w == what) {
         Some((_, n)) => *n += 1,
         None => counts.push((what, 1)),
     }
+}
+
+/// The counts in words.
+pub fn counted(counts: &[(&'static str, usize)]) -> String {
+    let counts = counts.iter().map(|(what, n)| format!("{n} {what}"));
+    counts.collect::<Vec<String>>().join(", ")
 }
 
 /// How often the line changes at most.
@@ -59,42 +64,46 @@ const PAUSE: Duration = Duration::from_millis(100);
 
 /// A line on the terminal of standard error that says how far the work is, written over again and
 /// again.
-struct Progress {
+pub struct Progress {
     of: usize,
+    /// What is counted.
+    what: &'static str,
     at: usize,
     shown: Option<Instant>,
 }
 
 impl Progress {
-    fn new(of: usize) -> Progress {
+    pub fn new(of: usize, what: &'static str) -> Progress {
         Progress {
             of,
+            what,
             at: 0,
             shown: None,
         }
     }
 
     /// Goes on to the next input.
-    fn next(&mut self, streams: &mut Streams) -> io::Result<()> {
+    pub fn next(&mut self, streams: &mut Streams) -> io::Result<()> {
         self.at += 1;
         if streams.err_watched && self.shown.is_none_or(|t| t.elapsed() > PAUSE) {
             self.shown = Some(Instant::now());
             streams.out.flush()?;
-            write!(streams.err, "\r\x1b[K{} of {} files", self.at, self.of)?;
+            let Progress { of, what, at, .. } = self;
+            write!(streams.err, "\r\x1b[K{at} of {of} {what}")?;
             streams.err.flush()?;
         }
         Ok(())
     }
 
     /// Takes the line away where an answer comes to stand on the same screen.
-    fn give_way(&mut self, streams: &mut Streams) -> io::Result<()> {
+    pub fn give_way(&mut self, streams: &mut Streams) -> io::Result<()> {
         match streams.out_watched {
             true => self.clear(streams),
             false => Ok(()),
         }
     }
 
-    fn clear(&mut self, streams: &mut Streams) -> io::Result<()> {
+    pub fn clear(&mut self, streams: &mut Streams) -> io::Result<()> {
         if self.shown.take().is_some() {
             write!(streams.err, "\r\x1b[K")?;
             streams.err.flush()?;

@@ -1,0 +1,129 @@
+//! `bench offers`: many stations, hours, conditions, offers and prices in one run, one a line:
+//! `station=gas.txt hour=7 condition=narrow offer=50.0@42.30,100.0@63.46`.
+
+mod line;
+
+use crate::answer::{only_file, wrong_lines, Said, Status, Stop, Streams};
+use crate::args::Args;
+use crate::conduct::test;
+use crate::csv;
+use crate::form::Form;
+use crate::input::{is_cut, name, read, read_bytes, Input};
+use crate::json::{object, Json};
+use crate::many::{count, counted, Progress};
+use crate::text::{is_text, WrongLine};
+use crate::together::join;
+use line::Asked;
+use std::ffi::OsString;
+
+pub fn run(args: &Args, streams: &mut Streams) -> Result<Status, Stop> {
+    let form = Form::of(args, csv::OFFERS)?;
+    let file = only_file(args)?;
+    let text = text(&file).map_err(|says| format!("{}: {says}", name(&file)))?;
+    let lines = line::all(&text);
+    if lines.is_empty() {
+        return Err(Stop::Use(format!("{} has no offer", name(&file))));
+    }
+    write!(streams.out, "{}", form.head())?;
+    let (mut status, mut counts, mut shelf) = (Status::Done, Vec::new(), Shelf::default());
+    let mut progress = Progress::new(lines.len(), "offers");
+    for (number, asked) in &lines {
+        progress.next(streams)?;
+        let answer = Answer::to(*number, asked, &mut shelf);
+        status = status.max(answer.said.status);
+        count(&mut counts, answer.said.counts_as);
+        progress.give_way(streams)?;
+        write!(streams.out, "{}", answer.shown(&form))?;
+    }
+    progress.clear(streams)?;
+    if form.is_words() {
+        writeln!(streams.out, "{} offers: {}", lines.len(), counted(&counts))?;
+    }
+    Ok(status)
+}
+
+/// The text of an offers file.
+fn text(file: &OsString) -> Result<String, String> {
+    let bytes = read_bytes(file)?;
+    if is_cut(&bytes) || !is_text(&bytes) {
+        return Err("no text with an offer a line".to_string());
+    }
+    let text = String::from_utf8(bytes).map_err(|error| error.to_string())?;
+    Ok(text.trim_start_matches('\u{feff}').to_string())
+}
+
+/// The station that was read last: offers to one station stand together as a rule, and no more than
+/// one is kept.
+#[derive(Default)]
+struct Shelf {
+    files: Vec<OsString>,
+    station: Option<Input>,
+}
+
+impl Shelf {
+    /// The station that files form, or what is said of files that form none.
+    fn station(&mut self, files: &[OsString]) -> Result<&Input, Said> {
+        if self.station.is_none() || self.files != files {
+            self.files = files.to_vec();
+            self.station = None;
+            self.station = Some(match files {
+                [file] => read(file).map_err(|error| error.said())?,
+                files => join(files)?,
+            });
+        }
+        self.station.as_ref().ok_or_else(|| wrong_lines(&[]))
+    }
+}
+
+/// What is said of one line of the offers file.
+struct Answer {
+    line: usize,
+    /// The station's name, where the line tells one.
+    station: Option<String>,
+    said: Said,
+}
+
+impl Answer {
+    fn to(line: usize, asked: &Result<Asked, String>, shelf: &mut Shelf) -> Answer {
+        let asked = match asked {
+            Ok(asked) => asked,
+            Err(says) => {
+                let says = says.clone();
+                return Answer {
+                    line,
+                    station: None,
+                    said: wrong_lines(&[WrongLine { line, says }]),
+                };
+            }
+        };
+        let names: Vec<String> = asked.stations.iter().map(|file| name(file)).collect();
+        Answer {
+            line,
+            station: Some(names.join(" + ")),
+            said: match shelf.station(&asked.stations) {
+                Ok(input) => test(input, &asked.question),
+                Err(said) => said,
+            },
+        }
+    }
+
+    fn shown(&self, form: &Form) -> String {
+        match (form, &self.station) {
+            (Form::Words, Some(station)) => {
+                format!("line {}: {station}: {}\n", self.line, self.said.line)
+            }
+            (Form::Words, None) => format!("{}\n", self.said.line),
+            (Form::Json, _) => format!("{}\n", self.json()),
+            (Form::Csv(columns), _) => csv::rows(columns, &self.json()),
+        }
+    }
+
+    fn json(&self) -> Json {
+        let station = self.station.as_ref();
+        let line = object([
+            ("line", Json::whole(self.line)),
+            ("file", station.map_or(Json::Null, Json::text)),
+        ]);
+        line.and(self.said.json.clone())
+    }
+}

@@ -1,0 +1,194 @@
+//! A line of an offers file: fields as `name=value`, parted by spaces; a value with a space or a `#`
+//! stands between quotes.
+
+use crate::args::hour;
+use crate::conduct::{Offered, Question};
+use crate::input::STANDARD;
+use crate::offer;
+use std::ffi::OsString;
+
+/// An offer, and the files of the station that it is put to.
+#[derive(Debug)]
+pub struct Asked {
+    pub stations: Vec<OsString>,
+    pub question: Question,
+}
+
+const NAMES: [&str; 6] = ["station", "hour", "condition", "offer", "level", "price"];
+
+/// The lines that hold an offer with their numbers, from 1; what is wrong with those that are.
+pub fn all(text: &str) -> Vec<(usize, Result<Asked, String>)> {
+    let lines = (1..).zip(text.lines());
+    let read = |(number, line): (usize, &str)| match words(line) {
+        Ok(words) if words.is_empty() => None,
+        Ok(words) => Some((number, asked(&words))),
+        Err(says) => Some((number, Err(says))),
+    };
+    lines.filter_map(read).collect()
+}
+
+/// The words of a line up to a comment, without their quotes.
+fn words(line: &str) -> Result<Vec<String>, String> {
+    let (mut words, mut word, mut quoted) = (Vec::new(), None::<String>, false);
+    for c in line.chars() {
+        match c {
+            '"' => {
+                quoted = !quoted;
+                word.get_or_insert_default();
+            }
+            '#' if !quoted => break,
+            ' ' | '\t' if !quoted => words.extend(word.take()),
+            c => word.get_or_insert_default().push(c),
+        }
+    }
+    words.extend(word);
+    match quoted {
+        true => Err("a quote that doesn't end".to_string()),
+        false => Ok(words),
+    }
+}
+
+/// The fields of a line.
+struct Fields<'a> {
+    fields: Vec<(&'a str, &'a str)>,
+    wrong: Vec<String>,
+}
+
+impl<'a> Fields<'a> {
+    fn of(words: &'a [String]) -> Fields<'a> {
+        let (mut fields, mut wrong) = (Vec::new(), Vec::new());
+        for word in words {
+            let (name, value) = word.split_once('=').unwrap_or((word, ""));
+            // Several files of one station are named one by one.
+            let twice = name != "station" && fields.iter().any(|(n, _)| *n == name);
+            if !NAMES.contains(&name) || !word.contains('=') {
+                wrong.push(format!("'{name}' is no field: {}", NAMES.join(", ")));
+            } else if twice {
+                wrong.push(format!("{name} stands twice"));
+            } else {
+                fields.push((name, value));
+            }
+        }
+        Fields { fields, wrong }
+    }
+
+    fn has(&self, name: &str) -> bool {
+        self.fields.iter().any(|(n, _)| *n == name)
+    }
+
+    fn values(&self, name: &str) -> Vec<&'a str> {
+        let named = self.fields.iter().filter(|(n, _)| *n == name);
+        named.map(|(_, value)| *value).collect()
+    }
+
+    /// A field that has to be there, read by `read`. What is wrong with it is noted.
+    fn need<T>(&mut self, name: &str, read: impl Fn(&str) -> Result<T, String>) -> Option<T> {
+        let read = match self.values(name).first() {
+            Some(value) => read(value).map_err(|says| format!("{name}: {says}")),
+            None => Err(format!("{name} is missing")),
+        };
+        read.map_err(|says| self.wrong.push(says)).ok()
+    }
+
+    fn stations(&mut self) -> Vec<OsString> {
+        let stations = self.values("station");
+        if stations.is_empty() {
+            self.wrong.push("station is missing".to_string());
+        }
+        if stations
+            .iter()
+            .any(|file| *file == STANDARD || file.is_empty())
+        {
+            self.wrong.push("station: the name of a file".to_string());
+        }
+        stations.into_iter().map(OsString::from).collect()
+    }
+
+    /// An energy offer, or a level and its price.
+    fn offered(&mut self) -> Option<Offered> {
+        let single = self.has("level") || self.has("price");
+        match (self.has("offer"), single) {
+            (true, false) => self.need("offer", offer::read).map(Offered::Energy),
+            (false, true) => {
+                let level = self.need("level", offer::read_level);
+                let price = self.need("price", offer::read_price);
+                Some(Offered::Price {
+                    level: level?,
+                    price: price?,
+                })
+            }
+            (both, _) => {
+                let says = match both {
+                    true => "offer is for energy; level and price are for the others",
+                    false => "offer is missing, or level and price",
+                };
+                self.wrong.push(says.to_string());
+                None
+            }
+        }
+    }
+}
+
+/// What a line asks, or everything that is wrong with it.
+fn asked(words: &[String]) -> Result<Asked, String> {
+    let mut fields = Fields::of(words);
+    let stations = fields.stations();
+    let hour = fields.need("hour", hour);
+    let condition = fields.need("condition", offer::read_condition);
+    let offered = fields.offered();
+    match (hour, condition, offered) {
+        (Some(hour), Some(condition), Some(offered)) if fields.wrong.is_empty() => Ok(Asked {
+            stations,
+            question: Question {
+                hour,
+                condition,
+                offered,
+            },
+        }),
+        _ => Err(fields.wrong.join("; ")),
+    }
+}
+
+#[cfg(test)]
+mod tests {
+    use super::*;
+
+    fn wrong(line: &str) -> String {
+        let mut lines = all(line);
+        assert_eq!(lines.len(), 1, "{line}");
+        lines.remove(0).1.expect_err(line)
+    }
+
+    #[test]
+    fn lines_are_read() {
+        let text = "# offers\n\nstation=\"a b.txt\" station=c#1 hour=7\thour=8\nprice=0.50 level=reserve station=\"x#1\" hour=0 condition=broad # why";
+        let lines = all(text);
+        let numbers: Vec<usize> = lines.iter().map(|(number, _)| *number).collect();
+        assert_eq!(numbers, [3, 4]);
+        let asked = lines[1].1.as_ref().expect("an offer");
+        assert_eq!(asked.stations, ["x#1"]);
+        assert_eq!((asked.question.hour, asked.question.condition), (0, 2));
+    }
+
+    #[test]
+    fn everything_wrong_is_told() {
+        assert_eq!(
+            wrong("station=a station=b hours=3 condition=wide offer=1@x hour=1 hour=2"),
+            "'hours' is no field: station, hour, condition, offer, level, price; hour stands twice; \
+             condition: 'wide' is not narrow, broad or global; \
+             offer: 'x' is not from -21474836.48 to 21474836.47 dollars, 2 places after the point"
+        );
+        assert_eq!(
+            wrong("x"),
+            "'x' is no field: station, hour, condition, offer, level, price; station is missing; \
+             hour is missing; condition is missing; offer is missing, or level and price"
+        );
+        assert_eq!(wrong("station=\"a"), "a quote that doesn't end");
+        assert!(wrong("station=- hour=1 condition=narrow offer=1@1").starts_with("station: "));
+        let both = wrong("station=a hour=1 condition=narrow offer=1@1 price=2");
+        assert_eq!(
+            both,
+            "offer is for energy; level and price are for the others"
+        );
+    }
+}
