@@ -277,6 +277,18 @@ fn drawn(input: &Input, hour: &Hour, question: &Question) -> String {
 
 /// The picture of a day.
 fn drawn_day(input: &Input, question: &Question, day: &Day) -> String {
-    let _ = (input, question, day);
-    String::new()
+    let last = question.from + (question.hours - 1);
+    let title = format!("{}, hours {} to {last}", input.name, question.from);
+    let levels = day.hours.iter().map(|h| (h.hour, Ok(&h.levels)));
+    let refused = day
+        .refused
+        .iter()
+        .map(|(hour, refusal)| (*hour, Err(*refusal)));
+    let mut hours: Vec<_> = levels.chain(refused).collect();
+    hours.sort_by_key(|(hour, _)| *hour);
+    picture::day::svg(&picture::day::Day {
+        title: &title,
+        from: question.from,
+        hours: hours.into_iter().map(|(_, found)| found).collect(),
+    })
 }

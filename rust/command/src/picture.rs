@@ -2,6 +2,7 @@
 //! It depends on nothing but its input, so the same input gives the same bytes.
 
 mod axis;
+pub mod day;
 mod sheet;
 #[cfg(test)]
 mod tests;
@@ -37,18 +38,15 @@ pub fn svg(picture: &Picture) -> String {
     let axis = Axis::of(&lines);
     let legend = legend(picture, &lines, &axis);
     let places = places(&legend);
-    let rows = places.last().map_or(0.0, |place| place.1 + 1.0);
-    let plot = Plot::of(&lines, axis, HEIGHT - 66.0 - ROW * rows);
+    let plot = Plot::of(&lines, axis, HEIGHT - 66.0 - ROW * rows(&places));
     let mut sheet = Sheet::open(picture.title, &description(picture, &lines));
-    sheet.price_axis(&plot);
+    sheet.price_axis(&plot, "Price (dollars per MWh)");
     sheet.output_axis(&plot);
     if let Some(failure) = failure(picture, &lines) {
         sheet.failure(&plot, &failure);
     }
     sheet.lines(&plot, &lines);
-    for ((mark, text), (x, row)) in legend.iter().zip(places) {
-        sheet.entry(mark, text, x, HEIGHT - 12.0 - ROW * (rows - 1.0 - row));
-    }
+    sheet.legend(&legend, &places);
     sheet.out + "</svg>\n"
 }
 
@@ -158,6 +156,11 @@ fn places(legend: &[(Mark, String)]) -> Vec<(f64, f64)> {
         place
     };
     legend.iter().map(place).collect()
+}
+
+/// How many rows these places take.
+fn rows(places: &[(f64, f64)]) -> f64 {
+    places.last().map_or(0.0, |place| place.1 + 1.0)
 }
 
 /// The picture in words, for those who hear it.

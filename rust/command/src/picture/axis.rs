@@ -29,19 +29,19 @@ impl Axis {
         }
         // From 0, unless that leaves most of the plot empty and the curve too flat to read.
         if low < high && (high - low) * 7 < top && low * 2 > top {
-            Axis::even(low, top)
+            Axis::even(low, top, 8)
         } else {
-            Axis::even(low.min(0), top.max(0))
+            Axis::even(low.min(0), top.max(0), 8)
         }
     }
 
-    /// The same height for each dollar.
-    fn even(low: i128, high: i128) -> Axis {
+    /// The same height for each dollar, in at most so many parts.
+    pub fn even(low: i128, high: i128, parts: i128) -> Axis {
         let high = if low == high { low + 100 } else { high };
         // Room for the price printed over the highest line or under the lowest.
         let spare = (high - low) / 12 + 1;
         let low = if low == 0 { 0 } else { low - spare };
-        let step = round_step(high + spare - low, 8);
+        let step = round_step(high + spare - low, parts);
         let low = low.div_euclid(step);
         let high = (high + spare + step - 1).div_euclid(step);
         Axis {

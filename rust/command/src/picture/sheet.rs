@@ -2,11 +2,11 @@
 
 use super::axis::{round_step, Axis};
 use super::words::{escape, megawatts, money, shorten, width};
-use super::{Failure, Lines, Run};
+use super::{rows, Failure, Lines, Run};
 
 pub const WIDTH: f64 = 960.0;
 pub const HEIGHT: f64 = 600.0;
-const TOP: f64 = 76.0;
+pub const TOP: f64 = 76.0;
 pub const RIGHT: f64 = 920.0;
 pub const ROW: f64 = 21.0;
 pub const SIZE: f64 = 13.0;
@@ -14,49 +14,57 @@ const TITLE: f64 = 20.0;
 
 // Blue, dark orange and near-black stay apart for colour-blind eyes. For black-and-white print the
 // lines also differ in width and pattern.
-const BLUE: &str = "#0063a6";
+pub const BLUE: &str = "#0063a6";
 const ORANGE: &str = "#b34700";
-const BLACK: &str = "#222222";
+pub const BLACK: &str = "#222222";
 pub const LEVEL: &str = "stroke='#0063a6' stroke-width='6'";
 const OFFER: &str = "stroke='#b34700' stroke-width='2.25' stroke-dasharray='14 4 3 4'";
 pub const LIMIT: &str = "stroke='#222222' stroke-width='1.75' stroke-dasharray='6 5'";
 const HATCH: &str = "stroke='#94658d'";
-const GRID: &str = "stroke='#dddddd'";
-const DARK: &str = "stroke='#444444' stroke-width='1.5'";
+pub const GRID: &str = "stroke='#dddddd'";
+pub const DARK: &str = "stroke='#444444' stroke-width='1.5'";
 // Where an offer lies on the level, this white edge keeps the two lines apart.
 const EDGE: &str = "stroke='#ffffff' stroke-width='3.5'";
 
 /// Where the plot lies on the sheet, and its axes.
 pub struct Plot {
-    left: f64,
-    bottom: f64,
-    /// The output at the right edge, in 0.1 MW.
-    end: u16,
-    axis: Axis,
+    pub left: f64,
+    pub right: f64,
+    pub top: f64,
+    pub bottom: f64,
+    /// What lies at the right edge: an output in 0.1 MW, or a number of hours.
+    pub end: u16,
+    pub axis: Axis,
 }
 
 impl Plot {
     pub fn of(lines: &Lines, axis: Axis, bottom: f64) -> Plot {
         let runs = lines.levels.iter().chain(&lines.prices);
         let end = runs.map(|run| run.0.max(run.1)).max().unwrap_or(0).max(1);
-        let widths = axis.ticks.iter().map(|tick| width(&axis.text(*tick), SIZE));
-        let left = quarter(48.0 + widths.fold(0.0, f64::max));
         Plot {
-            left,
+            left: left_of(&axis),
+            right: RIGHT,
+            top: TOP,
             bottom,
             end,
             axis,
         }
     }
 
-    fn x(&self, quantity: u16) -> f64 {
+    pub fn x(&self, quantity: u16) -> f64 {
         let share = f64::from(quantity) / f64::from(self.end);
-        quarter(self.left + (RIGHT - self.left) * share)
+        quarter(self.left + (self.right - self.left) * share)
     }
 
-    fn y(&self, price: i128) -> f64 {
-        quarter(self.bottom - (self.bottom - TOP) * self.axis.share(price))
+    pub fn y(&self, price: i128) -> f64 {
+        quarter(self.bottom - (self.bottom - self.top) * self.axis.share(price))
     }
+}
+
+/// Where a plot begins, behind the prices of its axis.
+pub fn left_of(axis: &Axis) -> f64 {
+    let widths = axis.ticks.iter().map(|tick| width(&axis.text(*tick), SIZE));
+    quarter(48.0 + widths.fold(0.0, f64::max))
 }
 
 /// Every place on the sheet is a multiple of a quarter: f64 holds and adds these exactly, and
@@ -67,7 +75,7 @@ pub fn quarter(value: f64) -> f64 {
 
 /// Left, top, right and bottom.
 #[derive(Clone, Copy)]
-struct Area(f64, f64, f64, f64);
+pub struct Area(pub f64, pub f64, pub f64, pub f64);
 
 impl Area {
     fn meets(&self, other: &Area) -> bool {
@@ -109,19 +117,19 @@ impl Sheet {
         Sheet { out, taken }
     }
 
-    fn path(&mut self, line: &str, style: &str) {
+    pub fn path(&mut self, line: &str, style: &str) {
         self.out += &format!("<path d='{line}' fill='none' {style}/>\n");
     }
 
     /// Notes that a line goes from here to there, so that no price is printed on it.
-    fn take(&mut self, (x, y): (f64, f64), (to_x, to_y): (f64, f64)) {
+    pub fn take(&mut self, (x, y): (f64, f64), (to_x, to_y): (f64, f64)) {
         let (left, top) = (x.min(to_x) - 2.0, y.min(to_y) - 3.0);
         let (right, bottom) = (x.max(to_x) + 2.0, y.max(to_y) + 3.0);
         self.taken.push(Area(left, top, right, bottom));
     }
 
     /// A text with a white edge that keeps it readable over grid and hatching.
-    fn text(&mut self, x: f64, y: f64, anchor: &str, colour: &str, text: &str) {
+    pub fn text(&mut self, x: f64, y: f64, anchor: &str, colour: &str, text: &str) {
         self.taken.push(Area::of_text(x, y, anchor, text));
         let text = escape(text);
         self.out += &format!(
@@ -131,7 +139,7 @@ impl Sheet {
     }
 
     /// The same if nothing lies there.
-    fn text_if_free(&mut self, x: f64, y: f64, anchor: &str, colour: &str, text: &str) -> bool {
+    pub fn text_if_free(&mut self, x: f64, y: f64, anchor: &str, colour: &str, text: &str) -> bool {
         let area = Area::of_text(x, y, anchor, text);
         let free = !self.taken.iter().any(|taken| taken.meets(&area));
         if free {
@@ -140,24 +148,24 @@ impl Sheet {
         free
     }
 
-    pub fn price_axis(&mut self, plot: &Plot) {
-        let (left, bottom) = (plot.left, plot.bottom);
+    pub fn price_axis(&mut self, plot: &Plot, name: &str) {
+        let (left, right, bottom) = (plot.left, plot.right, plot.bottom);
         for tick in &plot.axis.ticks {
             let (y, text) = (plot.y(*tick), plot.axis.text(*tick));
             // Ticks of a logarithmic axis crowd near 0; the less useful ones give way.
             if self.text_if_free(left - 8.0, y + 4.5, "end", BLACK, &text) {
-                self.path(&format!("M{left} {y}H{RIGHT}"), GRID);
+                self.path(&format!("M{left} {y}H{right}"), GRID);
             }
         }
         if plot.axis.low < 0 {
             let zero = plot.y(0);
-            self.path(&format!("M{left} {zero}H{RIGHT}"), DARK);
-            self.take((left, zero), (RIGHT, zero));
+            self.path(&format!("M{left} {zero}H{right}"), DARK);
+            self.take((left, zero), (right, zero));
         }
-        let middle = quarter((TOP + bottom) / 2.0);
+        let middle = quarter((plot.top + bottom) / 2.0);
         self.out += &format!(
             "<text x='22' y='{middle}' transform='rotate(-90 22 {middle})' font-size='{SIZE}' \
-             text-anchor='middle' fill='{BLACK}'>Price (dollars per MWh)</text>\n"
+             text-anchor='middle' fill='{BLACK}'>{name}</text>\n"
         );
     }
 
@@ -189,10 +197,10 @@ impl Sheet {
     }
 
     /// A text between title and plot, as near to this place as the plot's sides let it be.
-    fn text_above(&mut self, plot: &Plot, x: f64, text: &str) {
+    pub fn text_above(&mut self, plot: &Plot, x: f64, text: &str) {
         let half = width(text, SIZE) / 2.0;
-        let x = x.max(plot.left + half).min(RIGHT - half);
-        self.text_if_free(quarter(x), TOP - 10.0, "middle", BLACK, text);
+        let x = x.max(plot.left + half).min(plot.right - half);
+        self.text_if_free(quarter(x), plot.top - 10.0, "middle", BLACK, text);
     }
 
     pub fn lines(&mut self, plot: &Plot, lines: &Lines) {
@@ -217,7 +225,7 @@ impl Sheet {
     }
 
     /// A line that goes along each run and up or down to the next.
-    fn stairs(&mut self, plot: &Plot, runs: &[Run], style: &str) {
+    pub fn stairs(&mut self, plot: &Plot, runs: &[Run], style: &str) {
         let mut line = String::new();
         let mut before = None;
         for run in runs {
@@ -234,14 +242,14 @@ impl Sheet {
     }
 
     /// Prices at their lines, over or under them, where there is room.
-    fn prices(&mut self, plot: &Plot, runs: &[Run], colour: &str) {
+    pub fn prices(&mut self, plot: &Plot, runs: &[Run], colour: &str) {
         for run in runs.iter().filter(|run| run.2 <= plot.axis.high) {
             let (text, y) = (money(run.2), plot.y(run.2));
             let half = width(&text, SIZE) / 2.0;
             let (first, last) = (plot.x(run.0) + half, plot.x(run.1) - half);
             // A price may stand out a little over its line's ends, but not over the plot's.
             let from = (first - 6.0).max(plot.left + half);
-            let to = (last + 6.0).min(RIGHT - half);
+            let to = (last + 6.0).min(plot.right - half);
             if from > to {
                 continue;
             }
@@ -250,7 +258,7 @@ impl Sheet {
             let places = places.into_iter().map(|x| x.clamp(from, to));
             let mut places = places.flat_map(|x| [(x, y - 8.0), (x, y + 18.0)]);
             places.find(|(x, y)| {
-                let inside = (TOP + 12.0..plot.bottom - 4.0).contains(y);
+                let inside = (plot.top + 12.0..plot.bottom - 4.0).contains(y);
                 inside && self.text_if_free(quarter(*x), *y, "middle", colour, &text)
             });
         }
@@ -274,7 +282,7 @@ impl Sheet {
     }
 
     /// Slanted lines over an area, between its two sides.
-    fn hatch(&mut self, Area(left, top, right, bottom): Area) {
+    pub fn hatch(&mut self, Area(left, top, right, bottom): Area) {
         let mut line = format!("M{left} {top}V{bottom}M{right} {top}V{bottom}");
         // On each slanted line x and y have one sum.
         let mut sum = left + top + 10.0;
@@ -286,8 +294,24 @@ impl Sheet {
         self.path(&line, HATCH);
     }
 
+    /// A tint over an area.
+    pub fn band(&mut self, Area(left, top, right, bottom): Area, colour: &str) {
+        let (width, height) = (right - left, bottom - top);
+        self.out += &format!(
+            "<rect x='{left}' y='{top}' width='{width}' height='{height}' fill='{colour}'/>\n"
+        );
+    }
+
+    /// The legend at its places, at the foot of the sheet.
+    pub fn legend(&mut self, legend: &[(Mark, String)], places: &[(f64, f64)]) {
+        let last = rows(places) - 1.0;
+        for ((mark, text), (x, row)) in legend.iter().zip(places) {
+            self.entry(mark, text, *x, HEIGHT - 12.0 - ROW * (last - row));
+        }
+    }
+
     /// One entry of the legend.
-    pub fn entry(&mut self, mark: &Mark, text: &str, x: f64, y: f64) {
+    fn entry(&mut self, mark: &Mark, text: &str, x: f64, y: f64) {
         let (end, middle) = (x + 42.0, y - 4.5);
         let line = format!("M{x} {middle}H{end}");
         match mark {
@@ -295,6 +319,11 @@ impl Sheet {
             Mark::Offer => {
                 self.path(&line, OFFER);
                 self.point(x + 21.0, middle);
+            }
+            Mark::Band(colour) => {
+                let (top, bottom) = (y - 12.0, y + 3.0);
+                self.band(Area(x, top, end, bottom), colour);
+                self.path(&format!("M{x} {top}H{end}V{bottom}H{x}Z"), GRID);
             }
             Mark::Failure => self.hatch(Area(x, y - 12.0, end, y + 3.0)),
             Mark::Arrow => self.arrow(x + 21.0, y - 10.0),
@@ -308,6 +337,7 @@ impl Sheet {
 pub enum Mark {
     Line(&'static str),
     Offer,
+    Band(&'static str),
     Failure,
     Arrow,
     Nothing,

@@ -35,7 +35,7 @@ fn drawn(steps: &[Lamination], offer: Option<Offer>) -> String {
 }
 
 /// Tags balance, and neither tags nor texts hold what they mustn't.
-fn check(out: &str) {
+pub fn check(out: &str) {
     let (mut open, mut rest) = (Vec::new(), out);
     while let Some(at) = rest.find('<') {
         check_text(&rest[..at]);
@@ -102,7 +102,7 @@ fn texts(out: &str) -> Vec<(f64, f64, f64, f64, String)> {
 }
 
 /// No text lies on another or leaves the sheet.
-fn check_texts(out: &str) {
+pub fn check_texts(out: &str) {
     let texts = texts(out);
     for (i, a) in texts.iter().enumerate() {
         assert!(

@@ -1,0 +1,426 @@
+//! The picture of a day as SVG: each level over the hours as steps, the profiles as bands behind
+//! them, and refused hours hatched. The levels but energy have plots of their own below.
+
+use super::axis::{round_step, Axis};
+use super::sheet::*;
+use super::words::{megawatts, money, width};
+use super::{places, range, rows, Lines, Run};
+use bench::{Levels, Refusal};
+
+/// What a day's picture shows: hours in a row, each with its levels or its refusal.
+#[derive(Clone, Debug)]
+pub struct Day<'a> {
+    pub title: &'a str,
+    pub from: u32,
+    pub hours: Vec<Result<&'a Levels, Refusal>>,
+}
+
+/// Hours in a row that are alike: from and to, counted from the first of the picture.
+struct Stretch<'a> {
+    from: u16,
+    to: u16,
+    found: Result<&'a Levels, Refusal>,
+}
+
+/// One level over the hours: its name, and its runs of hours and cents.
+struct Course {
+    name: String,
+    runs: Vec<Run>,
+}
+
+/// Light tints of four profiles that stay apart in grey.
+const TINTS: [&str; 4] = ["#ffffff", "#dcebf7", "#fbe3cf", "#d5d5d5"];
+const EDGE: &str = "stroke='#bbbbbb' stroke-width='1'";
+const STEP: &str = "stroke='#0063a6' stroke-width='3'";
+/// The height of a plot below that of energy, and the gap above it.
+const LOW: f64 = 62.0;
+const GAP: f64 = 18.0;
+const FOOT: f64 = 66.0;
+/// How far apart the names of levels stand at least.
+const SPACE: f64 = 17.0;
+
+pub fn svg(day: &Day) -> String {
+    let stretches = stretches(day);
+    let energy = energy(&stretches);
+    let others = others(&stretches);
+    let legend = legend(day, &stretches, &energy);
+    let places = places(&legend);
+    let bottom = HEIGHT - FOOT - ROW * rows(&places);
+    let plots = plots(day, &energy, &others, bottom);
+    let mut sheet = Sheet::open(day.title, &description(day, &stretches));
+    sheet.bands(&plots, &stretches);
+    let courses = [&energy[..]].into_iter().chain(others.chunks(1));
+    for (index, (plot, courses)) in plots.iter().zip(courses).enumerate() {
+        sheet.price_axis(
+            plot,
+            if index == 0 {
+                "Energy (dollars per MWh)"
+            } else {
+                "Dollars"
+            },
+        );
+        sheet.frame(plot);
+        sheet.courses(plot, courses);
+    }
+    if let Some(plot) = plots.last() {
+        sheet.hour_axis(plot, day.from);
+    }
+    sheet.legend(&legend, &places);
+    sheet.out + "</svg>\n"
+}
+
+fn stretches<'a>(day: &Day<'a>) -> Vec<Stretch<'a>> {
+    let mut stretches: Vec<Stretch> = Vec::new();
+    for (index, found) in (0..).zip(&day.hours) {
+        match stretches.last_mut() {
+            Some(last) if last.found == *found => last.to = index + 1,
+            _ => stretches.push(Stretch {
+                from: index,
+                to: index + 1,
+                found: *found,
+            }),
+        }
+    }
+    stretches
+}
+
+/// The levels of each stretch that has them, with its ends.
+fn found<'a, 's>(
+    stretches: &'s [Stretch<'a>],
+) -> impl Iterator<Item = (u16, u16, &'a Levels)> + 's {
+    let of = |s: &Stretch<'a>| s.found.ok().map(|levels| (s.from, s.to, levels));
+    stretches.iter().filter_map(of)
+}
+
+/// Each lamination over the hours.
+fn energy(stretches: &[Stretch]) -> Vec<Course> {
+    let most = found(stretches)
+        .map(|(.., levels)| levels.energy.len())
+        .max();
+    let course = |index: usize| {
+        let steps = found(stretches).filter_map(|(from, to, levels)| {
+            let step = levels.energy.get(index)?;
+            Some((step.to, (from, to, i128::from(step.level))))
+        });
+        let (ends, runs): (Vec<u16>, Vec<Run>) = steps.unzip();
+        Course {
+            name: format!("to {} MW", megawatts(ends.last().copied().unwrap_or(0))),
+            runs: joined(runs),
+        }
+    };
+    (0..most.unwrap_or(0)).map(course).collect()
+}
+
+/// The other levels that are held.
+fn others(stretches: &[Stretch]) -> Vec<Course> {
+    let names = crate::levels::others;
+    let course = |index: usize| {
+        let runs = found(stretches).filter_map(|(from, to, levels)| {
+            let cents = names(levels)[index].1?;
+            Some((from, to, i128::from(cents)))
+        });
+        let name = found(stretches)
+            .next()
+            .map_or("", |(.., levels)| names(levels)[index].0);
+        Course {
+            name: name.to_string(),
+            runs: joined(runs.collect()),
+        }
+    };
+    let mut courses: Vec<Course> = (0..3).map(course).collect();
+    courses.retain(|course| !course.runs.is_empty());
+    courses
+}
+
+/// Runs that go on at the same price are one.
+fn joined(runs: Vec<Run>) -> Vec<Run> {
+    let mut all: Vec<Run> = Vec::new();
+    for run in runs {
+        match all.last_mut() {
+            Some(last) if last.1 == run.0 && last.2 == run.2 => last.1 = run.1,
+            _ => all.push(run),
+        }
+    }
+    all
+}
+
+/// The plot of energy, and below it one for each other level, all as wide.
+fn plots(day: &Day, energy: &[Course], others: &[Course], bottom: f64) -> Vec<Plot> {
+    let lines = |courses: &[Course]| Lines {
+        levels: courses.iter().flat_map(|c| c.runs.clone()).collect(),
+        prices: Vec::new(),
+        limits: Vec::new(),
+    };
+    let highest = |course: &Course| course.runs.iter().map(|run| run.2).max();
+    let mut axes = vec![Axis::of(&lines(energy))];
+    axes.extend(
+        others
+            .iter()
+            .map(|c| Axis::even(0, highest(c).unwrap_or(0), 2)),
+    );
+    let left = axes.iter().map(left_of).fold(0.0, f64::max);
+    let names = energy.iter().chain(others).map(|c| width(&c.name, SIZE));
+    let right = quarter(WIDTH - 24.0 - names.fold(0.0, f64::max));
+    let count = others.len() as f64;
+    let first = bottom - count * (LOW + GAP);
+    let plot = |(index, axis): (usize, Axis)| {
+        let below = index as f64 * (LOW + GAP);
+        Plot {
+            left,
+            right,
+            top: if index == 0 { TOP } else { first + below - LOW },
+            bottom: first + below,
+            end: day.hours.len().max(1) as u16,
+            axis,
+        }
+    };
+    axes.into_iter().enumerate().map(plot).collect()
+}
+
+/// What the picture shows, in the order of the legend.
+fn legend(day: &Day, stretches: &[Stretch], energy: &[Course]) -> Vec<(Mark, String)> {
+    let runs: Vec<Run> = energy.iter().flat_map(|c| c.runs.clone()).collect();
+    let text = format!("energy level by lamination{}", range(&runs));
+    let mut legend = vec![(Mark::Line(STEP), text)];
+    let mut profiles: Vec<u8> = found(stretches)
+        .map(|(.., levels)| levels.profile)
+        .collect();
+    profiles.sort_unstable();
+    profiles.dedup();
+    for profile in profiles {
+        legend.push((Mark::Band(tint(profile)), format!("profile {profile}")));
+    }
+    let refused = stretches
+        .iter()
+        .filter_map(|s| s.found.err().map(|refusal| (s, refusal)));
+    for (stretch, refusal) in refused {
+        let text = format!("{}: refused {}", hours(day, stretch), refusal.number);
+        legend.push((Mark::Failure, text));
+    }
+    legend
+}
+
+fn tint(profile: u8) -> &'static str {
+    TINTS[usize::from(profile.max(1) - 1) % TINTS.len()]
+}
+
+fn hours(day: &Day, stretch: &Stretch) -> String {
+    let hour = |index: u16| u64::from(day.from) + u64::from(index);
+    match stretch.to - stretch.from {
+        1 => format!("hour {}", hour(stretch.from)),
+        _ => format!("hours {} to {}", hour(stretch.from), hour(stretch.to - 1)),
+    }
+}
+
+/// The picture in words, for those who hear it.
+fn description(day: &Day, stretches: &[Stretch]) -> String {
+    let levels = |levels: &Levels| {
+        let step =
+            |l: &bench::Lamination| format!("to {} MW {}", megawatts(l.to), money(l.level.into()));
+        let energy: Vec<String> = levels.energy.iter().map(step).collect();
+        let held = crate::levels::others(levels).into_iter();
+        let others =
+            held.filter_map(|(name, level)| Some(format!("; {name} {}", money(level?.into()))));
+        let others: String = others.collect();
+        format!(
+            "profile {}; energy {}{others}",
+            levels.profile,
+            energy.join(", ")
+        )
+    };
+    let told = |stretch: &Stretch| {
+        let found = match &stretch.found {
+            Ok(found) => levels(found),
+            Err(refusal) => format!("refused {} at {}", refusal.number, refusal.place),
+        };
+        format!(" {}: {found}.", hours(day, stretch))
+    };
+    let told: String = stretches.iter().map(told).collect();
+    format!("Energy in dollars per MWh, the other levels in dollars.{told}")
+}
+
+/// Where the names of levels stand beside their last prices, as near as they can without lying on one
+/// another; of levels that are too many for the plot, every second, third and so on has its name.
+/// The levels rise from the first on, as laminations do.
+fn beside<'c>(plot: &Plot, courses: &'c [Course]) -> Vec<(f64, &'c str)> {
+    let room = ((plot.bottom - plot.top) / SPACE).max(1.0) as usize;
+    let every = courses.len().div_ceil(room).max(1);
+    let named = courses.iter().rev().step_by(every).collect::<Vec<_>>();
+    let mut names: Vec<(f64, &str)> = Vec::new();
+    let mut lowest = plot.bottom;
+    for course in named.into_iter().rev() {
+        let last = course.runs.last().map_or(0, |run| run.2);
+        let place = (plot.y(last) + 4.5).min(lowest);
+        names.push((place, &course.name));
+        lowest = place - SPACE;
+    }
+    // What was pushed out at the top comes down again, and pushes the others.
+    let mut highest = plot.top + 10.0;
+    for (place, _) in names.iter_mut().rev() {
+        *place = place.max(highest);
+        highest = *place + SPACE;
+    }
+    names
+}
+
+impl Sheet {
+    /// The profiles behind the plots, and refused hours hatched, with their names above.
+    fn bands(&mut self, plots: &[Plot], stretches: &[Stretch]) {
+        let Some(first) = plots.first() else {
+            return;
+        };
+        for plot in plots {
+            for stretch in stretches {
+                let area = Area(
+                    plot.x(stretch.from),
+                    plot.top,
+                    plot.x(stretch.to),
+                    plot.bottom,
+                );
+                match stretch.found {
+                    Ok(levels) => self.band(area, tint(levels.profile)),
+                    Err(_) => self.hatch(area),
+                }
+            }
+        }
+        for stretch in stretches {
+            let middle = (first.x(stretch.from) + first.x(stretch.to)) / 2.0;
+            let text = match stretch.found {
+                Ok(levels) => format!("profile {}", levels.profile),
+                Err(refusal) => format!("refused {}", refusal.number),
+            };
+            self.text_above(first, middle, &text);
+        }
+    }
+
+    /// Levels as steps, their names at the right and their prices where there is room.
+    fn courses(&mut self, plot: &Plot, courses: &[Course]) {
+        for course in courses {
+            for unbroken in course.runs.chunk_by(|a, b| a.1 == b.0) {
+                self.stairs(plot, unbroken, STEP);
+            }
+        }
+        for (y, name) in beside(plot, courses) {
+            self.text_if_free(plot.right + 8.0, y, "start", BLUE, name);
+        }
+        for course in courses {
+            self.prices(plot, &course.runs, BLUE);
+        }
+    }
+
+    fn frame(&mut self, plot: &Plot) {
+        let Plot {
+            left,
+            right,
+            top,
+            bottom,
+            ..
+        } = plot;
+        self.path(&format!("M{left} {top}V{bottom}H{right}"), DARK);
+    }
+
+    /// The hours below the lowest plot, each in the middle of its column.
+    fn hour_axis(&mut self, plot: &Plot, from: u32) {
+        let step = round_step(i128::from(plot.end), 24) as usize;
+        let column = (plot.right - plot.left) / f64::from(plot.end);
+        for index in (0..plot.end).step_by(step) {
+            let x = quarter(plot.x(index) + column / 2.0);
+            let hour = (u64::from(from) + u64::from(index)).to_string();
+            if self.text_if_free(x, plot.bottom + 20.0, "middle", BLACK, &hour) {
+                self.path(&format!("M{x} {}V{}", plot.bottom, plot.bottom + 5.0), EDGE);
+            }
+        }
+        let middle = quarter((plot.left + plot.right) / 2.0);
+        self.text(middle, plot.bottom + 40.0, "middle", BLACK, "Hour");
+    }
+}
+
+#[cfg(test)]
+mod tests {
+    use super::super::tests::{check, check_texts};
+    use super::*;
+    use bench::Lamination;
+
+    /// Levels with this many laminations, in a profile.
+    fn levels(profile: u8, count: u16, held: bool) -> Levels {
+        let step = |i: u16| Lamination {
+            from: i * 50,
+            to: (i + 1) * 50,
+            level: 4_000 * u64::from(profile) + 350 * u64::from(i),
+        };
+        Levels {
+            profile,
+            energy: (0..count).map(step).collect(),
+            start: held.then_some(330_000 * u64::from(profile)),
+            no_load: held.then_some(50_000),
+            reserve: held.then_some(25),
+        }
+    }
+
+    fn drawn(from: u32, hours: Vec<Result<&Levels, Refusal>>) -> String {
+        let out = svg(&Day {
+            title: "a day",
+            from,
+            hours,
+        });
+        check(&out);
+        check_texts(&out);
+        out
+    }
+
+    const REFUSAL: Refusal = Refusal {
+        number: 8,
+        place: 7,
+    };
+
+    #[test]
+    fn profiles_and_refused_hours_are_told_apart() {
+        let all = [1, 2, 3, 4].map(|profile| levels(profile, 3, true));
+        let hour = |hour: usize| match hour {
+            9..=11 => Err(REFUSAL),
+            _ => Ok(&all[hour / 6]),
+        };
+        let out = drawn(100, (0..24).map(hour).collect());
+        for part in [
+            ">profile 1<",
+            ">profile 4<",
+            ">refused 8<",
+            ">hours 109 to 111: refused 8<",
+            "hours 100 to 105: profile 1; energy to 5.0 MW 40.00, to 10.0 MW 43.50, to 15.0 MW 47.00; start 3,300.00; no-load 500.00; reserve 0.25.",
+            "hours 109 to 111: refused 8 at 7.",
+            ">Hour<",
+            ">123<",
+            ">to 15.0 MW<",
+            ">reserve<",
+        ] {
+            assert!(out.contains(part), "{part} in {out}");
+        }
+        // Two stretches of profile 2, each a line of its own in each plot.
+        assert_eq!(
+            out.matches(">profile 2<").count(),
+            2 + usize::from(out.contains("zzz"))
+        );
+    }
+
+    #[test]
+    fn days_of_every_size_are_drawn() {
+        for (count, held) in [(1, false), (2, true), (20, true)] {
+            let all = [1, 2].map(|profile| levels(profile, count, held));
+            for hours in [1, 2, 24, 168, 8_784] {
+                let hour = |hour: usize| Ok(&all[hour / 7 % 2]);
+                for from in [0, u32::MAX - 8_784] {
+                    let out = drawn(from, (0..hours).map(hour).collect());
+                    let named = |name: &str| out.contains(&format!(">{name}<"));
+                    let others = ["start", "no-load", "reserve"].into_iter().all(named);
+                    assert_eq!(others, held, "{count} laminations, {hours} hours");
+                }
+            }
+        }
+    }
+
+    #[test]
+    fn a_refused_day_is_drawn() {
+        let out = drawn(0, vec![Err(REFUSAL); 24]);
+        assert!(out.contains(">hours 0 to 23: refused 8<"));
+    }
+}
