@@ -18,7 +18,7 @@ use crate::levels::others;
 use crate::many::each;
 use crate::offer::read_level;
 use crate::unit::LEVEL;
-use bench::{Levels, Refusal, Verdict};
+use bench::{Levels, Refusal};
 use book::Book;
 
 /// An amount that a level is made of, in micro-dollars.
@@ -124,10 +124,8 @@ fn explain(input: &Input, hour: u32, level: Option<u8>) -> Said {
 /// The library's refusal of a level that the technology doesn't hold, 12.
 fn unheld(dossier: &[u8], hour: u32, level: u8) -> Option<Refusal> {
     const ENERGY: u8 = 1;
-    match bench::price_test(dossier, hour, level, 1, 0) {
-        Verdict::Refused(refusal) if refusal.number == 12 && level != ENERGY => Some(refusal),
-        _ => None,
-    }
+    let refusal = bench::price_test(dossier, hour, level, 1, 0).err()?;
+    (refusal.number == 12 && level != ENERGY).then_some(refusal)
 }
 
 impl Explanation {

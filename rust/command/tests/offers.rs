@@ -3,7 +3,7 @@
 mod calls;
 mod json;
 
-use bench::Verdict;
+use bench::{Refusal, Verdict};
 use calls::{call, Ended, Kept};
 use command::answer::Status;
 use command::offer::{bytes, read};
@@ -40,11 +40,11 @@ fn line(random: &mut Random, stations: &[(Kept, Vec<u8>)]) -> (String, String) {
     (line, told(verdict))
 }
 
-fn told(verdict: Verdict) -> String {
+fn told(verdict: Result<Verdict, Refusal>) -> String {
     match verdict {
-        Verdict::Passes => "passes under ".to_string(),
-        Verdict::Fails { .. } => "fails under ".to_string(),
-        Verdict::Refused(r) => format!("refused {} at {}: ", r.number, r.place),
+        Ok(Verdict::Passes) => "passes under ".to_string(),
+        Ok(Verdict::Fails(_)) => "fails under ".to_string(),
+        Err(r) => format!("refused {} at {}: ", r.number, r.place),
     }
 }
 
