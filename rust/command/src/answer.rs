@@ -48,6 +48,8 @@ pub struct Streams<'a> {
 pub enum Stop {
     /// Wrong use, and what is wrong.
     Use(String),
+    /// What the call asked for can't be done, though it was called as it should be.
+    Failed(String),
     Io(io::Error),
 }
 

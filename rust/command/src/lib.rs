@@ -23,6 +23,7 @@ pub mod offer;
 mod offers;
 mod pack;
 pub mod picture;
+mod pipe;
 pub mod record;
 pub mod rules;
 pub mod terms;
@@ -32,8 +33,8 @@ pub mod unit;
 
 use answer::{Status, Stop, Streams};
 use args::{Args, Choice};
+use pipe::Pipe;
 use std::ffi::OsString;
-use std::io::ErrorKind;
 
 /// One subcommand.
 struct Command {
@@ -126,22 +127,28 @@ const COMMANDS: [Command; 8] = [
 
 /// Carries out a call, given the words behind the program's name.
 pub fn run(words: &[OsString], streams: &mut Streams) -> Status {
-    let done = called(words, streams).and_then(|status| {
+    let mut streams = Streams {
+        out: &mut Pipe::new(streams.out),
+        err: &mut Pipe::new(streams.err),
+        ..*streams
+    };
+    let done = called(words, &mut streams).and_then(|status| {
         streams.out.flush()?;
         Ok(status)
     });
-    let says = match done {
+    let (says, hint) = match done {
         Ok(status) => return status,
-        // Whoever reads the answers has enough of them.
-        Err(Stop::Io(error)) if error.kind() == ErrorKind::BrokenPipe => return Status::Done,
-        Err(Stop::Io(error)) => format!("the answer can't be written: {error}"),
-        Err(Stop::Use(says)) => says,
+        Err(Stop::Io(error)) => (format!("the answer can't be written: {error}"), false),
+        Err(Stop::Failed(says)) => (says, false),
+        Err(Stop::Use(says)) => (says, true),
     };
     let name = words.first().and_then(|word| command(word));
     let name = name.map_or(String::new(), |c| format!(" {}", c.name));
-    // Nothing is left to tell if standard error is gone too.
+    // Nothing is left to tell if standard error can't be written either.
     let _ = writeln!(streams.err, "bench{name}: {says}");
-    let _ = writeln!(streams.err, "'bench{name} --help' says how it is called");
+    if hint {
+        let _ = writeln!(streams.err, "'bench{name} --help' says how it is called");
+    }
     Status::Wrong
 }
 

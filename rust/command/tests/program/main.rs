@@ -1,30 +1,13 @@
 //! The command as people run it: a process with files, pipes and a status.
 
+mod pipes;
+mod process;
+
 use model::make::written::r1;
-use std::io::{ErrorKind, Read, Write};
+use process::{call, example, text, Folder, PROGRAM};
+use std::io::Read;
 use std::path::Path;
-use std::process::{Command, Output, Stdio};
-
-const PROGRAM: &str = env!("CARGO_BIN_EXE_bench");
-
-/// What a call comes to, with this standard input.
-fn call(words: &[&str], input: &[u8]) -> Output {
-    let mut program = Command::new(PROGRAM)
-        .args(words)
-        .stdin(Stdio::piped())
-        .stdout(Stdio::piped())
-        .stderr(Stdio::piped())
-        .spawn()
-        .expect("the command starts");
-    let written = program.stdin.take().expect("a pipe").write_all(input);
-    // A call that is wrong ends before it reads.
-    assert!(written.is_ok() || written.is_err_and(|e| e.kind() == ErrorKind::BrokenPipe));
-    program.wait_with_output().expect("it ends")
-}
-
-fn text(bytes: &[u8]) -> String {
-    String::from_utf8_lossy(bytes).into_owned()
-}
+use std::process::{Command, Stdio};
 
 #[test]
 fn standard_input_as_text_and_bytes() {
@@ -85,30 +68,29 @@ fn an_input_without_end_is_too_long() {
 /// A refused call leaves the file alone that it would have written.
 #[test]
 fn nothing_is_lost() {
-    let path = std::env::temp_dir().join(format!("bench-program-{}", std::process::id()));
-    let out = path.to_str().expect("a path that is text");
-    std::fs::write(&path, "kept").expect("a temporary file");
+    let folder = Folder::new();
+    let out = &folder.file("out", "kept")[..];
     for (words, input) in [
         (&["pack", "--out", out][..], &b"FU issue=1"[..]),
         (&["unpack", "--out", out], b"FU issue=1"),
         (&["day", "--from", "0", "--svg", out], b""),
     ] {
         assert_ne!(call(words, input).status.code(), Some(0));
-        assert_eq!(std::fs::read(&path).expect("still there"), b"kept");
+        assert_eq!(std::fs::read(out).expect("still there"), b"kept");
     }
     let day = ["day", "--from", "0", "--svg", out];
     assert_eq!(call(&day, &r1()).status.code(), Some(0));
-    let picture = std::fs::read_to_string(&path).expect("a picture");
+    let picture = std::fs::read_to_string(out).expect("a picture");
     assert!(picture.starts_with("<svg"), "{picture}");
-    std::fs::remove_file(&path).expect("removed");
 }
 
 /// Whoever reads the answers may stop before they end.
 #[test]
 fn a_closed_pipe_is_no_panic() {
-    let file = concat!(env!("CARGO_MANIFEST_DIR"), "/../../examples/thermal.txt");
+    let folder = Folder::new();
+    let file = folder.file("thermal.txt", example("thermal.txt"));
     let mut program = Command::new(PROGRAM)
-        .args(["day", file, "--from", "0", "--hours", "8784"])
+        .args(["day", &file, "--from", "0", "--hours", "8784"])
         .stdout(Stdio::piped())
         .stderr(Stdio::piped())
         .spawn()
