@@ -5,6 +5,7 @@ use crate::explain::Explained;
 use crate::form::Form;
 use crate::input::{NoInput, STANDARD};
 use crate::json::{object, Json};
+use crate::output::apart_from_standard_output;
 use crate::text::WrongLine;
 use std::ffi::OsString;
 use std::io::{self, IsTerminal, Write};
@@ -150,15 +151,22 @@ impl WrongLine {
     }
 }
 
-/// The files of a call; standard input without any, unless a person sits there.
-pub fn files(args: &Args) -> Result<Vec<OsString>, Stop> {
-    if !args.files.is_empty() {
-        return Ok(args.files.clone());
+/// The files of a call; standard input without any.
+pub fn named_or_standard(args: &Args) -> Vec<OsString> {
+    match args.files.is_empty() {
+        true => vec![STANDARD.into()],
+        false => args.files.clone(),
     }
-    if io::stdin().is_terminal() {
+}
+
+/// The files of a call that reads them; without any a person must not be sitting there.
+pub fn files(args: &Args) -> Result<Vec<OsString>, Stop> {
+    if args.files.is_empty() && io::stdin().is_terminal() {
         return Err(Stop::Use("a file is missing".to_string()));
     }
-    Ok(vec![STANDARD.into()])
+    let files = named_or_standard(args);
+    apart_from_standard_output(&files)?;
+    Ok(files)
 }
 
 /// The one file of a call that takes no more.

@@ -11,7 +11,7 @@ use crate::json::{object, Json};
 use crate::levels::{dollars, json, megawatts, others};
 use crate::many::each;
 use crate::offer::{self, highest_in, Pair};
-use crate::pack::write_file;
+use crate::output;
 use crate::picture::{self, Picture};
 use crate::together::only;
 use crate::unit::CONDITION;
@@ -73,10 +73,10 @@ fn answer(input: &Input, question: &Question) -> Said {
 fn draw(args: &Args, input: &Input, question: &Question, day: &Day) -> Result<(), Stop> {
     let at = day.hours.iter().find(|h| h.hour == question.at);
     if let (Some(path), Some(hour)) = (args.value("svg"), at) {
-        write_file(path, drawn(input, hour, question).as_bytes())?;
+        output::write(path, drawn(input, hour, question).as_bytes(), args)?;
     }
     if let Some(path) = args.value("svg-day") {
-        write_file(path, drawn_day(input, question, day).as_bytes())?;
+        output::write(path, drawn_day(input, question, day).as_bytes(), args)?;
     }
     Ok(())
 }
@@ -89,6 +89,9 @@ fn question(args: &Args) -> Result<Question, Stop> {
         return Err(Stop::Use(format!("the last hour there is is {}", u32::MAX)));
     };
     let at = args.get("at", |text| whole(text, from, last))?;
+    if at.is_some() && !args.has("svg") {
+        return Err(Stop::Use("--at is for --svg".to_string()));
+    }
     let condition = args.get("condition", offer::read_condition)?;
     let offer = match (condition, args.get("offer", offer::read)?) {
         (Some(condition), Some(pairs)) => Some((condition, pairs)),

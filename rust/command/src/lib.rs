@@ -21,6 +21,7 @@ mod many;
 pub mod marks;
 pub mod offer;
 mod offers;
+mod output;
 mod pack;
 pub mod picture;
 mod pipe;
@@ -183,5 +184,6 @@ fn called(words: &[OsString], streams: &mut Streams) -> Result<Status, Stop> {
         return Ok(Status::Done);
     }
     let args = Args::read(rest, command.choices)?;
+    output::check(&args)?;
     (command.run)(&args, streams)
 }

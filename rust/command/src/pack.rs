@@ -6,10 +6,10 @@ use crate::explain::of_dossier;
 use crate::form::Form;
 use crate::input::{is_cut, name, read_bytes};
 use crate::lines::Lines;
+use crate::output;
 use crate::text::{is_text, pack as packed, unpack as unpacked};
 use crate::together::only;
 use bench::Refusal;
-use std::fs;
 
 /// A dossier from text; one in bytes stays as it is. Several files are one dossier `--together`.
 pub fn pack(args: &Args, streams: &mut Streams) -> Result<Status, Stop> {
@@ -55,7 +55,10 @@ fn convert(
 ) -> Result<Status, Stop> {
     let file = only_file(args)?;
     let name = name(&file);
-    let bytes = read_bytes(&file).map_err(|says| format!("{name}: {says}"))?;
+    let bytes = match read_bytes(&file) {
+        Ok(bytes) => bytes,
+        Err(says) => return Err(Stop::Failed(format!("{name}: {says}"))),
+    };
     let result = if is_cut(&bytes) {
         let refusal = Refusal {
             number: 13,
@@ -75,26 +78,18 @@ fn finish(
     name: &str,
     result: Result<Vec<u8>, Said>,
 ) -> Result<Status, Stop> {
-    match result {
-        Ok(bytes) => write(args, streams, &bytes),
-        Err(said) => Ok(one(&Form::Words, streams, name, &said)?),
-    }
-}
-
-fn write(args: &Args, streams: &mut Streams, bytes: &[u8]) -> Result<Status, Stop> {
-    match args.value("out") {
-        Some(path) => write_file(path, bytes)?,
-        None if streams.out_watched && !is_text(bytes) => {
-            let says = "a dossier is bytes: send them to a file, with --out OUT";
-            return Err(Stop::Use(says.to_string()));
-        }
-        None => streams.out.write_all(bytes)?,
+    match (result, args.value("out")) {
+        (Ok(bytes), Some(path)) => output::write(path, &bytes, args)?,
+        (Ok(bytes), None) => print(streams, &bytes)?,
+        (Err(said), _) => return Ok(one(&Form::Words, streams, name, &said)?),
     }
     Ok(Status::Done)
 }
 
-/// Writes a file that a person asked for.
-pub fn write_file(path: &std::ffi::OsStr, bytes: &[u8]) -> Result<(), Stop> {
-    let says = |error| format!("{} can't be written: {error}", name(path));
-    Ok(fs::write(path, bytes).map_err(says)?)
+fn print(streams: &mut Streams, bytes: &[u8]) -> Result<(), Stop> {
+    if streams.out_watched && !is_text(bytes) {
+        let says = "a dossier is bytes: send them to a file, with --out OUT";
+        return Err(Stop::Use(says.to_string()));
+    }
+    Ok(streams.out.write_all(bytes)?)
 }

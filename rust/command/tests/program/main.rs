@@ -1,5 +1,6 @@
 //! The command as people run it: a process with files, pipes and a status.
 
+mod files;
 mod pipes;
 mod process;
 
