@@ -6,8 +6,10 @@ use crate::lacks::{current, lacks};
 use crate::lines::{Lines, Origin};
 use crate::marks::Mark;
 use crate::offer::Pair;
+use crate::plain::text_behind;
 use crate::record::{records, Record};
 use crate::rules::{rule, Rule};
+use crate::text::quoted;
 use bench::Refusal;
 
 /// A refusal with all that there is to say of it.
@@ -37,14 +39,23 @@ pub struct Standing {
 /// The refusal of a dossier; `lines` are those of its records, if it came as text.
 pub fn of_dossier(refusal: Refusal, dossier: &[u8], lines: &Lines) -> Explained {
     let at_record = matches!(refusal.number, 1..=4 | 6);
-    let record = records(dossier).find(|r| at_record && r.start == refusal.place);
+    let text = match refusal.number {
+        1..=3 if lines.is_empty() => text_behind(dossier, refusal.place),
+        _ => None,
+    };
+    let at_place = |r: &Record| at_record && text.is_none() && r.start == refusal.place;
+    let record = records(dossier).find(at_place);
     Explained {
         refusal,
         rule: rule(refusal.number),
-        details: match record {
-            Some(record) => of_record(refusal.number, dossier, &record),
-            None if at_record => vec![unread(dossier, refusal.place)],
-            None => lacks(dossier, refusal.number),
+        details: match (record, text) {
+            (Some(record), _) => of_record(refusal.number, dossier, &record),
+            (None, Some((start, line))) => vec![format!(
+                "from byte {start} on it is text, not bytes: {}; join texts, or bytes",
+                quoted(line)
+            )],
+            (None, None) if at_record => vec![unread(dossier, refusal.place)],
+            (None, None) => lacks(dossier, refusal.number),
         },
         record: record.map(|r| standing(&r, lines)),
     }

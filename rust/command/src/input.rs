@@ -1,7 +1,7 @@
 //! Where a dossier comes from: a file or standard input, text or bytes.
 
 use crate::lines::Lines;
-use crate::text::{is_text, pack, WrongLine};
+use crate::text::{is_meant_as_text, pack, WrongLine};
 use std::ffi::{OsStr, OsString};
 use std::fs::File;
 use std::io::{self, Read};
@@ -69,7 +69,7 @@ pub fn read_bytes(file: &OsString) -> Result<Vec<u8>, String> {
 pub fn read(file: &OsString) -> Result<Input, NoInput> {
     let bytes = read_bytes(file).map_err(NoInput::Unreadable)?;
     let name = name(file);
-    if is_cut(&bytes) || !is_text(&bytes) {
+    if is_cut(&bytes) || !is_meant_as_text(&bytes) {
         return Ok(Input {
             name,
             dossier: bytes,

@@ -25,6 +25,7 @@ mod output;
 mod pack;
 pub mod picture;
 mod pipe;
+pub mod plain;
 pub mod record;
 pub mod rules;
 pub mod terms;

@@ -7,7 +7,7 @@ use crate::form::Form;
 use crate::input::{is_cut, name, read_bytes};
 use crate::lines::Lines;
 use crate::output;
-use crate::text::{is_text, pack as packed, unpack as unpacked};
+use crate::text::{is_meant_as_text, is_text, pack as packed, unpack as unpacked};
 use crate::together::only;
 use bench::Refusal;
 
@@ -28,7 +28,7 @@ pub fn pack(args: &Args, streams: &mut Streams) -> Result<Status, Stop> {
 pub fn unpack(args: &Args, streams: &mut Streams) -> Result<Status, Stop> {
     convert(args, streams, |input| match readable(input) {
         Ok(()) => Ok(unpacked(input).into_bytes()),
-        Err(_) if is_text(input) => {
+        Err(_) if is_meant_as_text(input) => {
             let packed = packed(input).map_err(|lines| wrong_lines(&lines))?;
             Ok(unpacked(&packed.dossier).into_bytes())
         }

@@ -4,6 +4,8 @@
 //! `#` is a comment. `pack` and `unpack` undo each other.
 
 use crate::marks::{listed, Field, Mark, MARKS};
+use crate::plain::{clean, is_utf_16, lines};
+pub use crate::plain::{is_meant_as_text, is_text};
 use crate::record::records;
 use crate::unit::Unreadable;
 
@@ -26,9 +28,13 @@ pub struct WrongLine {
 
 /// The dossier of a text, or every wrong line of it.
 pub fn pack(text: &[u8]) -> Result<Packed, Vec<WrongLine>> {
-    let (mut dossier, mut lines, mut wrong) = (Vec::new(), Vec::new(), Vec::new());
+    if !is_text(text) && is_utf_16(text) {
+        let says = "the text is UTF-16: save it as UTF-8".to_string();
+        return Err(vec![WrongLine { line: 1, says }]);
+    }
+    let (mut dossier, mut of_records, mut wrong) = (Vec::new(), Vec::new(), Vec::new());
     let text = text.strip_prefix(b"\xEF\xBB\xBF").unwrap_or(text);
-    for (line, content) in (1..).zip(text.split(|b| *b == b'\n')) {
+    for (line, content) in (1..).zip(lines(text)) {
         match record(content) {
             Ok(bytes) if bytes.is_empty() => {}
             Ok(bytes) if dossier.len() + bytes.len() > LONGEST => {
@@ -38,15 +44,17 @@ pub fn pack(text: &[u8]) -> Result<Packed, Vec<WrongLine>> {
             }
             Ok(bytes) => {
                 dossier.extend(bytes);
-                lines.push(line);
+                of_records.push(line);
             }
             Err(says) => wrong.push(WrongLine { line, says }),
         }
     }
-    if wrong.is_empty() {
-        Ok(Packed { dossier, lines })
-    } else {
-        Err(wrong)
+    match wrong.is_empty() {
+        true => Ok(Packed {
+            dossier,
+            lines: of_records,
+        }),
+        false => Err(wrong),
     }
 }
 
@@ -55,18 +63,10 @@ pub fn unpack(dossier: &[u8]) -> String {
     records(dossier).map(|r| r.text() + "\n").collect()
 }
 
-/// Whether an input is text. A byte that no text has, a control character but tab and line ends,
-/// lies in every record in range but LC, so that no dossier with another record is taken for text.
-pub fn is_text(input: &[u8]) -> bool {
-    let control = |c: char| c.is_ascii_control() && !matches!(c, '\t' | '\n' | '\r');
-    std::str::from_utf8(input).is_ok_and(|text| !text.contains(control))
-}
-
 /// The bytes of a line's record, none for a line without one.
 fn record(line: &[u8]) -> Result<Vec<u8>, String> {
-    let line = std::str::from_utf8(line).map_err(|_| "a byte that is no text".to_string())?;
-    let content = line.split('#').next().unwrap_or("");
-    let mut words = content.split([' ', '\t', '\r']).filter(|w| !w.is_empty());
+    let content = clean(line)?.split('#').next().unwrap_or("");
+    let mut words = content.split([' ', '\t']).filter(|w| !w.is_empty());
     let Some(letters) = words.next() else {
         return Ok(Vec::new());
     };
@@ -133,12 +133,12 @@ fn number(field: &Field, value: &str) -> Result<i128, String> {
 }
 
 /// A word of the text between quotes.
-fn quoted(word: &str) -> String {
+pub fn quoted(word: &str) -> String {
     format!("'{}'", shortened(word))
 }
 
 /// A word of the text that is safe to show: no control characters, and not longer than a line.
-fn shortened(word: &str) -> String {
+pub fn shortened(word: &str) -> String {
     let mut shown: String = word.chars().take(40).flat_map(char::escape_debug).collect();
     if word.chars().nth(40).is_some() {
         shown.push('…');

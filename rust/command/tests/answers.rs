@@ -250,3 +250,27 @@ fn progress_is_shown_to_those_who_watch() {
         assert!(!String::from_utf8(out).expect("text").contains('\x1b'));
     }
 }
+
+/// Text behind bytes, and bytes behind text, are told as that: `cat gas.bin price.txt`.
+#[test]
+fn text_and_bytes_in_one_input_are_told() {
+    let r1 = make::written::r1();
+    for text in [
+        "FU issue=3 profile=1 fuel=5.00 emission=1.00\n",
+        "# newer\nFU issue=3 profile=1 fuel=5.00 emission=1.00\n",
+        "\n\nFU issue=3 profile=1 fuel=5.00 emission=1.00",
+        "LC issue=3 cost=21.40\n",
+    ] {
+        let file = Kept::new(&[&r1[..], text.as_bytes()].concat());
+        let ended = call(&["check", file.name()]);
+        let told = format!("from byte {} on it is text", r1.len());
+        assert_eq!(ended.status, Status::Refused);
+        assert!(ended.err.contains(&told), "{}", ended.err);
+        assert!(!ended.err.contains("\n  record"), "{}", ended.err);
+    }
+    let price = "# newer\nFU issue=3 profile=1 fuel=5.00 emission=1.00\n";
+    let file = Kept::new(&[price.as_bytes(), &r1].concat());
+    let ended = call(&["check", file.name()]);
+    let told = "line 3: byte 1 begins a record RS in bytes, behind text";
+    assert!(ended.err.contains(told), "{}", ended.err);
+}

@@ -3,7 +3,7 @@
 
 use command::marks::{Field, Mark, MARKS};
 use command::record::records;
-use command::text::{is_text, pack, unpack};
+use command::text::{is_meant_as_text, is_text, pack, unpack};
 use model::cases::{run, same, Check};
 use model::make;
 use model::random::Random;
@@ -239,4 +239,94 @@ fn last_costs_alone_may_look_like_text() {
     assert!(reads(dossier) && is_text(dossier));
     assert_eq!(unpack(dossier), "LC issue=543781747 cost=1969.569075\n");
     assert_eq!(bench::accept(dossier).map_err(|r| r.number), Err(5));
+}
+
+/// A text with bytes that no text has is told as one, by line and byte; it is no dossier in bytes.
+#[test]
+fn what_is_no_text_is_named_with_line_and_byte() {
+    let text = "# a station\nFU issue=1 profile=1 fuel=4.00 emission=1.00\n";
+    for (byte, named) in [
+        (
+            &b"\xe9"[..],
+            "byte 4 is 233, which is no UTF-8; in Windows-1252 it is 'é'",
+        ),
+        (
+            b"\x80",
+            "byte 4 is 128, which is no UTF-8; in Windows-1252 it is '€'",
+        ),
+        (
+            b"\xc3",
+            "byte 4 is 195, which is no UTF-8; in Windows-1252 it is 'Ã'",
+        ),
+        (b"\0", "byte 4 is NUL"),
+        (b"\x1a", "byte 4 is ^Z"),
+        (b"\x0c", "byte 4 is a form feed"),
+        (b"\x1b", "byte 4 is an escape"),
+        (b"\x07", "byte 4 is the control character 7"),
+    ] {
+        for (line, at) in [(1, 3), (2, 15)] {
+            let mut input = text.as_bytes().to_vec();
+            input.splice(at..at, byte.iter().copied());
+            assert!(is_meant_as_text(&input), "{byte:?} in line {line}");
+            let wrong = pack(&input).expect_err("no text");
+            assert_eq!(wrong.len(), 1, "{wrong:?}");
+            assert_eq!(wrong[0].line, line, "{wrong:?}");
+            assert!(wrong[0].says.contains(named), "{wrong:?}");
+        }
+    }
+}
+
+#[test]
+fn utf_16_is_named() {
+    let text = unpack(&make::written::r1());
+    for bom in [true, false] {
+        for bytes in [u16::to_le_bytes, u16::to_be_bytes] {
+            let bom = bom.then_some(0xFEFF).into_iter();
+            let input: Vec<u8> = bom.chain(text.encode_utf16()).flat_map(bytes).collect();
+            assert!(is_meant_as_text(&input));
+            let wrong = pack(&input).expect_err("no UTF-8");
+            assert_eq!((wrong.len(), wrong[0].line), (1, 1), "{wrong:?}");
+            assert!(wrong[0].says.contains("UTF-16"), "{wrong:?}");
+        }
+    }
+}
+
+#[test]
+fn every_line_end_is_one() {
+    let text = "# one\nFU issue=1 profile=1 fuel=4.00 emission=1.00\n\nLC issue=1 cost=1.00\nRS\n";
+    let wrong = pack(text.as_bytes()).expect_err("an RS without fields");
+    assert_eq!(wrong[0].line, 5);
+    for end in ["\r", "\r\n"] {
+        let other = text.replace('\n', end);
+        assert!(is_text(other.as_bytes()));
+        assert_eq!(pack(other.as_bytes()), Err(wrong.clone()), "{end:?}");
+        let good = |text: &str| packed(&text.replace("RS", "# RS"));
+        assert_eq!(good(&other), good(text), "{end:?}");
+    }
+}
+
+/// No dossier that begins with a record, in range or not, is taken for a text; but for LC alone.
+#[test]
+fn damaged_dossiers_are_no_text() {
+    run("dossiers", 20_000, make::dossier, |_, dossier| {
+        let other = records(dossier).any(|r| r.mark.letters != "LC");
+        same("taken for text", other && is_meant_as_text(dossier), false)
+    });
+}
+
+/// A text with any byte that no text has, anywhere, is taken for text and refused in that line.
+#[test]
+fn damaged_texts_are_text() {
+    run("damaged texts", 10_000, readable, |random, dossier| {
+        let mut text = unpack(dossier).into_bytes();
+        if text.is_empty() {
+            return Ok(());
+        }
+        let at = random.below(text.len() as u64 - 1) as usize;
+        let line = 1 + text[..at].iter().filter(|b| **b == b'\n').count();
+        text.insert(at, random.pick(b"\0\x1a\x0c\x1b\xe9\xff\x80"));
+        same("taken for text", is_meant_as_text(&text), true)?;
+        let wrong = pack(&text).expect_err("a byte that no text has");
+        same("its line", (wrong.len(), wrong[0].line), (1, line))
+    });
 }
