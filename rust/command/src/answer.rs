@@ -3,7 +3,7 @@
 use crate::args::Args;
 use crate::explain::Explained;
 use crate::form::Form;
-use crate::input::{NoInput, STANDARD};
+use crate::input::{Name, NoInput, STANDARD};
 use crate::json::{object, Json};
 use crate::output::apart_from_standard_output;
 use crate::text::WrongLine;
@@ -179,7 +179,7 @@ pub fn only_file(args: &Args) -> Result<OsString, Stop> {
 
 /// The answer to a single input, in full. A refusal is an error; in JSON and in a table it is an
 /// answer as well.
-pub fn one(form: &Form, streams: &mut Streams, name: &str, said: &Said) -> io::Result<Status> {
+pub fn one(form: &Form, streams: &mut Streams, name: &Name, said: &Said) -> io::Result<Status> {
     if matches!(said.status, Status::Refused | Status::Wrong) {
         write!(streams.err, "{name}: {}", said.words)?;
     } else if form.is_words() {
@@ -197,6 +197,6 @@ pub fn one(form: &Form, streams: &mut Streams, name: &str, said: &Said) -> io::R
 }
 
 /// The answer as an object.
-pub fn with_file(name: &str, said: &Said) -> Json {
-    object([("file", Json::text(name))]).and(said.json.clone())
+pub fn with_file(name: &Name, said: &Said) -> Json {
+    name.json().and(said.json.clone())
 }

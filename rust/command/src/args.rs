@@ -1,7 +1,10 @@
 //! The words of a command line: files, and options with or without a value.
 
 use crate::input::STANDARD;
+use crate::near::hint;
+use crate::text::quoted;
 use std::ffi::{OsStr, OsString};
+use std::os::unix::ffi::OsStrExt;
 
 /// The files and options of one call.
 #[derive(Debug, Default)]
@@ -19,13 +22,11 @@ impl Args {
         let mut args = Args::default();
         let mut words = words.iter();
         while let Some(word) = words.next() {
-            let shown = word.to_string_lossy();
-            if shown == "--" {
+            let bytes = word.as_bytes();
+            if bytes == b"--" {
                 args.files.extend(words.by_ref().cloned());
-            } else if let Some(option) = shown.strip_prefix("--") {
-                args.option(option, &mut words, choices)?;
-            } else if shown.starts_with('-') && shown != STANDARD {
-                return Err(format!("no option is called {shown}"));
+            } else if bytes.starts_with(b"-") && word != STANDARD {
+                args.option(bytes, &mut words, choices)?;
             } else {
                 args.files.push(word.clone());
             }
@@ -37,19 +38,20 @@ impl Args {
         Ok(args)
     }
 
-    /// Takes one option, with its value behind `=` or as the next word.
+    /// Takes one option, with its value behind `=` or as the next word. The value may be any bytes.
     fn option<'a>(
         &mut self,
-        option: &str,
+        word: &[u8],
         words: &mut impl Iterator<Item = &'a OsString>,
         choices: &'static [Choice],
     ) -> Result<(), String> {
-        let (name, behind) = match option.split_once('=') {
-            Some((name, value)) => (name, Some(OsString::from(value))),
-            None => (option, None),
+        let (option, behind) = match word.iter().position(|b| *b == b'=') {
+            Some(at) => (&word[..at], Some(OsStr::from_bytes(&word[at + 1..]).into())),
+            None => (word, None),
         };
-        let Some(&(name, valued)) = choices.iter().find(|(n, _)| *n == name) else {
-            return Err(format!("no option is called --{name}"));
+        let is_it = |(name, _): &&Choice| option.strip_prefix(b"--") == Some(name.as_bytes());
+        let Some(&(name, valued)) = choices.iter().find(is_it) else {
+            return Err(unknown(&String::from_utf8_lossy(option), choices));
         };
         if self.has(name) {
             return Err(format!("--{name} stands twice"));
@@ -99,11 +101,27 @@ impl Args {
     }
 }
 
+/// What is said of an option that there isn't.
+fn unknown(option: &str, choices: &[Choice]) -> String {
+    let names: Vec<String> = choices
+        .iter()
+        .map(|(name, _)| format!("--{name}"))
+        .collect();
+    let names: Vec<&str> = names.iter().map(String::as_str).collect();
+    let meant = hint(&format!("--{}", option.trim_start_matches('-')), &names);
+    format!("no option is called {}{meant}", quoted(option))
+}
+
 /// A whole number from `lowest` to `highest`.
 pub fn whole(text: &str, lowest: u32, highest: u32) -> Result<u32, String> {
     let number = text.parse().ok().filter(|n| (lowest..=highest).contains(n));
     let digits = text.bytes().all(|b| b.is_ascii_digit());
-    let says = || format!("'{text}' is no whole number from {lowest} to {highest}");
+    let says = || {
+        format!(
+            "{} is no whole number from {lowest} to {highest}",
+            quoted(text)
+        )
+    };
     number.filter(|_| digits).ok_or_else(says)
 }
 

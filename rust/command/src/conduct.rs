@@ -10,7 +10,7 @@ use crate::json::{object, Json};
 use crate::levels::{dollars, megawatts};
 use crate::many::each;
 use crate::offer::{self, highest_for, highest_in, Pair};
-use crate::unit::{CONDITION, DOLLARS, LEVEL};
+use crate::unit::{CONDITION, DOLLARS, LEVEL, MEGAWATTS};
 use bench::{energy_test, price_test, Failing, Lamination, Verdict};
 
 /// What is put to the test.
@@ -171,7 +171,7 @@ fn energy(input: &Input, question: &Question, pairs: &[Pair], fails: Option<Fail
 fn failing(pairs: &[Pair], fails: Failing) -> String {
     let Failing { pair, lamination } = fails;
     let before = pair.checked_sub(2).and_then(|i| pairs.get(i));
-    let from = megawatts(before.map_or(0, |p| p.quantity));
+    let from = MEGAWATTS.write(before.map_or(0, |p| p.quantity));
     let this = pair.checked_sub(1).and_then(|i| pairs.get(i));
     let to = this.map_or(String::new(), Pair::text);
     format!("pair {pair}, {from} to {to}, in lamination {lamination}")

@@ -5,7 +5,7 @@ use crate::json::{object, Json};
 use crate::lacks::{current, lacks};
 use crate::lines::{Lines, Origin};
 use crate::marks::Mark;
-use crate::offer::Pair;
+use crate::offer::{broken, Pair};
 use crate::plain::text_behind;
 use crate::record::{records, Record};
 use crate::rules::{rule, Rule};
@@ -40,7 +40,7 @@ pub struct Standing {
 pub fn of_dossier(refusal: Refusal, dossier: &[u8], lines: &Lines) -> Explained {
     let at_record = matches!(refusal.number, 1..=4 | 6);
     let text = match refusal.number {
-        1..=3 if lines.is_empty() => text_behind(dossier, refusal.place),
+        1..=3 if lines.lines.is_empty() => text_behind(dossier, refusal.place),
         _ => None,
     };
     let at_place = |r: &Record| at_record && text.is_none() && r.start == refusal.place;
@@ -64,19 +64,36 @@ pub fn of_dossier(refusal: Refusal, dossier: &[u8], lines: &Lines) -> Explained 
 /// The refusal of an offer or a price put to a dossier.
 pub fn of_offer(refusal: Refusal, dossier: &[u8], lines: &Lines, offer: &[Pair]) -> Explained {
     let mut explained = of_dossier(refusal, dossier, lines);
-    let place = refusal.place / Pair::BYTES;
-    let pair = offer.get(place);
-    let offered = |pair: &Pair| format!("pair {} is {}", place + 1, pair.text());
     let station = || current(dossier, "RS", 0);
-    let detail = match (refusal.number, pair) {
-        (10 | 11, Some(pair)) => Some(offered(pair)),
-        (10, None) => Some(format!("the offer has {} pairs", offer.len())),
-        (12, _) => station().map(|rs| format!("the station is {}", rs.value("technology"))),
-        (14, _) => Some(thresholds(dossier)),
+    let detail = match refusal.number {
+        10 => Some(malformed(offer, refusal.place)),
+        11 => station().map(|rs| {
+            let (pair, capacity) = (offered(offer, refusal.place), rs.value("capacity"));
+            format!("{pair}; the capacity is {capacity} MW")
+        }),
+        12 => station().map(|rs| format!("the station is {}", rs.value("technology"))),
+        14 => Some(thresholds(dossier)),
         _ => None,
     };
     explained.details.extend(detail);
     explained
+}
+
+/// The pair at a place of an offer, in words.
+fn offered(offer: &[Pair], place: usize) -> String {
+    let at = place / Pair::BYTES;
+    let pair = offer.get(at).map_or(String::new(), Pair::text);
+    format!("pair {} is {pair}", at + 1)
+}
+
+/// Which rule an offer breaks that draws 10.
+fn malformed(offer: &[Pair], place: usize) -> String {
+    let broken = broken(offer, place / Pair::BYTES);
+    match (broken.is_empty(), offer.len()) {
+        (false, _) => format!("{}: {}", offered(offer, place), broken.join(", ")),
+        (true, 0) => "the offer has no pair; it takes 1 to 20".to_string(),
+        (true, count) => format!("the offer has {count} pairs; it takes 1 to 20"),
+    }
 }
 
 /// The conditions and levels that have a threshold.

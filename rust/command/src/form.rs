@@ -3,6 +3,7 @@
 use crate::answer::{with_file, Said, Stop};
 use crate::args::Args;
 use crate::csv;
+use crate::input::Name;
 
 /// How the answers of a call are written.
 #[derive(Clone, Copy, Debug)]
@@ -37,7 +38,7 @@ impl Form {
     }
 
     /// One answer of a call that has many. What has no line, a table, stands under its name.
-    pub fn among_many(&self, name: &str, said: &Said) -> String {
+    pub fn among_many(&self, name: &Name, said: &Said) -> String {
         match self {
             Form::Json => format!("{}\n", with_file(name, said)),
             Form::Csv(columns) => csv::rows(columns, &with_file(name, said)),

@@ -19,6 +19,7 @@ mod levels;
 pub mod lines;
 mod many;
 pub mod marks;
+mod near;
 pub mod offer;
 mod offers;
 mod output;
@@ -176,8 +177,10 @@ fn called(words: &[OsString], streams: &mut Streams) -> Result<Status, Stop> {
         _ => (first, rest),
     };
     let Some(command) = command(first) else {
-        let shown = input::name(first);
-        return Err(Stop::Use(format!("no command is called {shown}")));
+        let word = first.to_string_lossy();
+        let names: Vec<&str> = COMMANDS.iter().map(|c| c.name).collect();
+        let (shown, meant) = (text::quoted(&word), near::hint(&word, &names));
+        return Err(Stop::Use(format!("no command is called {shown}{meant}")));
     };
     let options = rest.iter().take_while(|word| *word != "--");
     if options.clone().any(asks) {

@@ -1,13 +1,14 @@
 //! Where a record was read: its line, where it came as text, and its file, where a station comes
 //! from several.
 
+use crate::input::Name;
 use crate::json::{object, Json};
 use crate::record::Record;
 
 /// One file of a station that comes from several.
 #[derive(Clone, Debug, PartialEq, Eq)]
 pub struct Part {
-    pub name: String,
+    pub name: Name,
     /// How many records of the dossier lie before its first.
     pub records: usize,
     /// How many bytes do.
@@ -27,7 +28,7 @@ pub struct Lines {
 #[derive(Clone, Debug, PartialEq, Eq)]
 pub struct Origin {
     /// Its file, where there are several.
-    pub file: Option<String>,
+    pub file: Option<Name>,
     /// Its line, where the file is text.
     pub line: Option<usize>,
     /// Its first byte in a file of bytes; in the dossier, where there is one file.
@@ -79,7 +80,7 @@ impl Origin {
             None => Json::whole(self.place),
         };
         match &self.file {
-            Some(file) => object([("file", Json::text(file)), ("place-in-file", place)]),
+            Some(file) => file.json().with("place-in-file", place),
             None => object([]),
         }
     }

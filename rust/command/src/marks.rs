@@ -242,20 +242,27 @@ impl Mark {
         })
     }
 
+    /// Where a field stands among the fields. To ask for one that the mark doesn't have is an error of
+    /// the program.
+    pub fn position(&self, name: &str) -> usize {
+        let place = self.fields.iter().position(|f| f.name == name);
+        place.unwrap_or_else(|| panic!("{} has no field '{name}'", self.letters))
+    }
+
     /// What 3 asks of two fields together, in words: a request's hours, and the window of an RS that
-    /// isn't hydroelectric. `number` gives the number of a field.
-    pub fn disagrees(&self, number: impl Fn(&str) -> i128) -> Option<String> {
+    /// isn't hydroelectric. `number` gives the number of a field, if it is known.
+    pub fn disagrees(&self, number: impl Fn(&str) -> Option<i128>) -> Option<String> {
         match self.letters {
-            "RQ" if number("first") > number("last") => Some(format!(
-                "first={} is after last={}",
-                number("first"),
-                number("last")
-            )),
-            "RS" if number("technology") != HYDRO && number("window") > SHORT_WINDOW => {
-                Some(format!(
-                    "window={}: 0 to {SHORT_WINDOW} hours unless technology=hydro",
-                    number("window")
-                ))
+            "RQ" => {
+                let (first, last) = (number("first")?, number("last")?);
+                (first > last).then(|| format!("first={first} is after last={last}"))
+            }
+            "RS" => {
+                let (technology, window) = (number("technology")?, number("window")?);
+                let says = || {
+                    format!("window={window}: 0 to {SHORT_WINDOW} hours unless technology=hydro")
+                };
+                (technology != HYDRO && window > SHORT_WINDOW).then(says)
             }
             _ => None,
         }
@@ -296,7 +303,7 @@ impl Field {
 
     /// The range in words.
     pub fn range(&self) -> String {
-        let words: Vec<&str> = self.unit.words.iter().map(|(word, _)| *word).collect();
+        let words = self.unit.all_words();
         if self.is_word() {
             return listed(&words);
         }

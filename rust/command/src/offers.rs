@@ -8,7 +8,7 @@ use crate::args::Args;
 use crate::conduct::test;
 use crate::csv;
 use crate::form::Form;
-use crate::input::{is_cut, name, read, read_bytes, Input};
+use crate::input::{is_cut, name, read, read_bytes, Input, Name};
 use crate::json::{object, Json};
 use crate::many::{count, counted, Progress};
 use crate::text::{is_text, WrongLine};
@@ -79,7 +79,7 @@ impl Shelf {
 struct Answer {
     line: usize,
     /// The station's name, where the line tells one.
-    station: Option<String>,
+    station: Option<Name>,
     said: Said,
 }
 
@@ -96,10 +96,9 @@ impl Answer {
                 };
             }
         };
-        let names: Vec<String> = asked.stations.iter().map(|file| name(file)).collect();
         Answer {
             line,
-            station: Some(names.join(" + ")),
+            station: Some(Name::joined(&asked.stations)),
             said: match shelf.station(&asked.stations) {
                 Ok(input) => test(input, &asked.question),
                 Err(said) => said,
@@ -119,11 +118,9 @@ impl Answer {
     }
 
     fn json(&self) -> Json {
-        let station = self.station.as_ref();
-        let line = object([
-            ("line", Json::whole(self.line)),
-            ("file", station.map_or(Json::Null, Json::text)),
-        ]);
-        line.and(self.said.json.clone())
+        let unnamed = || object([("file", Json::Null)]);
+        let file = self.station.as_ref().map_or_else(unnamed, Name::json);
+        let line = object([("line", Json::whole(self.line))]);
+        line.and(file).and(self.said.json.clone())
     }
 }

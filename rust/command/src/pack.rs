@@ -4,7 +4,7 @@ use crate::answer::{one, only_file, refused, wrong_lines, Said, Status, Stop, St
 use crate::args::Args;
 use crate::explain::of_dossier;
 use crate::form::Form;
-use crate::input::{is_cut, name, read_bytes};
+use crate::input::{is_cut, name, read_bytes, Name};
 use crate::lines::Lines;
 use crate::output;
 use crate::text::{is_meant_as_text, is_text, pack as packed, unpack as unpacked};
@@ -75,7 +75,7 @@ fn convert(
 fn finish(
     args: &Args,
     streams: &mut Streams,
-    name: &str,
+    name: &Name,
     result: Result<Vec<u8>, Said>,
 ) -> Result<Status, Stop> {
     match (result, args.value("out")) {

@@ -68,9 +68,10 @@ impl Lines {
         let limit = |(step, price): (&Lamination, &Option<i32>)| {
             price.map(|price| (step.from, step.to, i128::from(price)))
         };
-        let ends = pairs.iter().map(|pair| pair.quantity);
-        let starts = [0].into_iter().chain(ends);
-        let price = |(from, pair): (u16, &Pair)| (from, pair.quantity, i128::from(pair.price));
+        // A pair that was tested reaches no higher than a capacity.
+        let end = |pair: &Pair| pair.quantity.clamp(0, u16::MAX.into()) as u16;
+        let starts = [0].into_iter().chain(pairs.iter().map(end));
+        let price = |(from, pair): (u16, &Pair)| (from, end(pair), pair.price);
         let limited = picture.steps.iter().zip(highest);
         Lines {
             levels: picture.steps.iter().map(level).collect(),

@@ -39,16 +39,20 @@ impl Record<'_> {
         self.mark.places().map(number)
     }
 
-    /// The number of a field; 0 if the mark has none of that name.
+    /// The number of a field, which the mark must have.
     pub fn get(&self, name: &str) -> i128 {
-        let mut fields = self.fields();
-        fields.find(|(f, _)| f.name == name).map_or(0, |(_, n)| n)
+        self.named(name).1
     }
 
-    /// A field as people write it; empty if the mark has none of that name.
+    /// A field as people write it; the mark must have it.
     pub fn value(&self, name: &str) -> String {
-        let field = self.mark.field(name);
-        field.map_or(String::new(), |(f, _)| f.unit.write(self.get(name)))
+        let (field, number) = self.named(name);
+        field.unit.write(number)
+    }
+
+    fn named(&self, name: &str) -> (&'static Field, i128) {
+        let mut fields = self.fields().skip(self.mark.position(name));
+        fields.next().expect("as many as the mark has")
     }
 
     /// The record as a line of text.
@@ -80,7 +84,7 @@ impl Record<'_> {
         let mut faults: Vec<String> = wrong
             .map(|(f, n)| format!("{}: {}", f.text(n), f.range()))
             .collect();
-        faults.extend(self.mark.disagrees(|name| self.get(name)));
+        faults.extend(self.mark.disagrees(|name| Some(self.get(name))));
         faults
     }
 }
@@ -89,4 +93,30 @@ impl Record<'_> {
 fn joined(fields: impl Iterator<Item = (&'static Field, i128)>) -> String {
     let fields: Vec<String> = fields.map(|(f, n)| f.text(n)).collect();
     fields.join(" ")
+}
+
+#[cfg(test)]
+mod tests {
+    use super::*;
+
+    const LINE: &[u8] = b"LC\0\0\0\x03\0\0\0\x0a";
+
+    #[test]
+    fn fields_by_name() {
+        let record = records(LINE).next().expect("a record");
+        assert_eq!((record.get("issue"), record.get("cost")), (3, 10));
+        assert_eq!(record.value("cost"), "0.00001");
+    }
+
+    #[test]
+    #[should_panic(expected = "LC has no field 'csot'")]
+    fn a_misspelt_field_is_no_0() {
+        records(LINE).next().expect("a record").get("csot");
+    }
+
+    #[test]
+    #[should_panic(expected = "LC has no field 'fuel'")]
+    fn a_field_of_another_mark_is_not_empty() {
+        records(LINE).next().expect("a record").value("fuel");
+    }
 }

@@ -4,10 +4,10 @@
 //! `#` is a comment. `pack` and `unpack` undo each other.
 
 use crate::marks::{listed, Field, Mark, MARKS};
+use crate::near::hint;
 use crate::plain::{clean, is_utf_16, lines};
 pub use crate::plain::{is_meant_as_text, is_text};
 use crate::record::records;
-use crate::unit::Unreadable;
 
 /// The longest dossier, in bytes.
 pub const LONGEST: usize = 60_000;
@@ -72,11 +72,7 @@ fn record(line: &[u8]) -> Result<Vec<u8>, String> {
     };
     let Some(mark) = Mark::of(letters.as_bytes()) else {
         let known: Vec<&str> = MARKS.iter().map(|m| m.letters).collect();
-        return Err(format!(
-            "{} is no mark: {}",
-            quoted(letters),
-            listed(&known)
-        ));
+        return Err(unknown(letters, "mark", &known));
     };
     let numbers = numbers(mark, words).map_err(|says| format!("{letters}: {says}"))?;
     let fields = mark.fields.iter().zip(numbers);
@@ -84,52 +80,80 @@ fn record(line: &[u8]) -> Result<Vec<u8>, String> {
     Ok(letters.bytes().chain(bytes).collect())
 }
 
-/// The numbers of a line's fields in the order of the bytes, if 3 allows them.
+/// The numbers of a line's fields in the order of the bytes, if 3 allows them, or all that is wrong.
 fn numbers<'a>(mark: &Mark, words: impl Iterator<Item = &'a str>) -> Result<Vec<i128>, String> {
-    let mut found = vec![None; mark.fields.len()];
-    for word in words {
-        let Some((name, value)) = word.split_once('=') else {
-            return Err(format!("{} is no field: name=value", quoted(word)));
-        };
-        let Some(at) = mark.fields.iter().position(|f| f.name == name) else {
-            let names: Vec<&str> = mark.fields.iter().map(|f| f.name).collect();
-            return Err(format!("{} is no field: {}", quoted(name), listed(&names)));
-        };
-        if found[at].is_some() {
-            return Err(format!("{name} stands twice"));
+    let (values, mut wrong) = values(mark, words);
+    let mut numbers = Vec::new();
+    for (field, value) in mark.fields.iter().zip(values) {
+        let missing = || Err(format!("{} is missing: {}", field.name, field.range()));
+        match value.map_or_else(missing, |value| number(field, value)) {
+            Ok(number) => numbers.push(Some(number)),
+            Err(says) => {
+                numbers.push(None);
+                wrong.push(says);
+            }
         }
-        found[at] = Some(number(&mark.fields[at], value)?);
     }
-    let missing = |f: &Field| format!("{} is missing: {}", f.name, f.range());
-    let fields = mark.fields.iter().zip(found);
-    let numbers: Vec<i128> = fields
-        .map(|(f, n)| n.ok_or_else(|| missing(f)))
-        .collect::<Result<_, _>>()?;
-    let named = |name: &str| {
-        let at = mark.fields.iter().position(|f| f.name == name);
-        at.map_or(0, |at| numbers[at])
+    wrong.extend(mark.disagrees(|name| numbers[mark.position(name)]));
+    match wrong.is_empty() {
+        true => Ok(numbers.into_iter().flatten().collect()),
+        false => Err(wrong.join("; ")),
+    }
+}
+
+/// How many words of one line are told that are no field.
+const MOST_WORDS: usize = 20;
+
+/// The values of a line's fields in the order of the bytes, and what is wrong with its words.
+fn values<'a>(
+    mark: &Mark,
+    words: impl Iterator<Item = &'a str>,
+) -> (Vec<Option<&'a str>>, Vec<String>) {
+    let (mut values, mut wrong) = (vec![None; mark.fields.len()], Vec::new());
+    for word in words {
+        match value(mark, word) {
+            Ok((at, _)) if values[at].is_some() => {
+                wrong.push(format!("{} stands twice", mark.fields[at].name));
+            }
+            Ok((at, value)) => values[at] = Some(value),
+            Err(says) => wrong.push(says),
+        }
+        if wrong.len() == MOST_WORDS {
+            wrong.push("and perhaps more".to_string());
+            break;
+        }
+    }
+    (values, wrong)
+}
+
+/// Which field a word is for, and its value.
+fn value<'a>(mark: &Mark, word: &'a str) -> Result<(usize, &'a str), String> {
+    let Some((name, value)) = word.split_once('=') else {
+        return Err(format!("{} is no field: name=value", quoted(word)));
     };
-    match mark.disagrees(named) {
-        Some(says) => Err(says),
-        None => Ok(numbers),
+    let names: Vec<&str> = mark.fields.iter().map(|f| f.name).collect();
+    match names.iter().position(|n| *n == name) {
+        Some(at) => Ok((at, value)),
+        None => Err(unknown(name, "field", &names)),
     }
+}
+
+/// What a word is not, the one that was perhaps meant, and those that there are.
+fn unknown(word: &str, what: &str, known: &[&str]) -> String {
+    let (shown, meant) = (quoted(word), hint(word, known));
+    format!("{shown} is no {what}{meant}: {}", listed(known))
 }
 
 /// The number of a field, if it lies in its range.
 fn number(field: &Field, value: &str) -> Result<i128, String> {
-    let places = match field.unit.read(value) {
+    let says = match field.unit.read(value) {
         Ok(number) if field.allows(number) => return Ok(number),
-        _ if field.is_word() => String::new(),
-        Err(Unreadable::Places(0)) => "a whole number, ".to_string(),
-        Err(Unreadable::Places(places)) => format!("at most {places} places after the point, "),
+        Err(why) if !field.is_word() => why.says(),
         _ => String::new(),
     };
-    Err(format!(
-        "{}={}: {places}{}",
-        field.name,
-        shortened(value),
-        field.range()
-    ))
+    let meant = hint(value, &field.unit.all_words());
+    let (name, value) = (field.name, shortened(value));
+    Err(format!("{name}={value}{says}{meant}: {}", field.range()))
 }
 
 /// A word of the text between quotes.

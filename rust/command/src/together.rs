@@ -7,7 +7,7 @@ use crate::answer::{files, one, only_file, refused, Said, Status, Stop, Streams}
 use crate::args::Args;
 use crate::explain::of_dossier;
 use crate::form::Form;
-use crate::input::{self, Input};
+use crate::input::{self, Input, Name};
 use crate::json::{object, Json};
 use crate::lines::{Lines, Part};
 use crate::record::records;
@@ -22,17 +22,17 @@ pub fn ask(
 ) -> Result<Status, Stop> {
     let (name, said) = match join(files) {
         Ok(input) => (input.name.clone(), ask(&input)),
-        Err(wrong) => (joined_name(files), wrong),
+        Err(wrong) => (Name::joined(files), wrong),
     };
     Ok(one(form, streams, &name, &with_files(files, said))?)
 }
 
 /// The station of a call that takes one: from its only file, or from all of them together. Without
 /// one, what is said of that, under its name.
-pub fn only(args: &Args) -> Result<Result<Input, (String, Said)>, Stop> {
+pub fn only(args: &Args) -> Result<Result<Input, (Name, Said)>, Stop> {
     if args.has("together") {
         let files = files(args)?;
-        let wrong = |said| (joined_name(&files), with_files(&files, said));
+        let wrong = |said| (Name::joined(&files), with_files(&files, said));
         return Ok(join(&files).map_err(wrong));
     }
     let file = only_file(args)?;
@@ -42,15 +42,10 @@ pub fn only(args: &Args) -> Result<Result<Input, (String, Said)>, Stop> {
 
 /// The names of the files in an answer's object, before what is said of them.
 fn with_files(files: &[OsString], said: Said) -> Said {
-    let names = files.iter().map(|file| Json::text(input::name(file)));
+    let names = files.iter().map(|file| input::name(file).file);
     let names = object([("files", Json::List(names.collect()))]);
     let json = names.and(said.json);
     Said { json, ..said }
-}
-
-fn joined_name(files: &[OsString]) -> String {
-    let names: Vec<String> = files.iter().map(|file| input::name(file)).collect();
-    names.join(" + ")
 }
 
 /// The station that files form, or what is said of those that can't be taken.
@@ -62,7 +57,7 @@ pub fn join(files: &[OsString]) -> Result<Input, Said> {
             Err(said) => wrong.push((input::name(file), said)),
         }
     }
-    let name = joined_name(files);
+    let name = Name::joined(files);
     match wrong.is_empty() {
         true => Ok(Input {
             name,
@@ -97,16 +92,15 @@ fn append(dossier: &mut Vec<u8>, lines: &mut Lines, input: Input) {
 }
 
 /// What is said of files that can't be taken, each under its name.
-fn all_wrong(wrong: Vec<(String, Said)>) -> Said {
-    let told = |(name, said): &(String, Said)| {
+fn all_wrong(wrong: Vec<(Name, Said)>) -> Said {
+    let told = |(name, said): &(Name, Said)| {
         format!(
             "\n  {name}: {}",
             said.words.trim_end().replace('\n', "\n  ")
         )
     };
     let words: String = wrong.iter().map(told).collect();
-    let object =
-        |(name, said): &(String, Said)| object([("file", Json::text(name))]).and(said.json.clone());
+    let object = |(name, said): &(Name, Said)| name.json().and(said.json.clone());
     let objects = wrong.iter().map(object).collect();
     let head = match wrong.len() {
         1 => "a file can't be taken".to_string(),

@@ -48,11 +48,31 @@ pub enum Unreadable {
     NoNumber,
     /// It has more places after the point than this.
     Places(usize),
+    /// It is a number that is written as a word.
+    OfWord,
+}
+
+impl Unreadable {
+    /// What is wrong, to go behind the value: ` is no number`.
+    pub fn says(self) -> String {
+        match self {
+            Unreadable::NoNumber => " is no number".to_string(),
+            Unreadable::Places(0) => " is no whole number".to_string(),
+            Unreadable::Places(1) => " has more than 1 place after the point".to_string(),
+            Unreadable::Places(most) => format!(" has more than {most} places after the point"),
+            Unreadable::OfWord => String::new(),
+        }
+    }
 }
 
 impl Unit {
     pub const fn with_words(self, words: &'static [(&'static str, i128)]) -> Unit {
         Unit { words, ..self }
+    }
+
+    /// The words, in their order.
+    pub fn all_words(&self) -> Vec<&'static str> {
+        self.words.iter().map(|(word, _)| *word).collect()
     }
 
     /// The word of a number, if it has one.
@@ -88,7 +108,7 @@ impl Unit {
         }
         let number = self.read_digits(text)?;
         match self.word(number) {
-            Some(_) => Err(Unreadable::NoNumber),
+            Some(_) => Err(Unreadable::OfWord),
             None => Ok(number),
         }
     }
@@ -153,7 +173,7 @@ mod tests {
         }
         assert_eq!(DOLLARS.read("1.234"), Err(Unreadable::Places(2)));
         assert_eq!(PLAIN.read("1.0"), Err(Unreadable::Places(0)));
-        assert_eq!(LEVEL.read("3"), none);
+        assert_eq!(LEVEL.read("3"), Err(Unreadable::OfWord));
         assert_eq!(LEVEL.read("No-load"), none);
         assert_eq!(PLAIN.read(&"9".repeat(10_000)), Ok(i128::MAX));
         assert_eq!(PLAIN.read(&format!("-{}", "9".repeat(50))), Ok(-i128::MAX));

@@ -16,6 +16,8 @@ use model::make::offers::Target;
 use model::random::Random;
 use std::ffi::OsString;
 
+const THERMAL: &[u8] = include_bytes!("../../../examples/thermal.txt");
+
 /// Refused with the library's number and place, in words that name the record which stands there.
 #[test]
 fn refusals_name_their_record() {
@@ -83,7 +85,10 @@ fn the_highest_prices_are_the_limits() {
         let condition = make::offers::condition(random);
         let lamination = levels.energy[random.below(levels.energy.len() as u64) as usize];
         let offer = |price| {
-            let pair = |quantity, price| Pair { quantity, price };
+            let pair = |quantity: u16, price: i32| Pair {
+                quantity: quantity.into(),
+                price: price.into(),
+            };
             let pairs = [pair(lamination.from, -200_000), pair(lamination.to, price)];
             bytes(&pairs[usize::from(lamination.from == 0)..])
         };
@@ -273,4 +278,157 @@ fn text_and_bytes_in_one_input_are_told() {
     let ended = call(&["check", file.name()]);
     let told = "line 3: byte 1 begins a record RS in bytes, behind text";
     assert!(ended.err.contains(told), "{}", ended.err);
+}
+
+/// An offer is refused by number whatever its size: as the rule says, not as its bytes would hold it.
+#[test]
+fn offers_are_refused_by_number_whatever_their_size() {
+    let file = Kept::new(THERMAL);
+    let test = |offer: &str| {
+        let condition = ["--hour=0", "--condition=narrow"];
+        let offer = ["test", file.name(), &format!("--offer={offer}"), "--json"];
+        call(&[&offer[..], &condition].concat())
+    };
+    let nines = "9".repeat(60);
+    for (offer, number, place) in [
+        ("2000.1@10.00", 11, 0),
+        ("7000@10.00", 11, 0),
+        ("50@1,7000@2,8000@3,9000@4", 11, 6),
+        ("7000@1,7000@2", 10, 6),
+        ("8000@1,7000@2", 10, 6),
+        ("70000@1,7000@2", 10, 6),
+        (&format!("{nines}@1"), 11, 0),
+        ("-5@10.00", 10, 0),
+        ("50@10.00,-5@11.00", 10, 6),
+        ("50@2000.01", 10, 0),
+        ("50@99999999.00", 10, 0),
+        ("50@-99999999999999999999.00", 10, 0),
+        ("50@99999999.00,40@-99999999.00", 10, 0),
+        ("50@10.00,60@99999999.00", 10, 6),
+        (&format!("{}1@1", "1@1,".repeat(9_000)), 10, 54_006),
+        ("", 10, 0),
+    ] {
+        let ended = test(offer);
+        let refused = format!("\"refused\":{{\"number\":{number},\"place\":{place},");
+        assert_eq!(ended.status, Status::Refused, "{}", ended.err);
+        assert!(ended.out.contains(&refused), "{offer}: {}", ended.out);
+    }
+    for (offer, told) in [
+        (
+            "4,50@1.00",
+            "'4' is no pair: quantity@price, as in 50.0@42.30",
+        ),
+        (".5@1.00", "'.5' is no number: 0.1 to 2000.0 MW"),
+        (
+            "1@$4.00",
+            "'$4.00' is no number: -2000.00 to 2000.00 dollars per MWh",
+        ),
+        (
+            "1@1e2,+1@1",
+            "'1e2' is no number: -2000.00 to 2000.00 dollars per MWh; '+1' is no number",
+        ),
+        (
+            "1.05@1",
+            "'1.05' has more than 1 place after the point: 0.1 to 2000.0 MW",
+        ),
+        (
+            "1@1.005",
+            "'1.005' has more than 2 places after the point: -2000.00 to",
+        ),
+    ] {
+        let ended = test(offer);
+        assert_eq!(ended.status, Status::Wrong, "{offer}");
+        assert!(ended.err.contains(told), "{offer}: {}", ended.err);
+    }
+}
+
+/// Which of its rules an offer broke that draws 10, and how the capacity stands to one that draws 11.
+#[test]
+fn a_malformed_offer_is_told_by_its_rule() {
+    let file = Kept::new(THERMAL);
+    for (offer, told) in [
+        (
+            "50@10,50@11",
+            "pair 2 is 50.0 MW at 11.00: its quantity doesn't rise above the 50.0 MW before it",
+        ),
+        (
+            "0@10",
+            "pair 1 is 0.0 MW at 10.00: its quantity isn't above 0",
+        ),
+        (
+            "50@10,60@9",
+            "pair 2 is 60.0 MW at 9.00: its price falls below the 10.00 before it",
+        ),
+        (
+            "50@2000.01",
+            "pair 1 is 50.0 MW at 2000.01: its price isn't from -2000.00 to 2000.00",
+        ),
+        (
+            "50@10,40@9",
+            "before it, its price falls below the 10.00 before it",
+        ),
+        (
+            &["1@1"; 21].join(","),
+            "the offer has 21 pairs; it takes 1 to 20",
+        ),
+        ("", "the offer has no pair; it takes 1 to 20"),
+        (
+            "101@10",
+            "pair 1 is 101.0 MW at 10.00; the capacity is 100.0 MW",
+        ),
+    ] {
+        let offer = format!("--offer={offer}");
+        let ended = call(&[
+            "test",
+            file.name(),
+            "--hour=0",
+            "--condition=narrow",
+            &offer,
+        ]);
+        assert_eq!(ended.status, Status::Refused, "{offer}");
+        assert!(ended.err.contains(told), "{told} in {}", ended.err);
+    }
+}
+
+/// Wrong words are shown in part, with the word that was perhaps meant.
+#[test]
+fn wrong_use_is_told_in_short_with_a_hint() {
+    let long = "x".repeat(100_000);
+    let option = format!("--{long}");
+    for (words, told) in [
+        (
+            &["chek"][..],
+            "no command is called 'chek' (did you mean check?)",
+        ),
+        (
+            &["help", "lvels"],
+            "no command is called 'lvels' (did you mean levels?)",
+        ),
+        (
+            &["levels", "--huor", "1"],
+            "no option is called '--huor' (did you mean --hour?)",
+        ),
+        (
+            &["levels", "-json"],
+            "no option is called '-json' (did you mean --json?)",
+        ),
+        (
+            &["test", "--hour=0", "--condition=narow"],
+            "'narow' is not narrow, broad or global (did you mean narrow?)",
+        ),
+        (&[&long], "no command is called 'xxxx"),
+        (&["check", &option], "no option is called '--xxx"),
+        (&["levels", "--hour", &long], "'xxxx"),
+        (&["test", "--hour=0", "--condition", &long], "'xxxx"),
+        (
+            &["test", "--hour=0", "--condition=narrow", "--offer", &long],
+            "'xxxx",
+        ),
+        (&["check", &long], "xxxx"),
+    ] {
+        let ended = call(words);
+        assert_eq!(ended.status, Status::Wrong, "{:.60?}", words);
+        assert!(ended.err.contains(told), "{told} in {:.200}", ended.err);
+        assert!(ended.err.len() < 800, "{} bytes", ended.err.len());
+    }
 }

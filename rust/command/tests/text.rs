@@ -162,7 +162,8 @@ fn spoilt(random: &mut Random, line: &str) -> (String, String) {
         }
         2 => {
             words[at] = value("much");
-            format!("{}: {range}", value("much"))
+            let says = if field.is_word() { "" } else { " is no number" };
+            format!("{}{says}: {range}", value("much"))
         }
         3 => {
             words[at] = format!("{name}s=1");
@@ -329,4 +330,79 @@ fn damaged_texts_are_text() {
         let wrong = pack(&text).expect_err("a byte that no text has");
         same("its line", (wrong.len(), wrong[0].line), (1, line))
     });
+}
+
+/// What is no number is told as that, not by a range that it seems to lie in.
+#[test]
+fn what_is_no_number_is_told() {
+    let line = |value: &str| format!("FU issue=1 profile=1 fuel={value} emission=1.00");
+    let says = |line: &str| pack(line.as_bytes()).expect_err("wrong")[0].says.clone();
+    for value in [
+        ".5", "4.", "+4.00", "4,50", "$4.00", "1e2", "0x4", "4.0.0", "-", "four",
+    ] {
+        let told = format!("FU: fuel={value} is no number: 0.00 to 400.00 dollars");
+        assert_eq!(says(&line(value)), told);
+    }
+    assert_eq!(
+        says(&line("400.01")),
+        "FU: fuel=400.01: 0.00 to 400.00 dollars"
+    );
+    let places =
+        "FU: fuel=4.0000001 has more than 6 places after the point: 0.00 to 400.00 dollars";
+    assert_eq!(says(&line("4.0000001")), places);
+    let whole = "HP issue=1 point=1 output=1.0 heat=1.5";
+    assert!(says(whole).contains("heat=1.5 is no whole number: 0 to 20000000 MJ per hour"));
+    let withdrawn = "RQ issue=1 request=1 first=0 last=1 profile=0";
+    assert_eq!(says(withdrawn), "RQ: profile=0: 1 to 4, or withdrawn");
+}
+
+#[test]
+fn every_wrong_field_of_a_line_is_told() {
+    let line = "RS issue=x technology=nuclear capacity=0.0 capacity=1.0 what no=1 window=169";
+    let wrong = pack(line.as_bytes()).expect_err("wrong");
+    assert_eq!(wrong.len(), 1);
+    for told in [
+        "issue=x is no number: 0 to 4294967295",
+        "capacity=0.0: 0.1 to 2000.0 MW",
+        "capacity stands twice",
+        "'what' is no field: name=value",
+        "'no' is no field: ",
+        "factor is missing: ",
+        "efficiency is missing: ",
+        "window=169: 0 to 168 hours unless technology=hydro",
+    ] {
+        assert!(wrong[0].says.contains(told), "{told} in {}", wrong[0].says);
+    }
+}
+
+#[test]
+fn near_misses_are_hinted_at() {
+    for (line, told) in [
+        ("fu issue=1", "'fu' is no mark (did you mean FU?)"),
+        ("FU isue=1", "'isue' is no field (did you mean issue?)"),
+        (
+            "FU emision=1",
+            "'emision' is no field (did you mean emission?)",
+        ),
+        (
+            "RS tech=thermal",
+            "'tech' is no field (did you mean technology?)",
+        ),
+        (
+            "RS technology=Thermal",
+            "technology=Thermal (did you mean thermal?): ",
+        ),
+        (
+            "AD cost=schedled",
+            "cost=schedled (did you mean scheduled?): ",
+        ),
+        (
+            "TH margin=nnoe",
+            "margin=nnoe is no number (did you mean none?): ",
+        ),
+        ("FU much=1", "'much' is no field: issue"),
+    ] {
+        let wrong = pack(line.as_bytes()).expect_err("wrong");
+        assert!(wrong[0].says.contains(told), "{told} in {}", wrong[0].says);
+    }
 }

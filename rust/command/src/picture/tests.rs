@@ -6,6 +6,7 @@ fn step(from: u16, to: u16, level: u64) -> Lamination {
 }
 
 fn pair(quantity: u16, price: i32) -> Pair {
+    let (quantity, price) = (quantity.into(), price.into());
     Pair { quantity, price }
 }
 

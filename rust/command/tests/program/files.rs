@@ -1,7 +1,9 @@
 //! Files that a call writes: never one that it reads, and the old one or the whole new one is there.
 
 use crate::process::{call, example, text, Folder, PROGRAM};
+use std::ffi::OsStr;
 use std::fs;
+use std::os::unix::ffi::OsStrExt;
 use std::os::unix::fs::{symlink, PermissionsExt};
 use std::path::Path;
 use std::process::{Command, Output};
@@ -148,4 +150,70 @@ fn names_that_are_no_output() {
     let ended = shell(&folder, "bench day s.txt --from 0 --at 3");
     assert_eq!(ended.status.code(), Some(2));
     assert!(text(&ended.stderr).contains("--at is for --svg"));
+}
+
+/// The JSON member `file` of a call on a file of this name, beside what is said in words.
+fn called(folder: &Folder, name: &[u8]) -> (String, String) {
+    let name = OsStr::from_bytes(name);
+    fs::write(folder.0.join(name), "FU issue=1").expect("a file");
+    let mut program = Command::new(PROGRAM);
+    program
+        .current_dir(&folder.0)
+        .args(["check", "--json", "--"]);
+    let ended = program.arg(name).output().expect("the command runs");
+    let (out, err) = (text(&ended.stdout), text(&ended.stderr));
+    let member = out.split(",\"wrong").next().expect("a member");
+    (
+        member.to_string(),
+        err.split(": ").next().expect("a name").to_string(),
+    )
+}
+
+/// A name is told as it is, as far as it is text, and no two names alike.
+#[test]
+fn any_name_is_told() {
+    let folder = Folder::new();
+    for (name, json, words) in [
+        (&b"plain.txt"[..], r#"{"file":"plain.txt""#, "plain.txt"),
+        (b"a\nb\x1b", r#"{"file":"a\u000ab\u001b""#, r"a\nb\u{1b}"),
+        (
+            b"a\xffb",
+            r#"{"file":"a\\xffb","file-bytes":"61ff62""#,
+            r"a\xffb",
+        ),
+        (
+            b"a\xfeb",
+            r#"{"file":"a\\xfeb","file-bytes":"61fe62""#,
+            r"a\xfeb",
+        ),
+        (
+            b"standard input",
+            r#"{"file":"standard input""#,
+            "./standard input",
+        ),
+    ] {
+        let found = called(&folder, name);
+        assert_eq!(found, (json.to_string(), words.to_string()));
+    }
+    let ended = call(&["check", "--json"], b"FU issue=1");
+    assert!(text(&ended.stdout).starts_with(r#"{"file":"-","#));
+    assert!(text(&ended.stderr).starts_with("standard input: "));
+}
+
+#[test]
+fn outputs_may_have_any_name() {
+    let folder = stations();
+    let path = |name: &[u8]| folder.0.join(OsStr::from_bytes(name));
+    for (words, name) in [
+        (&[&b"--out"[..], b"\xff1"][..], b"\xff1"),
+        (&[b"--out=\xff2"], b"\xff2"),
+    ] {
+        let mut program = Command::new(PROGRAM);
+        program.current_dir(&folder.0).args(["pack", "s.txt"]);
+        let ended = program
+            .args(words.iter().map(|w| OsStr::from_bytes(w)))
+            .output();
+        assert_eq!(ended.expect("the command runs").status.code(), Some(0));
+        assert!(path(name).is_file(), "{name:?}");
+    }
 }
