@@ -11,7 +11,8 @@ use crate::form::Form;
 use crate::input::{is_cut, name, read, read_bytes, Input, Name};
 use crate::json::{object, Json};
 use crate::many::{count, counted, Progress};
-use crate::text::{is_text, WrongLine};
+use crate::plain::{is_meant_as_text, is_utf_16};
+use crate::text::WrongLine;
 use crate::together::join;
 use line::Asked;
 use std::ffi::OsString;
@@ -19,7 +20,7 @@ use std::ffi::OsString;
 pub fn run(args: &Args, streams: &mut Streams) -> Result<Status, Stop> {
     let form = Form::of(args, csv::OFFERS)?;
     let file = only_file(args)?;
-    let text = text(&file).map_err(|says| format!("{}: {says}", name(&file)))?;
+    let text = text(&file).map_err(|says| Stop::Failed(format!("{}: {says}", name(&file))))?;
     let lines = line::all(&text);
     if lines.is_empty() {
         return Err(Stop::Use(format!("{} has no offer", name(&file))));
@@ -43,13 +44,12 @@ pub fn run(args: &Args, streams: &mut Streams) -> Result<Status, Stop> {
 }
 
 /// The text of an offers file.
-fn text(file: &OsString) -> Result<String, String> {
+fn text(file: &OsString) -> Result<Vec<u8>, String> {
     let bytes = read_bytes(file)?;
-    if is_cut(&bytes) || !is_text(&bytes) {
-        return Err("no text with an offer a line".to_string());
+    match is_cut(&bytes) || is_utf_16(&bytes) || !is_meant_as_text(&bytes) {
+        true => Err("no UTF-8 text with an offer a line".to_string()),
+        false => Ok(bytes),
     }
-    let text = String::from_utf8(bytes).map_err(|error| error.to_string())?;
-    Ok(text.trim_start_matches('\u{feff}').to_string())
 }
 
 /// The station that was read last: offers to one station stand together as a rule, and no more than

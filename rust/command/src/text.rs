@@ -9,6 +9,9 @@ use crate::plain::{clean, is_utf_16, lines};
 pub use crate::plain::{is_meant_as_text, is_text};
 use crate::record::records;
 
+/// What some programs write before a text, to say that it is UTF-8.
+pub const BOM: &[u8] = b"\xEF\xBB\xBF";
+
 /// The longest dossier, in bytes.
 pub const LONGEST: usize = 60_000;
 
@@ -33,7 +36,7 @@ pub fn pack(text: &[u8]) -> Result<Packed, Vec<WrongLine>> {
         return Err(vec![WrongLine { line: 1, says }]);
     }
     let (mut dossier, mut of_records, mut wrong) = (Vec::new(), Vec::new(), Vec::new());
-    let text = text.strip_prefix(b"\xEF\xBB\xBF").unwrap_or(text);
+    let text = text.strip_prefix(BOM).unwrap_or(text);
     for (line, content) in (1..).zip(lines(text)) {
         match record(content) {
             Ok(bytes) if bytes.is_empty() => {}
@@ -139,7 +142,7 @@ fn value<'a>(mark: &Mark, word: &'a str) -> Result<(usize, &'a str), String> {
 }
 
 /// What a word is not, the one that was perhaps meant, and those that there are.
-fn unknown(word: &str, what: &str, known: &[&str]) -> String {
+pub fn unknown(word: &str, what: &str, known: &[&str]) -> String {
     let (shown, meant) = (quoted(word), hint(word, known));
     format!("{shown} is no {what}{meant}: {}", listed(known))
 }

@@ -16,7 +16,7 @@ use std::sync::atomic::{AtomicU64, Ordering};
 
 fn input(dossier: &[u8]) -> Input {
     Input {
-        name: "made".to_string(),
+        name: command::input::name("made".as_ref()),
         dossier: dossier.to_vec(),
         lines: Lines::default(),
     }

@@ -5,6 +5,8 @@ use crate::args::hour;
 use crate::conduct::{Offered, Question};
 use crate::input::STANDARD;
 use crate::offer;
+use crate::plain::{clean, lines};
+use crate::text::{unknown, BOM};
 use std::ffi::OsString;
 
 /// An offer, and the files of the station that it is put to.
@@ -17,14 +19,14 @@ pub struct Asked {
 const NAMES: [&str; 6] = ["station", "hour", "condition", "offer", "level", "price"];
 
 /// The lines that hold an offer with their numbers, from 1; what is wrong with those that are.
-pub fn all(text: &str) -> Vec<(usize, Result<Asked, String>)> {
-    let lines = (1..).zip(text.lines());
-    let read = |(number, line): (usize, &str)| match words(line) {
+pub fn all(text: &[u8]) -> Vec<(usize, Result<Asked, String>)> {
+    let text = text.strip_prefix(BOM).unwrap_or(text);
+    let read = |(number, line): (usize, &[u8])| match clean(line).and_then(words) {
         Ok(words) if words.is_empty() => None,
         Ok(words) => Some((number, asked(&words))),
         Err(says) => Some((number, Err(says))),
     };
-    lines.filter_map(read).collect()
+    (1..).zip(lines(text)).filter_map(read).collect()
 }
 
 /// The words of a line up to a comment, without their quotes.
@@ -62,7 +64,7 @@ impl<'a> Fields<'a> {
             // Several files of one station are named one by one.
             let twice = name != "station" && fields.iter().any(|(n, _)| *n == name);
             if !NAMES.contains(&name) || !word.contains('=') {
-                wrong.push(format!("'{name}' is no field: {}", NAMES.join(", ")));
+                wrong.push(unknown(name, "field", &NAMES));
             } else if twice {
                 wrong.push(format!("{name} stands twice"));
             } else {
@@ -154,7 +156,7 @@ mod tests {
     use super::*;
 
     fn wrong(line: &str) -> String {
-        let mut lines = all(line);
+        let mut lines = all(line.as_bytes());
         assert_eq!(lines.len(), 1, "{line}");
         lines.remove(0).1.expect_err(line)
     }
@@ -162,7 +164,7 @@ mod tests {
     #[test]
     fn lines_are_read() {
         let text = "# offers\n\nstation=\"a b.txt\" station=c#1 hour=7\thour=8\nprice=0.50 level=reserve station=\"x#1\" hour=0 condition=broad # why";
-        let lines = all(text);
+        let lines = all(text.as_bytes());
         let numbers: Vec<usize> = lines.iter().map(|(number, _)| *number).collect();
         assert_eq!(numbers, [3, 4]);
         let asked = lines[1].1.as_ref().expect("an offer");
@@ -174,16 +176,17 @@ mod tests {
     fn everything_wrong_is_told() {
         assert_eq!(
             wrong("station=a station=b hours=3 condition=wide offer=1@x hour=1 hour=2"),
-            "'hours' is no field: station, hour, condition, offer, level, price; hour stands twice; \
+            "'hours' is no field (did you mean hour?): station, hour, condition, offer, level or price; hour stands twice; \
              condition: 'wide' is not narrow, broad or global; \
-             offer: 'x' is not from -21474836.48 to 21474836.47 dollars, 2 places after the point"
+             offer: 'x' is no number: -2000.00 to 2000.00 dollars per MWh"
         );
         assert_eq!(
             wrong("x"),
-            "'x' is no field: station, hour, condition, offer, level, price; station is missing; \
+            "'x' is no field: station, hour, condition, offer, level or price; station is missing; \
              hour is missing; condition is missing; offer is missing, or level and price"
         );
         assert_eq!(wrong("station=\"a"), "a quote that doesn't end");
+        assert!(wrong("station=a\u{c}").starts_with("byte 10 is a form feed"));
         assert!(wrong("station=- hour=1 condition=narrow offer=1@1").starts_with("station: "));
         let both = wrong("station=a hour=1 condition=narrow offer=1@1 price=2");
         assert_eq!(
