@@ -80,9 +80,13 @@ pub struct Said {
 
 /// A refusal of an input as an answer.
 pub fn refused(explained: &Explained) -> Said {
+    let (status, counts_as) = match explained.rule.is_known() {
+        true => (Status::Refused, "refused"),
+        false => (Status::Wrong, "not understood"),
+    };
     Said {
-        status: Status::Refused,
-        counts_as: "refused",
+        status,
+        counts_as,
         line: explained.line(),
         words: explained.words(),
         json: object([("refused", explained.json())]),

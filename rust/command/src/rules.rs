@@ -119,10 +119,26 @@ pub static RULES: [Rule; 17] = [
     },
 ];
 
-/// The rule of a number. The library refuses by these numbers alone.
+/// What is said of a number that is none of these. The library refuses by these alone, so that another
+/// library or another program has been built in.
+static UNKNOWN: Rule = Rule {
+    number: 0,
+    means: "an error of the program: it knows no such number",
+    wants: "a command and a library that were built together",
+    who: "maintainer of bench",
+};
+
+/// The rule of a number.
 pub fn rule(number: u8) -> &'static Rule {
-    let place = RULES.iter().position(|r| r.number == number);
-    &RULES[place.unwrap_or(0)]
+    let known = RULES.iter().find(|r| r.number == number);
+    known.unwrap_or(&UNKNOWN)
+}
+
+impl Rule {
+    /// Whether it is one of document 01's.
+    pub fn is_known(&self) -> bool {
+        self.number > 0
+    }
 }
 
 #[cfg(test)]

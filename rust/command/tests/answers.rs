@@ -5,10 +5,11 @@ mod calls;
 mod json;
 
 use calls::{call, Ended, Kept};
-use command::answer::{Status, Streams};
+use command::answer::{refused, Status, Streams};
 use command::explain::of_dossier;
 use command::lines::Lines;
 use command::offer::{bytes, highest_for, highest_in, Pair};
+use command::rules::RULES;
 use command::text::{pack, unpack};
 use model::cases::{run, same, Check};
 use model::make;
@@ -339,6 +340,33 @@ fn offers_are_refused_by_number_whatever_their_size() {
         let ended = test(offer);
         assert_eq!(ended.status, Status::Wrong, "{offer}");
         assert!(ended.err.contains(told), "{offer}: {}", ended.err);
+    }
+}
+
+/// A number that no rule has is an error of the program: it isn't explained as another rule's.
+#[test]
+fn an_unknown_number_is_an_error_of_the_program() {
+    for number in [0, 18, 255] {
+        let refusal = bench::Refusal { number, place: 7 };
+        let explained = of_dossier(refusal, &make::written::r1(), &Vec::new().into());
+        let said = refused(&explained);
+        assert_eq!(said.status, Status::Wrong);
+        let head = format!("refused {number} at 7: an error of the program: ");
+        assert!(said.words.starts_with(&head), "{}", said.words);
+        assert!(said.line.starts_with(&head), "{}", said.line);
+        let json = said.json.to_string();
+        assert!(json.contains("an error of the program"), "{json}");
+        for rule in &RULES {
+            assert!(!said.words.contains(rule.means) && !json.contains(rule.wants));
+        }
+    }
+    for rule in &RULES {
+        let refusal = bench::Refusal {
+            number: rule.number,
+            place: 0,
+        };
+        let said = refused(&of_dossier(refusal, b"", &Vec::new().into()));
+        assert_eq!(said.status, Status::Refused);
     }
 }
 
