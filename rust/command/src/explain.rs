@@ -49,13 +49,13 @@ pub fn of_dossier(refusal: Refusal, dossier: &[u8], lines: &Lines) -> Explained 
         refusal,
         rule: rule(refusal.number),
         details: match (record, text) {
-            (Some(record), _) => of_record(refusal.number, dossier, &record),
+            (Some(record), _) => of_record(refusal.number, dossier, lines, &record),
             (None, Some((start, line))) => vec![format!(
                 "from byte {start} on it is text, not bytes: {}; join texts, or bytes",
                 quoted(line)
             )],
             (None, None) if at_record => vec![unread(dossier, refusal.place)],
-            (None, None) => lacks(dossier, refusal.number),
+            (None, None) => lacks(dossier, lines, refusal.number),
         },
         record: record.map(|r| standing(&r, lines)),
     }
@@ -110,13 +110,16 @@ fn thresholds(dossier: &[u8]) -> String {
 }
 
 /// What is wrong with the record at the place.
-fn of_record(number: u8, dossier: &[u8], record: &Record) -> Vec<String> {
+fn of_record(number: u8, dossier: &[u8], lines: &Lines, record: &Record) -> Vec<String> {
     match number {
         3 => record.faults(),
         4 => {
             let twin = records(dossier).find(|r| r.claim() == record.claim());
-            let text = |r: Record| format!("record {} at byte {}: {}", r.number, r.start, r.text());
-            let came = |r| format!("the same mark, key and issue came before, {}", text(r));
+            let came = |r| {
+                let twin = standing(&r, lines);
+                let (place, text) = (twin.place(), &twin.text);
+                format!("the same mark, key and issue came before: {place}: {text}")
+            };
             twin.map(came).into_iter().collect()
         }
         6 => {
@@ -200,12 +203,17 @@ impl Standing {
             true => String::new(),
             false => format!(" of {}", self.key),
         };
-        let (number, start, mark, issue) = (self.number, self.start, self.mark, self.issue);
+        let (place, mark, issue) = (self.place(), self.mark, self.issue);
+        format!("{place}: {mark}{key}, issue {issue}")
+    }
+
+    /// Where it stands.
+    fn place(&self) -> String {
         let origin = match self.origin.words() {
             words if words.is_empty() => words,
             words => format!(", {words}"),
         };
-        format!("record {number} at byte {start}{origin}: {mark}{key}, issue {issue}")
+        format!("record {} at byte {}{origin}", self.number, self.start)
     }
 
     pub fn json(&self) -> Json {

@@ -1,37 +1,170 @@
 //! What a dossier lacks that draws 7, 8, 9 or 17, in words. The library has refused it; this looks
 //! at the same current records, through the library's lookup, to say what to mend.
 
+use crate::lines::Lines;
 use crate::record::{records, Record};
 use crate::unit::MEGAWATTS;
 
 /// What to look at in a dossier that drew this number.
-pub fn lacks(dossier: &[u8], number: u8) -> Vec<String> {
+pub fn lacks(dossier: &[u8], lines: &Lines, number: u8) -> Vec<String> {
     let Some(station) = current(dossier, "RS", 0) else {
         return Vec::new();
     };
+    let look = Look {
+        dossier,
+        lines,
+        station,
+    };
     match number {
-        7 => curve(dossier, &station),
-        8 => fuel(dossier),
-        9 => window(dossier, &station),
-        17 => forecast(dossier, &station),
+        7 => look.curve(),
+        8 => look.fuel(),
+        9 => look.window(),
+        17 => look.forecast(),
         _ => Vec::new(),
     }
 }
 
-/// The current record of a mark and key.
+/// The current record of a mark and key, as it stands in the dossier.
 pub fn current<'a>(dossier: &'a [u8], letters: &str, key: u32) -> Option<Record<'a>> {
     let mark = letters.as_bytes().try_into().ok()?;
     let part = bench::current(dossier, mark, key);
-    records(part.bytes).next()
+    let mut records = records(dossier).filter(|_| !part.bytes.is_empty());
+    records.find(|record| record.start == part.start)
 }
 
-/// The keys of a mark up to `last` that have no current record, if there are any, behind what is said
-/// of them.
-fn missing(dossier: &[u8], letters: &str, last: i128, says: &str) -> Option<String> {
-    let keys = 1..=u32::try_from(last).unwrap_or(0);
-    let absent = |key: &u32| current(dossier, letters, *key).is_none();
-    let absent: Vec<u32> = keys.filter(absent).collect();
-    (!absent.is_empty()).then(|| format!("{says} {}", ranges(&absent)))
+/// Whether a mark and key have no current record.
+fn is_absent(dossier: &[u8], letters: &str, key: u32) -> bool {
+    let mark = letters.as_bytes().try_into();
+    mark.is_ok_and(|mark| bench::current(dossier, mark, key).bytes.is_empty())
+}
+
+/// A dossier, where its records were read, and its station.
+struct Look<'a> {
+    dossier: &'a [u8],
+    lines: &'a Lines,
+    station: Record<'a>,
+}
+
+impl Look<'_> {
+    /// Where a record was read, to go behind its name.
+    fn at(&self, record: &Record) -> String {
+        match self.lines.origin(record).words() {
+            words if words.is_empty() => words,
+            words => format!(" ({words})"),
+        }
+    }
+
+    /// A point of the curve by its number.
+    fn point(&self, point: &Record) -> String {
+        format!("point {}{}", point.get("point"), self.at(point))
+    }
+
+    /// What the station's window is.
+    fn its_window(&self) -> String {
+        let window = self.station.get("window");
+        format!("the window has {window}{}", self.at(&self.station))
+    }
+
+    /// The keys of a mark up to `last` that have no current record, if there are any, between what is
+    /// said of them.
+    fn missing(&self, letters: &str, last: i128, says: &str, behind: &str) -> Option<String> {
+        let keys = 1..=u32::try_from(last).unwrap_or(0);
+        let absent = keys.filter(|key| is_absent(self.dossier, letters, *key));
+        let absent: Vec<u32> = absent.collect();
+        (!absent.is_empty()).then(|| format!("{says} {}; {behind}", ranges(&absent)))
+    }
+
+    fn curve(&self) -> Vec<String> {
+        let points = (1..=21).filter_map(|key| current(self.dossier, "HP", key));
+        let points: Vec<Record> = points.collect();
+        let mut says = Vec::new();
+        if points.len() < 2 {
+            let there = points.first().map_or(String::new(), |p| self.at(p));
+            let count = points.len();
+            says.push(format!("points: {count}{there}; a curve takes 2 or more"));
+        }
+        if let Some(last) = points.last() {
+            let behind = format!("the last is {}", self.point(last));
+            says.extend(self.missing("HP", last.get("point"), "missing points:", &behind));
+        }
+        says.extend(points.windows(2).flat_map(|two| self.step(two)));
+        says.extend(points.windows(3).filter_map(|three| self.bend(three)));
+        says.extend(points.last().and_then(|last| self.end(last)));
+        says
+    }
+
+    /// What is wrong from one point to the next.
+    fn step(&self, points: &[Record]) -> Vec<String> {
+        let [from, to] = [0, 1].map(|i| self.point(&points[i]));
+        let rise = |name| points[1].get(name) - points[0].get(name);
+        let mut says = Vec::new();
+        if rise("output") <= 0 {
+            says.push(format!("output doesn't rise from {from} to {to}"));
+        }
+        if rise("heat") < 0 {
+            says.push(format!("heat falls from {from} to {to}"));
+        }
+        says
+    }
+
+    /// Whether the slope falls at the middle one of three points.
+    fn bend(&self, points: &[Record]) -> Option<String> {
+        let rise = |i: usize, name| points[i + 1].get(name) - points[i].get(name);
+        let falls = rise(0, "heat") * rise(1, "output") > rise(1, "heat") * rise(0, "output");
+        let point = self.point(&points[1]);
+        falls.then(|| format!("heat rises more steeply before {point} than behind it"))
+    }
+
+    /// Whether the last point isn't the capacity.
+    fn end(&self, last: &Record) -> Option<String> {
+        let [output, capacity] = [last.get("output"), self.station.get("capacity")];
+        let [end, whole] = [output, capacity].map(|n| MEGAWATTS.write(n));
+        let (at, station) = (self.at(last), self.at(&self.station));
+        let says =
+            || format!("the curve ends at {end} MW{at}; the capacity is {whole} MW{station}");
+        (output != capacity).then(says)
+    }
+
+    fn fuel(&self) -> Vec<String> {
+        let lacks = |profile: i128| {
+            let key = u32::try_from(profile).unwrap_or(0);
+            is_absent(self.dossier, "FU", key)
+        };
+        let first = lacks(1).then(|| "profile 1 has no FU".to_string());
+        let mut says: Vec<String> = first.into_iter().collect();
+        for request in (1..=16).filter_map(|key| current(self.dossier, "RQ", key)) {
+            let (number, profile) = (request.get("request"), request.get("profile"));
+            if profile != 0 && lacks(profile) {
+                let at = self.at(&request);
+                says.push(format!(
+                    "request {number}{at} names profile {profile}, which has no FU"
+                ));
+            }
+        }
+        says
+    }
+
+    fn window(&self) -> Vec<String> {
+        let station = &self.station;
+        let [charge, capacity, window] = ["charge", "capacity", "window"].map(|n| station.get(n));
+        let (hours, its_window) = (charge / capacity.max(1), self.its_window());
+        let mut says = Vec::new();
+        if hours == 0 || hours > window {
+            says.push(format!(
+                "the charge lasts {hours} full hours at capacity; {its_window}"
+            ));
+        }
+        says.extend(self.missing("HR", window, "hours without an HR:", &its_window));
+        says
+    }
+
+    fn forecast(&self) -> Vec<String> {
+        let (window, its_window) = (self.station.get("window"), self.its_window());
+        let short = (window < 50).then(|| format!("{its_window}; it takes 50 or more"));
+        let mut says: Vec<String> = short.into_iter().collect();
+        says.extend(self.missing("FP", window, "places without an FP:", &its_window));
+        says
+    }
 }
 
 /// A rising list of numbers in words: `3, 5 to 9`.
@@ -55,98 +188,6 @@ fn ranges(numbers: &[u32]) -> String {
         words.push("and more".to_string());
     }
     words.join(", ")
-}
-
-fn curve(dossier: &[u8], station: &Record) -> Vec<String> {
-    let points: Vec<Record> = (1..=21)
-        .filter_map(|key| current(dossier, "HP", key))
-        .collect();
-    let mut says = Vec::new();
-    if points.len() < 2 {
-        says.push(format!("points: {}; a curve takes 2 or more", points.len()));
-    }
-    let last = points.last().map_or(0, |p| p.get("point"));
-    says.extend(missing(dossier, "HP", last, "missing points:"));
-    says.extend(points.windows(2).flat_map(step));
-    says.extend(points.windows(3).filter_map(bend));
-    let (end, capacity) = (points.last(), station.get("capacity"));
-    if let Some(end) = end.filter(|p| p.get("output") != capacity) {
-        let output = MEGAWATTS.write(end.get("output"));
-        let capacity = MEGAWATTS.write(capacity);
-        says.push(format!(
-            "the curve ends at {output} MW; the capacity is {capacity} MW"
-        ));
-    }
-    says
-}
-
-/// What is wrong from one point to the next.
-fn step(points: &[Record]) -> Vec<String> {
-    let [from, to] = [0, 1].map(|i| points[i].get("point"));
-    let rise = |name| points[1].get(name) - points[0].get(name);
-    let mut says = Vec::new();
-    if rise("output") <= 0 {
-        says.push(format!(
-            "output doesn't rise from point {from} to point {to}"
-        ));
-    }
-    if rise("heat") < 0 {
-        says.push(format!("heat falls from point {from} to point {to}"));
-    }
-    says
-}
-
-/// Whether the slope falls at the middle one of three points.
-fn bend(points: &[Record]) -> Option<String> {
-    let rise = |i: usize, name| points[i + 1].get(name) - points[i].get(name);
-    let falls = rise(0, "heat") * rise(1, "output") > rise(1, "heat") * rise(0, "output");
-    let point = points[1].get("point");
-    falls.then(|| format!("heat rises more steeply before point {point} than behind it"))
-}
-
-fn fuel(dossier: &[u8]) -> Vec<String> {
-    let lacks = |profile: i128| {
-        let key = u32::try_from(profile).unwrap_or(0);
-        current(dossier, "FU", key).is_none()
-    };
-    let mut says = Vec::new();
-    if lacks(1) {
-        says.push("profile 1 has no FU".to_string());
-    }
-    for request in (1..=16).filter_map(|key| current(dossier, "RQ", key)) {
-        let (number, profile) = (request.get("request"), request.get("profile"));
-        if profile != 0 && lacks(profile) {
-            says.push(format!(
-                "request {number} names profile {profile}, which has no FU"
-            ));
-        }
-    }
-    says
-}
-
-fn window(dossier: &[u8], station: &Record) -> Vec<String> {
-    let [charge, capacity, window] = ["charge", "capacity", "window"].map(|n| station.get(n));
-    let hours = charge / capacity.max(1);
-    let mut says = Vec::new();
-    if hours == 0 || hours > window {
-        says.push(format!(
-            "the charge lasts {hours} full hours at capacity; the window has {window}"
-        ));
-    }
-    says.extend(missing(dossier, "HR", window, "hours without an HR:"));
-    says
-}
-
-fn forecast(dossier: &[u8], station: &Record) -> Vec<String> {
-    let window = station.get("window");
-    let mut says = Vec::new();
-    if window < 50 {
-        says.push(format!(
-            "the window has {window} hours; it takes 50 or more"
-        ));
-    }
-    says.extend(missing(dossier, "FP", window, "places without an FP:"));
-    says
 }
 
 #[cfg(test)]

@@ -460,3 +460,66 @@ fn wrong_use_is_told_in_short_with_a_hint() {
         assert!(ended.err.len() < 800, "{} bytes", ended.err.len());
     }
 }
+
+/// A refused text names the lines that clash, or that say what is missing.
+#[test]
+fn refusals_of_a_text_name_lines() {
+    let example = |name: &str| {
+        let path = format!("{}/../../examples/{name}.txt", env!("CARGO_MANIFEST_DIR"));
+        std::fs::read_to_string(path).expect(name)
+    };
+    let thermal = |from: &str, to: &str| example("thermal").replace(from, to);
+    let twin = example("thermal") + "FU issue=1 profile=1 fuel=5.00 emission=1.00\n";
+    for (text, told) in [
+        (
+            twin,
+            "came before: record 5 at byte 70, line 10: FU issue=1 profile=1 fuel=4.00",
+        ),
+        (
+            thermal("heat=690000", "heat=710000"),
+            "more steeply before point 2 (line 6) than behind it",
+        ),
+        (
+            thermal("output=75.0", "output=50.0"),
+            "output doesn't rise from point 1 (line 5) to point 2 (line 6)",
+        ),
+        (
+            thermal("heat=690000", "heat=490000"),
+            "heat falls from point 1 (line 5) to point 2 (line 6)",
+        ),
+        (
+            thermal("HP issue=1 point=2", "# "),
+            "missing points: 2; the last is point 3 (line 7)",
+        ),
+        (thermal("HP", "# HP"), "points: 0; a curve takes 2 or more"),
+        (
+            thermal("output=100.0 heat", "output=90.0 heat"),
+            "ends at 90.0 MW (line 7); the capacity is 100.0 MW (line 2)",
+        ),
+        (
+            thermal("FU issue=1 profile=2", "# "),
+            "request 1 (line 12) names profile 2, which has no FU",
+        ),
+        (
+            example("storage").replace("HR issue=1 hour=7", "# "),
+            "hours without an HR: 7; the window has 24 (line 2)",
+        ),
+        (
+            example("storage").replace("charge=300.0", "charge=8000.0"),
+            "lasts 100 full hours at capacity; the window has 24 (line 2)",
+        ),
+        (
+            example("hydro").replace("FP issue=1 place=7 ", "# "),
+            "places without an FP: 7; the window has 50 (line 3)",
+        ),
+        (
+            example("hydro").replace("window=50", "window=49"),
+            "the window has 49 (line 3); it takes 50 or more",
+        ),
+    ] {
+        let file = Kept::new(text.as_bytes());
+        let ended = call(&["check", file.name()]);
+        assert_eq!(ended.status, Status::Refused);
+        assert!(ended.err.contains(told), "{told} in {}", ended.err);
+    }
+}
