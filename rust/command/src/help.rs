@@ -19,6 +19,14 @@ FILE at all is standard input.
 Exit status: 0 done; 1 refused; 2 wrong use, or a file that can't be read; 3 an offer that fails.
 ";
 
+pub const NEW: &str = "\
+bench new thermal | nuclear | storage | hydro
+
+Writes the text of a station, with comments, that is accepted as it stands: the records that the
+technology must have, and as comments those that it may have, with the units and ranges of their
+fields. 'bench new thermal > gas.txt' begins a station; 'bench help records' says the same as a page.
+";
+
 pub const PACK: &str = "\
 bench pack [FILE] [--out OUT]
 

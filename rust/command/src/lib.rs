@@ -20,6 +20,8 @@ pub mod lines;
 mod many;
 pub mod marks;
 mod near;
+pub mod needs;
+pub mod new;
 pub mod offer;
 mod offers;
 mod output;
@@ -47,7 +49,13 @@ struct Command {
     run: fn(&Args, &mut Streams) -> Result<Status, Stop>,
 }
 
-const COMMANDS: [Command; 8] = [
+const COMMANDS: [Command; 9] = [
+    Command {
+        name: "new",
+        choices: &[],
+        help: help::NEW,
+        run: new::run,
+    },
     Command {
         name: "pack",
         choices: &[("out", true), ("together", false)],
@@ -170,6 +178,10 @@ fn called(words: &[OsString], streams: &mut Streams) -> Result<Status, Stop> {
     }
     if first == "help" && rest[0] == "fields" {
         write!(streams.out, "{}", help::fields())?;
+        return Ok(Status::Done);
+    }
+    if first == "help" && rest[0] == "records" {
+        write!(streams.out, "{}", new::page())?;
         return Ok(Status::Done);
     }
     let (first, rest) = match (first == "help", rest) {

@@ -93,6 +93,12 @@ fn documents_show_what_is_printed() {
     stands("examples/thermal.svg", picture);
 }
 
+/// The page of records is the one that the table of marks and that of technologies make.
+#[test]
+fn the_page_of_records_is_that_of_the_tables() {
+    stands("docs/RECORDS.md", command::new::page());
+}
+
 /// Every station of the folder is accepted, and each technology has one.
 #[test]
 fn every_example_is_accepted() {

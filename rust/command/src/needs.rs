@@ -1,0 +1,383 @@
+//! Which records a station of each technology must have and may have, and how far its fields go:
+//! what 5 to 9 and 17 ask, as a table. Names, units and ranges are those of the table of marks.
+
+use crate::marks::{listed, Field, Mark};
+use crate::unit::Unit;
+
+/// A technology and its records, in the order of the marks.
+#[derive(Debug)]
+pub struct Technology {
+    pub name: &'static str,
+    pub needs: &'static [Need],
+}
+
+/// The records of one mark at a technology.
+#[derive(Debug)]
+pub struct Need {
+    pub mark: &'static str,
+    /// Whether there has to be one.
+    pub must: bool,
+    /// How many there are, and what holds of them together.
+    pub how_many: &'static str,
+    /// The fields that go less far than the mark's own range.
+    pub limits: &'static [(&'static str, Limit)],
+    /// Records as they may stand in a text. `{}` stands for each of 1 to 50.
+    pub samples: &'static [&'static str],
+}
+
+/// How far a field goes at a technology.
+#[derive(Clone, Copy, Debug)]
+pub enum Limit {
+    /// These numbers alone.
+    Only(&'static [i128]),
+    /// From one number to another.
+    From(i128, i128),
+    /// The same, in a unit of its own.
+    FromIn(i128, i128, &'static str),
+    /// As far as elsewhere, in a unit of its own.
+    In(&'static str),
+}
+
+use Limit::{From, FromIn, In, Only};
+
+const ZERO: Limit = Only(&[0]);
+const ENERGY_AND_RESERVE: Limit = Only(&[1, 4]);
+const ALL_BUT_PRORATED: Limit = Only(&[1, 2, 3, 4]);
+
+const REQUESTS: Need = Need {
+    mark: "RQ",
+    must: false,
+    how_many: "up to 16; of those that cover an hour the highest request counts, and without one profile 1",
+    limits: &[],
+    samples: &["RQ issue=1 request=1 first=6 last=21 profile=1"],
+};
+
+const FUEL: &str = "one for profile 1 and one for each profile that a request names";
+const ADDERS: &str = "one for each profile, cost and level that has such an amount";
+const ITEMS: &str = "up to 8 for each profile";
+const THRESHOLDS: &str = "one for each condition and level under which offers are tested";
+const STATION: &str = "one";
+
+pub static TECHNOLOGIES: [Technology; 4] = [
+    Technology {
+        name: "thermal",
+        needs: &[
+            Need {
+                mark: "RS",
+                must: true,
+                how_many: STATION,
+                limits: &[
+                    ("technology", Only(&[1])),
+                    ("factor", From(500, 2_000)),
+                    ("incremental-fuel", ZERO),
+                    ("charge", ZERO),
+                    ("efficiency", ZERO),
+                    ("window", ZERO),
+                ],
+                samples: &["RS issue=1 technology=thermal capacity=100.0 factor=1.000 start-heat=500000 no-load-heat=100000 incremental-fuel=0 charge=0.0 efficiency=0.000 window=0"],
+            },
+            Need {
+                mark: "HP",
+                must: true,
+                how_many: "2 to 21, numbered from 1 without a gap; output rises, heat and its slope don't fall, and the last output is the capacity",
+                limits: &[],
+                samples: &[
+                    "HP issue=1 point=1 output=50.0 heat=500000",
+                    "HP issue=1 point=2 output=100.0 heat=900000",
+                ],
+            },
+            Need {
+                mark: "FU",
+                must: true,
+                how_many: FUEL,
+                limits: &[("fuel", In("dollars per GJ"))],
+                samples: &["FU issue=1 profile=1 fuel=4.00 emission=1.00"],
+            },
+            Need {
+                mark: "AD",
+                must: false,
+                how_many: ADDERS,
+                limits: &[("cost", ALL_BUT_PRORATED)],
+                samples: &[
+                    "AD issue=1 profile=1 cost=consumables level=energy amount=1.50",
+                    "AD issue=1 profile=1 cost=consumables level=reserve amount=0.25",
+                ],
+            },
+            Need {
+                mark: "MM",
+                must: false,
+                how_many: ITEMS,
+                limits: &[],
+                samples: &["MM issue=1 profile=1 item=1 cost=2000000.00 output=100.0 interval=25000 start-hours=10.0"],
+            },
+            REQUESTS,
+            Need {
+                mark: "TH",
+                must: false,
+                how_many: THRESHOLDS,
+                limits: &[],
+                samples: &[
+                    "TH issue=1 condition=narrow level=energy percent=50 margin=25.00 floor=0.00",
+                    "TH issue=1 condition=narrow level=start percent=50 margin=none floor=0.00",
+                ],
+            },
+        ],
+    },
+    Technology {
+        name: "nuclear",
+        needs: &[
+            Need {
+                mark: "RS",
+                must: true,
+                how_many: STATION,
+                limits: &[
+                    ("technology", Only(&[2])),
+                    ("factor", From(500, 2_000)),
+                    ("start-heat", ZERO),
+                    ("no-load-heat", ZERO),
+                    ("incremental-fuel", From(1, 1_000_000)),
+                    ("charge", ZERO),
+                    ("efficiency", ZERO),
+                    ("window", ZERO),
+                ],
+                samples: &["RS issue=1 technology=nuclear capacity=880.0 factor=1.020 start-heat=0 no-load-heat=0 incremental-fuel=24000 charge=0.0 efficiency=0.000 window=0"],
+            },
+            Need {
+                mark: "FU",
+                must: true,
+                how_many: FUEL,
+                limits: &[("fuel", In("dollars per kg of uranium")), ("emission", ZERO)],
+                samples: &["FU issue=1 profile=1 fuel=310.00 emission=0.00"],
+            },
+            Need {
+                mark: "AD",
+                must: false,
+                how_many: ADDERS,
+                limits: &[("level", Only(&[1]))],
+                samples: &[
+                    "AD issue=1 profile=1 cost=scheduled level=energy amount=3.20",
+                    "AD issue=1 profile=1 cost=prorated-start level=energy amount=0.85",
+                ],
+            },
+            Need {
+                mark: "MM",
+                must: false,
+                how_many: ITEMS,
+                limits: &[("start-hours", ZERO)],
+                samples: &["MM issue=1 profile=1 item=1 cost=41500000.00 output=880.0 interval=17520 start-hours=0.0"],
+            },
+            REQUESTS,
+            Need {
+                mark: "TH",
+                must: false,
+                how_many: THRESHOLDS,
+                limits: &[("level", Only(&[1]))],
+                samples: &["TH issue=1 condition=narrow level=energy percent=50 margin=25.00 floor=0.00"],
+            },
+        ],
+    },
+    Technology {
+        name: "storage",
+        needs: &[
+            Need {
+                mark: "RS",
+                must: true,
+                how_many: "one; charge / capacity, without its fraction, is at least 1 and at most the window",
+                limits: &[
+                    ("technology", Only(&[3])),
+                    ("factor", ZERO),
+                    ("start-heat", ZERO),
+                    ("no-load-heat", ZERO),
+                    ("incremental-fuel", ZERO),
+                    ("charge", From(1, 1_000_000)),
+                    ("efficiency", From(500, 1_000)),
+                    ("window", From(1, 168)),
+                ],
+                samples: &["RS issue=1 technology=storage capacity=80.0 factor=0.000 start-heat=0 no-load-heat=0 incremental-fuel=0 charge=300.0 efficiency=0.800 window=4"],
+            },
+            Need {
+                mark: "FU",
+                must: true,
+                how_many: FUEL,
+                limits: &[("fuel", In("dollars per MWh, beside the price of energy")), ("emission", ZERO)],
+                samples: &["FU issue=1 profile=1 fuel=0.75 emission=0.00"],
+            },
+            Need {
+                mark: "AD",
+                must: false,
+                how_many: ADDERS,
+                limits: &[("cost", ALL_BUT_PRORATED), ("level", ENERGY_AND_RESERVE)],
+                samples: &["AD issue=1 profile=1 cost=consumables level=reserve amount=0.10"],
+            },
+            Need {
+                mark: "MM",
+                must: false,
+                how_many: ITEMS,
+                limits: &[("start-hours", ZERO)],
+                samples: &["MM issue=1 profile=1 item=1 cost=250000.00 output=80.0 interval=8760 start-hours=0.0"],
+            },
+            REQUESTS,
+            Need {
+                mark: "HR",
+                must: true,
+                how_many: "one for each hour from 1 to the window",
+                limits: &[],
+                samples: &[
+                    "HR issue=1 hour=1 price=106.40",
+                    "HR issue=1 hour=2 price=205.50",
+                    "HR issue=1 hour=3 price=302.50",
+                    "HR issue=1 hour=4 price=98.15",
+                ],
+            },
+            Need {
+                mark: "CH",
+                must: false,
+                how_many: "one for each interval of the week in which it charged; without energy in any, LC counts",
+                limits: &[],
+                samples: &["CH issue=1 interval=13 price=20.00 energy=1000"],
+            },
+            Need {
+                mark: "TH",
+                must: false,
+                how_many: THRESHOLDS,
+                limits: &[("level", ENERGY_AND_RESERVE)],
+                samples: &["TH issue=1 condition=narrow level=energy percent=50 margin=25.00 floor=0.00"],
+            },
+            Need {
+                mark: "LC",
+                must: false,
+                how_many: "one",
+                limits: &[],
+                samples: &["LC issue=1 cost=21.40"],
+            },
+        ],
+    },
+    Technology {
+        name: "hydro",
+        needs: &[
+            Need {
+                mark: "RS",
+                must: true,
+                how_many: STATION,
+                limits: &[
+                    ("technology", Only(&[4])),
+                    ("factor", ZERO),
+                    ("start-heat", ZERO),
+                    ("no-load-heat", ZERO),
+                    ("incremental-fuel", ZERO),
+                    ("charge", ZERO),
+                    ("efficiency", ZERO),
+                    ("window", FromIn(50, 4_000, "places of the forecast")),
+                ],
+                samples: &["RS issue=1 technology=hydro capacity=45.0 factor=0.000 start-heat=0 no-load-heat=0 incremental-fuel=0 charge=0.0 efficiency=0.000 window=50"],
+            },
+            Need {
+                mark: "FU",
+                must: true,
+                how_many: FUEL,
+                limits: &[("fuel", ZERO), ("emission", ZERO)],
+                samples: &["FU issue=1 profile=1 fuel=0.00 emission=0.00"],
+            },
+            Need {
+                mark: "AD",
+                must: false,
+                how_many: ADDERS,
+                limits: &[("cost", ALL_BUT_PRORATED), ("level", ENERGY_AND_RESERVE)],
+                samples: &["AD issue=1 profile=1 cost=unscheduled level=energy amount=2.35"],
+            },
+            Need {
+                mark: "MM",
+                must: false,
+                how_many: ITEMS,
+                limits: &[("start-hours", ZERO)],
+                samples: &["MM issue=1 profile=1 item=1 cost=900000.00 output=45.0 interval=43800 start-hours=0.0"],
+            },
+            REQUESTS,
+            Need {
+                mark: "TH",
+                must: false,
+                how_many: THRESHOLDS,
+                limits: &[("level", ENERGY_AND_RESERVE)],
+                samples: &["TH issue=1 condition=narrow level=energy percent=50 margin=25.00 floor=0.00"],
+            },
+            Need {
+                mark: "FP",
+                must: true,
+                how_many: "one for each place from 1 to the window",
+                limits: &[],
+                samples: &["FP issue=1 place={} price=48.50"],
+            },
+        ],
+    },
+];
+
+impl Technology {
+    pub fn of(name: &str) -> Option<&'static Technology> {
+        TECHNOLOGIES.iter().find(|t| t.name == name)
+    }
+
+    /// The names of all technologies in a row.
+    pub fn names() -> String {
+        listed(&TECHNOLOGIES.each_ref().map(|t| t.name))
+    }
+}
+
+impl Need {
+    pub fn mark(&self) -> Option<&'static Mark> {
+        Mark::of(self.mark.as_bytes())
+    }
+
+    pub fn limit(&self, field: &str) -> Option<Limit> {
+        let limit = self.limits.iter().find(|(name, _)| *name == field);
+        limit.map(|(_, limit)| *limit)
+    }
+
+    /// Whether a number of a field fits here.
+    pub fn allows(&self, field: &Field, number: i128) -> bool {
+        match self.limit(field.name) {
+            Some(Only(numbers)) => numbers.contains(&number),
+            Some(From(lowest, highest) | FromIn(lowest, highest, _)) => {
+                (lowest..=highest).contains(&number)
+            }
+            Some(In(_)) | None => field.allows(number),
+        }
+    }
+
+    /// The range of a field in words, as far as it goes here.
+    pub fn range(&self, field: &Field) -> String {
+        let range = |lowest, highest, or_zero, name| {
+            let unit = Unit { name, ..field.unit };
+            let field = Field {
+                lowest,
+                highest,
+                or_zero,
+                unit,
+                ..*field
+            };
+            field.range()
+        };
+        // What stands between brackets behind a unit is said of other technologies.
+        let name = field.unit.name.split(" (").next().unwrap_or("");
+        match self.limit(field.name) {
+            None => field.range(),
+            Some(In(unit)) => range(field.lowest, field.highest, field.or_zero, unit),
+            Some(From(lowest, highest)) => range(lowest, highest, false, name),
+            Some(FromIn(lowest, highest, unit)) => range(lowest, highest, false, unit),
+            Some(Only(numbers)) => {
+                let words: Vec<String> = numbers.iter().map(|n| field.unit.write(*n)).collect();
+                listed(&words.iter().map(String::as_str).collect::<Vec<_>>())
+            }
+        }
+    }
+
+    /// The sample records, one a line.
+    pub fn lines(&self) -> Vec<String> {
+        let line = |sample: &&str| match sample.contains("{}") {
+            true => (1..=50)
+                .map(|n: u8| sample.replace("{}", &n.to_string()))
+                .collect(),
+            false => vec![sample.to_string()],
+        };
+        self.samples.iter().flat_map(line).collect()
+    }
+}
