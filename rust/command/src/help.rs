@@ -5,16 +5,20 @@ use crate::marks::{Mark, MARKS};
 pub const ALL: &str = "\
 bench: reference levels of a station, and offers held against them
 
+  bench new TECHNOLOGY     a commented text of a station to begin with
   bench pack FILE          a dossier from text
   bench unpack FILE        text from a dossier
   bench check FILE...      whether a dossier is accepted, and if not, why
   bench levels FILE...     the levels at an hour
+  bench explain FILE...    each level term by term, with the records that it rests on
   bench test FILE...       an offer or a price held against the levels of an hour
-  bench day FILE           the levels over hours as a table, and a picture
+  bench offers FILE        many offers to many stations, one a line
+  bench day FILE...        the levels over hours as a table, and pictures
   bench help fields        the fields of every record, with their units and ranges
+  bench help records       the records that each technology must have and may have
 
 'bench COMMAND --help' says more. FILE is a dossier, as text or bytes, which are told apart; '-' or no
-FILE at all is standard input.
+FILE at all is standard input. With --together all files are one station.
 
 Exit status: 0 done; 1 refused; 2 wrong use, or a file that can't be read; 3 an offer that fails.
 ";
@@ -29,6 +33,7 @@ fields. 'bench new thermal > gas.txt' begins a station; 'bench help records' say
 
 pub const PACK: &str = "\
 bench pack [FILE] [--out OUT]
+bench pack FILE... --together [--out OUT]
 
 Writes the dossier of a text, one record a line, to standard output or to OUT:
 
@@ -36,7 +41,8 @@ Writes the dossier of a text, one record a line, to standard output or to OUT:
   FU issue=3 profile=1 fuel=4.00 emission=1.00
 
 Every field of a record is written, in any order. A wrong line is refused with its number, the field
-and its range, and nothing is written. 'bench help fields' lists the fields.
+and its range, and nothing is written. 'bench help fields' lists the fields. With --together the files
+are joined record by record.
 ";
 
 pub const UNPACK: &str = "\
@@ -47,19 +53,20 @@ bytes of it again. A dossier that draws 1, 2, 3 or 13 can't be read and is refus
 ";
 
 pub const CHECK: &str = "\
-bench check [FILE...] [--json]
+bench check [FILE...] [--together] [--json]
 
 Says whether a dossier is accepted. A refusal is told in words: what it means, which record stands at
 the place, what the rule wants and who can mend it. Of many files each gets a line, and a count ends
-the list.
+the list. With --together they are one station: texts and bytes, joined record by record, in any order;
+a refusal names the file.
 ";
 
 pub const LEVELS: &str = "\
-bench levels [FILE...] --hour H [--json]
+bench levels [FILE...] --hour H [--together] [--json | --csv]
 
 Prints the report of an hour, 0 to 4294967295: the profile, each lamination of energy with its ends in
 MW and its level, and the other levels that the station holds, in dollars. Of many files each gets a
-line.
+line; with --together they are one station. --csv writes a table with a row for each level.
 ";
 
 pub const EXPLAIN: &str = "\
@@ -72,14 +79,15 @@ against the library's level; where they don't add up to it, the answer says so a
 ";
 
 pub const TEST: &str = "\
-bench test [FILE...] --hour H --condition C --offer PAIRS [--json]
-bench test [FILE...] --hour H --condition C --level L --price P [--json]
+bench test [FILE...] --hour H --condition C --offer PAIRS [--together] [--json | --csv]
+bench test [FILE...] --hour H --condition C --level L --price P [--together] [--json | --csv]
 
 Holds an offer against the levels of an hour under a condition: narrow, broad or global.
 PAIRS is an energy offer, quantity@price in MW and dollars per MWh, as in '50.0@42.30,100.0@63.46'.
 L is start, no-load or reserve, and P a price in dollars.
 The answer is passes or fails, with the first pair and lamination that fail, and the highest price
-that passes. Of many files each gets a line.
+that passes. Of many files each gets a line; with --together they are one station. --csv writes a table
+with a row for each file.
 ";
 
 pub const OFFERS: &str = "\
@@ -98,12 +106,15 @@ order of FILE, and a count ends the list.
 ";
 
 pub const DAY: &str = "\
-bench day [FILE] --from H [--hours N] [--json]
-          [--condition C --offer PAIRS] [--svg OUT [--at H]]
+bench day [FILE...] --from H [--hours N] [--together] [--json | --csv]
+          [--condition C --offer PAIRS] [--svg OUT [--at H]] [--svg-day OUT]
 
 Prints the levels of N hours from hour H on (24 without --hours) as a table. With an offer, each hour
-has its verdict as well. --svg writes a picture of the energy curve at hour --at (the first without
-it), with the offer's pairs and the highest prices that pass over it.
+has its verdict as well. Of many files each has its table; with --together they are one station. --csv
+writes a row for each level of each hour.
+--svg writes a picture of the energy curve at hour --at (the first without it), with the offer's pairs
+and the highest prices that pass over it. --svg-day writes one of the levels over the hours, with the
+profiles behind them. Both are of one station.
 ";
 
 /// The fields of every record.
