@@ -315,11 +315,6 @@ impl Technology {
     pub fn of(name: &str) -> Option<&'static Technology> {
         TECHNOLOGIES.iter().find(|t| t.name == name)
     }
-
-    /// The names of all technologies in a row.
-    pub fn names() -> String {
-        listed(&TECHNOLOGIES.each_ref().map(|t| t.name))
-    }
 }
 
 impl Need {

@@ -3,18 +3,24 @@
 
 use crate::answer::{Status, Stop, Streams};
 use crate::args::Args;
-use crate::marks::Field;
+use crate::marks::{listed, Field};
+use crate::near::hint;
 use crate::needs::{Need, Technology, TECHNOLOGIES};
+use crate::text::quoted;
 
 pub fn run(args: &Args, streams: &mut Streams) -> Result<Status, Stop> {
-    let names = Technology::names();
+    let names = TECHNOLOGIES.each_ref().map(|t| t.name);
+    let all = listed(&names);
     let [name] = &args.files[..] else {
-        return Err(Stop::Use(format!("it takes one technology: {names}")));
+        return Err(Stop::Use(format!("it takes one technology: {all}")));
     };
-    let technology = name.to_str().and_then(Technology::of);
-    let shown = crate::input::name(name);
-    let says = || format!("no technology is called {shown}: {names}");
-    write!(streams.out, "{}", template(technology.ok_or_else(says)?))?;
+    let name = name.to_string_lossy();
+    let Some(technology) = Technology::of(&name) else {
+        let (shown, meant) = (quoted(&name), hint(&name, &names));
+        let says = format!("no technology is called {shown}{meant}: {all}");
+        return Err(Stop::Use(says));
+    };
+    write!(streams.out, "{}", template(technology))?;
     Ok(Status::Done)
 }
 
