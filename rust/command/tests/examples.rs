@@ -84,13 +84,15 @@ fn stands(name: &str, made: String) {
 #[test]
 fn documents_show_what_is_printed() {
     let folder = Folder::new("documents");
-    for name in ["examples/README.md", "docs/COMMAND.md"] {
+    for name in ["README.md", "examples/README.md", "docs/COMMAND.md"] {
         let document = fs::read_to_string(root().join(name)).expect(name);
         assert!(document.contains("    $ bench "), "{name} shows no call");
         stands(name, renewed(&document, &folder));
     }
-    let picture = fs::read_to_string(folder.0.join("thermal.svg")).expect("a picture");
-    stands("examples/thermal.svg", picture);
+    for name in ["thermal.svg", "day.svg"] {
+        let picture = fs::read_to_string(folder.0.join(name)).expect("a picture");
+        stands(&format!("examples/{name}"), picture);
+    }
 }
 
 /// The page of records is the one that the table of marks and that of technologies make.
