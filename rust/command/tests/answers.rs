@@ -131,9 +131,14 @@ fn words(random: &mut Random, file: &str) -> Vec<String> {
         "levels",
         "test",
         "day",
+        "explain",
+        "offers",
+        "new",
         "help",
         "--help",
         "--json",
+        "--together",
+        "--csv",
         "--hour",
         "--from",
         "--hours",
@@ -167,14 +172,18 @@ fn words(random: &mut Random, file: &str) -> Vec<String> {
         "no-such-file",
         "/",
         "--svg",
+        "--svg-day",
         "--out",
+        "thermal",
+        "fields",
+        "records",
     ];
-    let mut call = vec![random.pick(&words[..6]).to_string(), file.to_string()];
+    let mut call = vec![random.pick(&words[..9]).to_string(), file.to_string()];
     for _ in 0..random.below(9) {
         call.push(random.pick(&words).to_string());
     }
     // What is written goes to a folder, which can't be written.
-    let names_output = |w: &String| w == "--svg" || w == "--out";
+    let names_output = |w: &String| ["--svg", "--svg-day", "--out"].contains(&w.as_str());
     let outputs: Vec<usize> = (0..call.len())
         .filter(|i| names_output(&call[*i]))
         .collect();

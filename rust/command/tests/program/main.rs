@@ -46,7 +46,9 @@ fn statuses() {
 /// A line of `--help` names every option that the command takes.
 #[test]
 fn help_is_there_for_every_command() {
-    for command in ["pack", "unpack", "check", "levels", "test", "day"] {
+    for command in [
+        "new", "pack", "unpack", "check", "levels", "explain", "test", "offers", "day",
+    ] {
         for words in [&[command, "--help"][..], &["help", command]] {
             let help = text(&call(words, b"").stdout);
             assert!(help.starts_with(&format!("bench {command} ")), "{help}");
