@@ -6,7 +6,7 @@ use crate::form::Form;
 use crate::input::{Name, NoInput, STANDARD};
 use crate::json::{object, Json};
 use crate::output::apart_from_standard_output;
-use crate::text::WrongLine;
+use crate::text::{WrongLine, MOST_WRONG};
 use std::ffi::OsString;
 use std::io::{self, IsTerminal, Write};
 
@@ -118,7 +118,11 @@ pub fn wrong_lines(lines: &[WrongLine]) -> Said {
     let told: Vec<String> = told.collect();
     let (line, words) = match &told[..] {
         [first, _, ..] => {
-            let head = format!("{} wrong lines", lines.len());
+            let least = match lines.len() < MOST_WRONG {
+                true => "",
+                false => "at least ",
+            };
+            let head = format!("{least}{} wrong lines", lines.len());
             let more = if lines.len() > told.len() {
                 "\n  and more"
             } else {

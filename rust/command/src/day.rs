@@ -13,6 +13,7 @@ use crate::many::each;
 use crate::offer::{self, highest_in, Pair};
 use crate::output;
 use crate::picture::{self, Picture};
+use crate::table;
 use crate::together::only;
 use crate::unit::CONDITION;
 use bench::{energy_test, Failing, Levels, Refusal, Verdict};
@@ -229,35 +230,19 @@ impl Hour {
     }
 }
 
-/// One row an hour, each column as wide as its widest cell.
+/// One row an hour.
 fn table(hours: &[Hour]) -> String {
     let mut rows: Vec<Vec<String>> = hours.first().map(Hour::heads).into_iter().collect();
     rows.extend(hours.iter().map(Hour::cells));
-    let widest = |column| {
-        rows.iter()
-            .filter_map(|r| r.get(column))
-            .map(String::len)
-            .max()
-    };
-    let widths: Vec<usize> = (0..).map_while(widest).collect();
-    let row = |row: &Vec<String>| {
-        let cells = row
-            .iter()
-            .zip(&widths)
-            .map(|(cell, width)| format!("{cell:>width$}"));
-        cells.collect::<Vec<String>>().join("  ") + "\n"
-    };
     let heading = "energy in dollars per MWh by lamination; the other levels in dollars\n";
-    let rows = rows.iter().map(row);
-    [heading.to_string()].into_iter().chain(rows).collect()
+    // Hour and profile tell a row in each block.
+    format!("{heading}{}", table::written(&rows, 2))
 }
 
 /// The picture of an hour.
 fn drawn(input: &Input, hour: &Hour, question: &Question) -> String {
-    let title = format!(
-        "{}, hour {}, profile {}",
-        input.name, hour.hour, hour.levels.profile
-    );
+    let at = format!(", hour {}, profile {}", hour.hour, hour.levels.profile);
+    let title = picture::title(&input.name.to_string(), &at);
     let steps = &hour.levels.energy;
     let (condition, pairs) = question.offer.clone().unwrap_or_default();
     let name = CONDITION.write(condition.into());
@@ -281,7 +266,8 @@ fn drawn(input: &Input, hour: &Hour, question: &Question) -> String {
 /// The picture of a day.
 fn drawn_day(input: &Input, question: &Question, day: &Day) -> String {
     let last = question.from + (question.hours - 1);
-    let title = format!("{}, hours {} to {last}", input.name, question.from);
+    let at = format!(", hours {} to {last}", question.from);
+    let title = picture::title(&input.name.to_string(), &at);
     let levels = day.hours.iter().map(|h| (h.hour, Ok(&h.levels)));
     let refused = day
         .refused

@@ -31,6 +31,7 @@ mod pipe;
 pub mod plain;
 pub mod record;
 pub mod rules;
+mod table;
 pub mod terms;
 pub mod text;
 mod together;

@@ -69,7 +69,10 @@ pub struct Progress {
     /// What is counted.
     what: &'static str,
     at: usize,
-    shown: Option<Instant>,
+    /// When the line was last written.
+    written: Option<Instant>,
+    /// Whether it is there.
+    shown: bool,
 }
 
 impl Progress {
@@ -78,15 +81,17 @@ impl Progress {
             of,
             what,
             at: 0,
-            shown: None,
+            written: None,
+            shown: false,
         }
     }
 
     /// Goes on to the next input.
     pub fn next(&mut self, streams: &mut Streams) -> io::Result<()> {
         self.at += 1;
-        if streams.err_watched && self.shown.is_none_or(|t| t.elapsed() > PAUSE) {
-            self.shown = Some(Instant::now());
+        if streams.err_watched && self.written.is_none_or(|t| t.elapsed() > PAUSE) {
+            self.written = Some(Instant::now());
+            self.shown = true;
             streams.out.flush()?;
             let Progress { of, what, at, .. } = self;
             write!(streams.err, "\r\x1b[K{at} of {of} {what}")?;
@@ -104,7 +109,7 @@ impl Progress {
     }
 
     pub fn clear(&mut self, streams: &mut Streams) -> io::Result<()> {
-        if self.shown.take().is_some() {
+        if std::mem::take(&mut self.shown) {
             write!(streams.err, "\r\x1b[K")?;
             streams.err.flush()?;
         }

@@ -33,6 +33,12 @@ pub struct Picture<'a> {
     pub offer: Option<Offer<'a>>,
 }
 
+/// A title that fits the sheet: of a long name its beginning, and all that stands behind it.
+pub fn title(name: &str, behind: &str) -> String {
+    let room = TITLE_ROOM - width(behind, TITLE);
+    shorten(name, TITLE, room) + behind
+}
+
 pub fn svg(picture: &Picture) -> String {
     let lines = Lines::of(picture);
     let axis = Axis::of(&lines);

@@ -15,6 +15,9 @@ pub const BOM: &[u8] = b"\xEF\xBB\xBF";
 /// The longest dossier, in bytes.
 pub const LONGEST: usize = 60_000;
 
+/// How many wrong lines of a text are looked for: a file that is no dossier at all has one a line.
+pub const MOST_WRONG: usize = 100;
+
 /// A dossier, and the line that each of its records came from.
 #[derive(Clone, Debug, PartialEq, Eq)]
 pub struct Packed {
@@ -29,7 +32,7 @@ pub struct WrongLine {
     pub says: String,
 }
 
-/// The dossier of a text, or every wrong line of it.
+/// The dossier of a text, or the wrong lines of it, up to [`MOST_WRONG`].
 pub fn pack(text: &[u8]) -> Result<Packed, Vec<WrongLine>> {
     if !is_text(text) && is_utf_16(text) {
         let says = "the text is UTF-16: save it as UTF-8".to_string();
@@ -50,6 +53,9 @@ pub fn pack(text: &[u8]) -> Result<Packed, Vec<WrongLine>> {
                 of_records.push(line);
             }
             Err(says) => wrong.push(WrongLine { line, says }),
+        }
+        if wrong.len() == MOST_WRONG {
+            break;
         }
     }
     match wrong.is_empty() {

@@ -16,6 +16,7 @@ use model::make;
 use model::make::offers::Target;
 use model::random::Random;
 use std::ffi::OsString;
+use std::time::Instant;
 
 const THERMAL: &[u8] = include_bytes!("../../../examples/thermal.txt");
 
@@ -244,12 +245,14 @@ fn many_files_have_a_line_each_and_a_count() {
     assert_eq!(ended.status, Status::Refused);
 }
 
-/// A person at a terminal sees how far the work is; the answers stay free of it.
+/// A person at a terminal sees how far the work is, at most ten times a second; the answers stay free
+/// of it.
 #[test]
 fn progress_is_shown_to_those_who_watch() {
     let file = Kept::new(&make::written::r1());
-    let words = ["check", file.name(), file.name()].map(OsString::from);
-    for (out_watched, times) in [(false, 1), (true, 2)] {
+    let words = [&["check"], &[file.name(); 500][..]].concat();
+    let words: Vec<OsString> = words.iter().map(OsString::from).collect();
+    for out_watched in [false, true] {
         let (mut out, mut err) = (Vec::new(), Vec::new());
         let mut streams = Streams {
             out: &mut out,
@@ -257,11 +260,14 @@ fn progress_is_shown_to_those_who_watch() {
             out_watched,
             err_watched: true,
         };
+        let begun = Instant::now();
         assert_eq!(command::run(&words, &mut streams), Status::Done);
+        let most = 1 + begun.elapsed().as_millis() / 100;
         let shown = String::from_utf8(err).expect("text");
-        assert!(shown.starts_with("\r\x1b[K1 of 2 files"), "{shown:?}");
+        assert!(shown.starts_with("\r\x1b[K1 of 500 files"), "{shown:?}");
         assert!(shown.ends_with("\r\x1b[K"), "{shown:?}");
-        assert_eq!(shown.matches(" of 2 files").count(), times, "{shown:?}");
+        let times = shown.matches(" of 500 files").count();
+        assert!(times as u128 <= most, "{times} times");
         assert!(!String::from_utf8(out).expect("text").contains('\x1b'));
     }
 }
@@ -470,13 +476,14 @@ fn wrong_use_is_told_in_short_with_a_hint() {
     }
 }
 
+fn example(name: &str) -> String {
+    let path = format!("{}/../../examples/{name}.txt", env!("CARGO_MANIFEST_DIR"));
+    std::fs::read_to_string(path).expect(name)
+}
+
 /// A refused text names the lines that clash, or that say what is missing.
 #[test]
 fn refusals_of_a_text_name_lines() {
-    let example = |name: &str| {
-        let path = format!("{}/../../examples/{name}.txt", env!("CARGO_MANIFEST_DIR"));
-        std::fs::read_to_string(path).expect(name)
-    };
     let thermal = |from: &str, to: &str| example("thermal").replace(from, to);
     let twin = example("thermal") + "FU issue=1 profile=1 fuel=5.00 emission=1.00\n";
     for (text, told) in [
@@ -531,4 +538,41 @@ fn refusals_of_a_text_name_lines() {
         assert_eq!(ended.status, Status::Refused);
         assert!(ended.err.contains(told), "{told} in {}", ended.err);
     }
+}
+
+/// The levels of 20 laminations stand in a table that fits 120 columns.
+#[test]
+fn a_day_fits_a_screen() {
+    let mut text = example("thermal").replace("HP", "# HP");
+    for point in 1..=21 {
+        let (output, heat) = (f64::from(point - 1) * 5.0, 1_000 * point * point);
+        text += &format!("HP issue=1 point={point} output={output:.1} heat={heat}\n");
+    }
+    let file = Kept::new(text.as_bytes());
+    let ended = call(&["day", file.name(), "--from", "4294967200", "--hours", "2"]);
+    assert_eq!(ended.status, Status::Done, "{}", ended.err);
+    let heads = ended.out.matches(".0 MW").count();
+    assert_eq!(heads, 20, "{}", ended.out);
+    let widest = ended.out.lines().map(str::len).max();
+    assert!(widest.is_some_and(|n| n <= 120), "{}", ended.out);
+}
+
+/// Of a text with many wrong lines the first are told, in JSON too.
+#[test]
+fn wrong_lines_are_told_up_to_a_limit() {
+    let file = Kept::new("x\n".repeat(300_000).as_bytes());
+    let ended = call(&["check", file.name(), "--json"]);
+    assert_eq!(ended.status, Status::Refused);
+    assert_eq!(ended.out.matches("\"line\":").count(), 100);
+    json::check(&ended.out).unwrap();
+    assert!(
+        ended.err.contains(": at least 100 wrong lines\n"),
+        "{}",
+        ended.err
+    );
+    assert!(ended.err.ends_with("\n  and more\n"), "{}", ended.err);
+    let file = Kept::new("x\n".repeat(99).as_bytes());
+    assert!(call(&["check", file.name()])
+        .err
+        .contains(": 99 wrong lines\n"));
 }

@@ -10,7 +10,9 @@ pub const TOP: f64 = 76.0;
 pub const RIGHT: f64 = 920.0;
 pub const ROW: f64 = 21.0;
 pub const SIZE: f64 = 13.0;
-const TITLE: f64 = 20.0;
+pub const TITLE: f64 = 20.0;
+/// How wide a title may be.
+pub const TITLE_ROOM: f64 = WIDTH - 80.0;
 
 // Blue, dark orange and near-black stay apart for colour-blind eyes. For black-and-white print the
 // lines also differ in width and pattern.
@@ -103,7 +105,7 @@ pub struct Sheet {
 
 impl Sheet {
     pub fn open(title: &str, description: &str) -> Sheet {
-        let short = escape(&shorten(title, TITLE, WIDTH - 80.0));
+        let short = escape(&shorten(title, TITLE, TITLE_ROOM));
         let (title, description) = (escape(title), escape(description));
         let out = format!(
             "<svg xmlns='http://www.w3.org/2000/svg' viewBox='0 0 {WIDTH} {HEIGHT}' width='100%' \

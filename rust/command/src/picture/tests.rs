@@ -340,3 +340,21 @@ fn texts_keep_apart_on_sound_inputs() {
         check_texts(&drawn(&steps, offer));
     }
 }
+
+/// Whatever the file is called, the title tells the hour and the profile.
+#[test]
+fn a_title_keeps_what_stands_behind_the_name() {
+    let behind = ", hour 4294967295, profile 4";
+    for name in ["gas.txt", &"a long name ".repeat(40), &"漢".repeat(300), ""] {
+        let title = title(name, behind);
+        assert!(title.ends_with(behind), "{title}");
+        assert_eq!(shorten(&title, TITLE, TITLE_ROOM), title);
+        assert_eq!(title.starts_with(name), name.len() < 10, "{title}");
+        let out = svg(&Picture {
+            title: &title,
+            steps: &[step(0, 1000, 4230)],
+            offer: None,
+        });
+        assert!(out.contains(&format!("{behind}</text>")), "{out}");
+    }
+}
