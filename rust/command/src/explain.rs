@@ -4,7 +4,8 @@
 use crate::json::{object, Json};
 use crate::lacks::{current, lacks};
 use crate::lines::{Lines, Origin};
-use crate::marks::Mark;
+use crate::marks::{listed, Field, Mark};
+use crate::needs::{Technology, TECHNOLOGIES};
 use crate::offer::{broken, Pair};
 use crate::plain::text_behind;
 use crate::record::{records, Record};
@@ -123,27 +124,29 @@ fn of_record(number: u8, dossier: &[u8], lines: &Lines, record: &Record) -> Vec<
             twin.map(came).into_iter().collect()
         }
         6 => {
-            let station =
-                current(dossier, "RS", 0).map_or(String::new(), |r| r.value("technology"));
-            vec![format!("the station is {station}; {}", fitting(record))]
+            let station = current(dossier, "RS", 0).map(|rs| rs.value("technology"));
+            let technology = station.and_then(|name| Technology::of(&name));
+            technology.map_or_else(Vec::new, |technology| unfit(technology, record))
         }
         _ => Vec::new(),
     }
 }
 
-/// What a record of this mark takes to fit a technology.
-fn fitting(record: &Record) -> &'static str {
-    match record.mark.letters {
-        "RS" => "thermal uses factor and both heats, nuclear factor and incremental-fuel, storage charge, efficiency and window, hydro window; used ones are above 0, but for the heats, and the others are 0",
-        "HP" => "HP is for thermal stations",
-        "FU" => "emission is 0 unless the station is thermal; at a hydro station fuel is 0 too",
-        "AD" => "the level is one that the technology holds (thermal all four, nuclear energy, storage and hydro energy and reserve), and prorated-start is for nuclear energy",
-        "MM" => "start-hours is 0 unless the station is thermal",
-        "TH" => "the level is one that the technology holds: thermal all four, nuclear energy, storage and hydro energy and reserve",
-        "FP" => "FP is for hydro stations",
-        "HR" | "CH" | "LC" => "HR, CH and LC are for storage",
-        _ => "it always fits",
-    }
+/// Why a record doesn't fit a technology: its mark, or the fields that go too far there.
+fn unfit(technology: &Technology, record: &Record) -> Vec<String> {
+    let (name, mark) = (technology.name, record.mark.letters);
+    let Some(need) = technology.need(mark) else {
+        let others = TECHNOLOGIES.iter().filter(|t| t.need(mark).is_some());
+        let others: Vec<&str> = others.map(|t| t.name).collect();
+        return vec![format!(
+            "the station is {name}; {mark} is for {}",
+            listed(&others)
+        )];
+    };
+    let wrong = record.fields().filter(|(f, n)| !need.allows(f, *n));
+    let says =
+        |(f, n): (&Field, i128)| format!("{}: {} at a {name} station", f.text(n), need.range(f));
+    wrong.map(says).collect()
 }
 
 /// What stands at a place where no whole record with a known mark does.

@@ -315,6 +315,11 @@ impl Technology {
     pub fn of(name: &str) -> Option<&'static Technology> {
         TECHNOLOGIES.iter().find(|t| t.name == name)
     }
+
+    /// The records of a mark, if the technology may have any.
+    pub fn need(&self, mark: &str) -> Option<&'static Need> {
+        self.needs.iter().find(|need| need.mark == mark)
+    }
 }
 
 impl Need {

@@ -576,3 +576,30 @@ fn wrong_lines_are_told_up_to_a_limit() {
         .err
         .contains(": 99 wrong lines\n"));
 }
+
+/// A record that doesn't fit is told by its field and the technology's rule.
+#[test]
+fn an_unfit_record_is_told_by_its_field() {
+    let changed = |name: &str, from: &str, to: &str| example(name).replacen(from, to, 1);
+    for (text, told) in [
+        (changed("thermal", "charge=0.0", "charge=5.0"), "\n  charge=5.0: 0.0 at a thermal station\n"),
+        (changed("thermal", "factor=1.000", "factor=0.000"), "\n  factor=0.000: 0.500 to 2.000 at a thermal station\n"),
+        (changed("nuclear", "incremental-fuel=24000", "incremental-fuel=0"), "\n  incremental-fuel=0: 1 to 1000000 mg of uranium per MWh at a nuclear station\n"),
+        (changed("storage", "no-load-heat=0", "no-load-heat=7"), "\n  no-load-heat=7: 0 at a storage station\n"),
+        (changed("hydro", "efficiency=0.000", "efficiency=0.900"), "\n  efficiency=0.900: 0.000 at a hydro station\n"),
+        (changed("nuclear", "emission=0.00", "emission=1.00"), "\n  emission=1.00: 0.00 at a nuclear station\n"),
+        (changed("thermal", "cost=consumables", "cost=prorated-start"), "\n  cost=prorated-start: scheduled, unscheduled, consumables or third-party at a thermal station\n"),
+        (example("hydro") + "LC issue=1 cost=21.40\n", "\n  the station is hydro; LC is for storage\n"),
+        (example("nuclear") + "HP issue=1 point=1 output=1.0 heat=1\n", "\n  the station is nuclear; HP is for thermal\n"),
+    ] {
+        let ended = call(&["check", Kept::new(text.as_bytes()).name()]);
+        assert!(ended.err.contains(": refused 6 at "), "{}", ended.err);
+        assert!(ended.err.contains(told), "{told} in {}", ended.err);
+    }
+    run("unfit records", 5_000, make::dossier, |_, dossier| {
+        let refusal = bench::accept(dossier).err().filter(|r| r.number == 6);
+        let explained = refusal.map(|r| of_dossier(r, dossier, &Vec::new().into()));
+        let told = explained.is_none_or(|e| !e.details.is_empty());
+        same("a reason", told, true)
+    });
+}
