@@ -3,8 +3,10 @@
 
 use crate::json::Json;
 
-/// The columns of `bench levels`.
-pub const LEVELS: &[&str] = &[
+/// Columns in groups that tables share.
+pub type Columns = &'static [&'static [&'static str]];
+
+const OF_LEVEL: &[&str] = &[
     "file",
     "answer",
     "hour",
@@ -14,66 +16,42 @@ pub const LEVELS: &[&str] = &[
     "from",
     "to",
     "dollars",
-    "refused",
-    "place",
-    "says",
 ];
+const OF_OFFER: &[&str] = &[
+    "file",
+    "answer",
+    "hour",
+    "condition",
+    "level",
+    "pair",
+    "lamination",
+    "highest",
+];
+const OF_REFUSAL: &[&str] = &["refused", "place", "says"];
+
+/// The columns of `bench levels`.
+pub const LEVELS: Columns = &[OF_LEVEL, OF_REFUSAL];
 
 /// Those of `bench day`: each row of an hour has the hour's verdict.
-pub const DAY: &[&str] = &[
-    "file",
-    "answer",
-    "hour",
-    "profile",
-    "level",
-    "lamination",
-    "from",
-    "to",
-    "dollars",
-    "verdict",
-    "pair",
-    "in-lamination",
-    "refused",
-    "place",
-    "says",
-];
+pub const DAY: Columns = &[OF_LEVEL, &["verdict", "pair", "in-lamination"], OF_REFUSAL];
 
 /// Those of `bench test`.
-pub const TEST: &[&str] = &[
-    "file",
-    "answer",
-    "hour",
-    "condition",
-    "level",
-    "pair",
-    "lamination",
-    "highest",
-    "refused",
-    "place",
-    "says",
-];
+pub const TEST: Columns = &[OF_OFFER, OF_REFUSAL];
 
 /// Those of `bench offers`: the line of the offers file stands first.
-pub const OFFERS: &[&str] = &[
-    "line",
-    "file",
-    "answer",
-    "hour",
-    "condition",
-    "level",
-    "pair",
-    "lamination",
-    "highest",
-    "refused",
-    "place",
-    "says",
-];
+pub const OFFERS: Columns = &[&["line"], OF_OFFER, OF_REFUSAL];
 
 /// A row: cells by the names of their columns.
 type Row = Vec<(&'static str, String)>;
 
+/// The heads of a table's columns.
+pub fn head(columns: Columns) -> String {
+    line(columns.concat().iter())
+}
+
 /// The rows of an answer, with these columns.
-pub fn rows(columns: &[&str], answer: &Json) -> String {
+pub fn rows(columns: Columns, answer: &Json) -> String {
+    let columns = columns.concat();
     let cell = |row: &Row, column: &str| {
         let found = row.iter().rev().find(|(name, _)| *name == column);
         found.map_or(String::new(), |(_, cell)| cell.clone())
@@ -83,7 +61,7 @@ pub fn rows(columns: &[&str], answer: &Json) -> String {
 }
 
 /// Cells in a line. A cell with a comma, a quote or a line's end stands between quotes.
-pub fn line(cells: impl Iterator<Item = impl AsRef<str>>) -> String {
+fn line(cells: impl Iterator<Item = impl AsRef<str>>) -> String {
     let quoted = |cell: &str| match cell.contains([',', '"', '\n', '\r']) {
         true => format!("\"{}\"", cell.replace('"', "\"\"")),
         false => cell.to_string(),

@@ -2,7 +2,7 @@
 
 use crate::answer::{with_file, Said, Stop};
 use crate::args::Args;
-use crate::csv;
+use crate::csv::{self, Columns};
 use crate::input::Name;
 
 /// How the answers of a call are written.
@@ -11,12 +11,12 @@ pub enum Form {
     Words,
     Json,
     /// A table with these columns.
-    Csv(&'static [&'static str]),
+    Csv(Columns),
 }
 
 impl Form {
     /// The form that a call asks for; `columns` are those of its table.
-    pub fn of(args: &Args, columns: &'static [&'static str]) -> Result<Form, Stop> {
+    pub fn of(args: &Args, columns: Columns) -> Result<Form, Stop> {
         match (args.has("json"), args.has("csv")) {
             (true, true) => Err(Stop::Use("--json and --csv don't go together".to_string())),
             (true, false) => Ok(Form::Json),
@@ -32,7 +32,7 @@ impl Form {
     /// What stands before the first answer: the heads of a table's columns.
     pub fn head(&self) -> String {
         match self {
-            Form::Csv(columns) => csv::line(columns.iter()),
+            Form::Csv(columns) => csv::head(columns),
             _ => String::new(),
         }
     }

@@ -20,9 +20,9 @@ pub struct Need {
     /// How many there are, and what holds of them together.
     pub how_many: &'static str,
     /// The fields that go less far than the mark's own range.
-    pub limits: &'static [(&'static str, Limit)],
+    pub limits: Limits,
     /// Records as they may stand in a text. `{}` stands for each of 1 to 50.
-    pub samples: &'static [&'static str],
+    pub samples: Samples,
 }
 
 /// How far a field goes at a technology.
@@ -44,13 +44,39 @@ const ZERO: Limit = Only(&[0]);
 const ENERGY_AND_RESERVE: Limit = Only(&[1, 4]);
 const ALL_BUT_PRORATED: Limit = Only(&[1, 2, 3, 4]);
 
-const REQUESTS: Need = Need {
-    mark: "RQ",
-    must: false,
-    how_many: "up to 16; of those that cover an hour the highest request counts, and without one profile 1",
-    limits: &[],
-    samples: &["RQ issue=1 request=1 first=6 last=21 profile=1"],
-};
+type Limits = &'static [(&'static str, Limit)];
+type Samples = &'static [&'static str];
+
+/// A record that has to be there.
+const fn must(
+    mark: &'static str,
+    how_many: &'static str,
+    limits: Limits,
+    samples: Samples,
+) -> Need {
+    Need {
+        must: true,
+        ..may(mark, how_many, limits, samples)
+    }
+}
+
+/// A record that may be there.
+const fn may(mark: &'static str, how_many: &'static str, limits: Limits, samples: Samples) -> Need {
+    Need {
+        mark,
+        must: false,
+        how_many,
+        limits,
+        samples,
+    }
+}
+
+const REQUESTS: Need = may(
+    "RQ",
+    "up to 16; of those that cover an hour the highest request counts, and without one profile 1",
+    &[],
+    &["RQ issue=1 request=1 first=6 last=21 profile=1"],
+);
 
 const FUEL: &str = "one for profile 1 and one for each profile that a request names";
 const ADDERS: &str = "one for each profile, cost and level that has such an amount";
@@ -58,15 +84,46 @@ const ITEMS: &str = "up to 8 for each profile";
 const THRESHOLDS: &str = "one for each condition and level under which offers are tested";
 const STATION: &str = "one";
 
+const THERMAL_STATION: &str =
+    "RS issue=1 technology=thermal capacity=100.0 factor=1.000 start-heat=500000 \
+    no-load-heat=100000 incremental-fuel=0 charge=0.0 efficiency=0.000 window=0";
+const POINTS: &str =
+    "2 to 21, numbered from 1 without a gap; output rises, heat and its slope don't fall, and \
+    the last output is the capacity";
+const THERMAL_ITEM: &str =
+    "MM issue=1 profile=1 item=1 cost=2000000.00 output=100.0 interval=25000 start-hours=10.0";
+const THRESHOLD: &str =
+    "TH issue=1 condition=narrow level=energy percent=50 margin=25.00 floor=0.00";
+const START_THRESHOLD: &str =
+    "TH issue=1 condition=narrow level=start percent=50 margin=none floor=0.00";
+const NUCLEAR_STATION: &str =
+    "RS issue=1 technology=nuclear capacity=880.0 factor=1.020 start-heat=0 no-load-heat=0 \
+    incremental-fuel=24000 charge=0.0 efficiency=0.000 window=0";
+const NUCLEAR_ITEM: &str =
+    "MM issue=1 profile=1 item=1 cost=41500000.00 output=880.0 interval=17520 start-hours=0.0";
+const BATTERY: &str =
+    "one; charge / capacity, without its fraction, is at least 1 and at most the window";
+const STORAGE_STATION: &str =
+    "RS issue=1 technology=storage capacity=80.0 factor=0.000 start-heat=0 no-load-heat=0 \
+    incremental-fuel=0 charge=300.0 efficiency=0.800 window=4";
+const STORAGE_ITEM: &str =
+    "MM issue=1 profile=1 item=1 cost=250000.00 output=80.0 interval=8760 start-hours=0.0";
+const INTERVALS: &str =
+    "one for each interval of the week in which it charged; without energy in any, LC counts";
+const HYDRO_STATION: &str =
+    "RS issue=1 technology=hydro capacity=45.0 factor=0.000 start-heat=0 no-load-heat=0 \
+    incremental-fuel=0 charge=0.0 efficiency=0.000 window=50";
+const HYDRO_ITEM: &str =
+    "MM issue=1 profile=1 item=1 cost=900000.00 output=45.0 interval=43800 start-hours=0.0";
+
 pub static TECHNOLOGIES: [Technology; 4] = [
     Technology {
         name: "thermal",
         needs: &[
-            Need {
-                mark: "RS",
-                must: true,
-                how_many: STATION,
-                limits: &[
+            must(
+                "RS",
+                STATION,
+                &[
                     ("technology", Only(&[1])),
                     ("factor", From(500, 2_000)),
                     ("incremental-fuel", ZERO),
@@ -74,63 +131,44 @@ pub static TECHNOLOGIES: [Technology; 4] = [
                     ("efficiency", ZERO),
                     ("window", ZERO),
                 ],
-                samples: &["RS issue=1 technology=thermal capacity=100.0 factor=1.000 start-heat=500000 no-load-heat=100000 incremental-fuel=0 charge=0.0 efficiency=0.000 window=0"],
-            },
-            Need {
-                mark: "HP",
-                must: true,
-                how_many: "2 to 21, numbered from 1 without a gap; output rises, heat and its slope don't fall, and the last output is the capacity",
-                limits: &[],
-                samples: &[
+                &[THERMAL_STATION],
+            ),
+            must(
+                "HP",
+                POINTS,
+                &[],
+                &[
                     "HP issue=1 point=1 output=50.0 heat=500000",
                     "HP issue=1 point=2 output=100.0 heat=900000",
                 ],
-            },
-            Need {
-                mark: "FU",
-                must: true,
-                how_many: FUEL,
-                limits: &[("fuel", In("dollars per GJ"))],
-                samples: &["FU issue=1 profile=1 fuel=4.00 emission=1.00"],
-            },
-            Need {
-                mark: "AD",
-                must: false,
-                how_many: ADDERS,
-                limits: &[("cost", ALL_BUT_PRORATED)],
-                samples: &[
+            ),
+            must(
+                "FU",
+                FUEL,
+                &[("fuel", In("dollars per GJ"))],
+                &["FU issue=1 profile=1 fuel=4.00 emission=1.00"],
+            ),
+            may(
+                "AD",
+                ADDERS,
+                &[("cost", ALL_BUT_PRORATED)],
+                &[
                     "AD issue=1 profile=1 cost=consumables level=energy amount=1.50",
                     "AD issue=1 profile=1 cost=consumables level=reserve amount=0.25",
                 ],
-            },
-            Need {
-                mark: "MM",
-                must: false,
-                how_many: ITEMS,
-                limits: &[],
-                samples: &["MM issue=1 profile=1 item=1 cost=2000000.00 output=100.0 interval=25000 start-hours=10.0"],
-            },
+            ),
+            may("MM", ITEMS, &[], &[THERMAL_ITEM]),
             REQUESTS,
-            Need {
-                mark: "TH",
-                must: false,
-                how_many: THRESHOLDS,
-                limits: &[],
-                samples: &[
-                    "TH issue=1 condition=narrow level=energy percent=50 margin=25.00 floor=0.00",
-                    "TH issue=1 condition=narrow level=start percent=50 margin=none floor=0.00",
-                ],
-            },
+            may("TH", THRESHOLDS, &[], &[THRESHOLD, START_THRESHOLD]),
         ],
     },
     Technology {
         name: "nuclear",
         needs: &[
-            Need {
-                mark: "RS",
-                must: true,
-                how_many: STATION,
-                limits: &[
+            must(
+                "RS",
+                STATION,
+                &[
                     ("technology", Only(&[2])),
                     ("factor", From(500, 2_000)),
                     ("start-heat", ZERO),
@@ -140,50 +178,38 @@ pub static TECHNOLOGIES: [Technology; 4] = [
                     ("efficiency", ZERO),
                     ("window", ZERO),
                 ],
-                samples: &["RS issue=1 technology=nuclear capacity=880.0 factor=1.020 start-heat=0 no-load-heat=0 incremental-fuel=24000 charge=0.0 efficiency=0.000 window=0"],
-            },
-            Need {
-                mark: "FU",
-                must: true,
-                how_many: FUEL,
-                limits: &[("fuel", In("dollars per kg of uranium")), ("emission", ZERO)],
-                samples: &["FU issue=1 profile=1 fuel=310.00 emission=0.00"],
-            },
-            Need {
-                mark: "AD",
-                must: false,
-                how_many: ADDERS,
-                limits: &[("level", Only(&[1]))],
-                samples: &[
+                &[NUCLEAR_STATION],
+            ),
+            must(
+                "FU",
+                FUEL,
+                &[
+                    ("fuel", In("dollars per kg of uranium")),
+                    ("emission", ZERO),
+                ],
+                &["FU issue=1 profile=1 fuel=310.00 emission=0.00"],
+            ),
+            may(
+                "AD",
+                ADDERS,
+                &[("level", Only(&[1]))],
+                &[
                     "AD issue=1 profile=1 cost=scheduled level=energy amount=3.20",
                     "AD issue=1 profile=1 cost=prorated-start level=energy amount=0.85",
                 ],
-            },
-            Need {
-                mark: "MM",
-                must: false,
-                how_many: ITEMS,
-                limits: &[("start-hours", ZERO)],
-                samples: &["MM issue=1 profile=1 item=1 cost=41500000.00 output=880.0 interval=17520 start-hours=0.0"],
-            },
+            ),
+            may("MM", ITEMS, &[("start-hours", ZERO)], &[NUCLEAR_ITEM]),
             REQUESTS,
-            Need {
-                mark: "TH",
-                must: false,
-                how_many: THRESHOLDS,
-                limits: &[("level", Only(&[1]))],
-                samples: &["TH issue=1 condition=narrow level=energy percent=50 margin=25.00 floor=0.00"],
-            },
+            may("TH", THRESHOLDS, &[("level", Only(&[1]))], &[THRESHOLD]),
         ],
     },
     Technology {
         name: "storage",
         needs: &[
-            Need {
-                mark: "RS",
-                must: true,
-                how_many: "one; charge / capacity, without its fraction, is at least 1 and at most the window",
-                limits: &[
+            must(
+                "RS",
+                BATTERY,
+                &[
                     ("technology", Only(&[3])),
                     ("factor", ZERO),
                     ("start-heat", ZERO),
@@ -193,73 +219,58 @@ pub static TECHNOLOGIES: [Technology; 4] = [
                     ("efficiency", From(500, 1_000)),
                     ("window", From(1, 168)),
                 ],
-                samples: &["RS issue=1 technology=storage capacity=80.0 factor=0.000 start-heat=0 no-load-heat=0 incremental-fuel=0 charge=300.0 efficiency=0.800 window=4"],
-            },
-            Need {
-                mark: "FU",
-                must: true,
-                how_many: FUEL,
-                limits: &[("fuel", In("dollars per MWh, beside the price of energy")), ("emission", ZERO)],
-                samples: &["FU issue=1 profile=1 fuel=0.75 emission=0.00"],
-            },
-            Need {
-                mark: "AD",
-                must: false,
-                how_many: ADDERS,
-                limits: &[("cost", ALL_BUT_PRORATED), ("level", ENERGY_AND_RESERVE)],
-                samples: &["AD issue=1 profile=1 cost=consumables level=reserve amount=0.10"],
-            },
-            Need {
-                mark: "MM",
-                must: false,
-                how_many: ITEMS,
-                limits: &[("start-hours", ZERO)],
-                samples: &["MM issue=1 profile=1 item=1 cost=250000.00 output=80.0 interval=8760 start-hours=0.0"],
-            },
+                &[STORAGE_STATION],
+            ),
+            must(
+                "FU",
+                FUEL,
+                &[
+                    ("fuel", In("dollars per MWh, beside the price of energy")),
+                    ("emission", ZERO),
+                ],
+                &["FU issue=1 profile=1 fuel=0.75 emission=0.00"],
+            ),
+            may(
+                "AD",
+                ADDERS,
+                &[("cost", ALL_BUT_PRORATED), ("level", ENERGY_AND_RESERVE)],
+                &["AD issue=1 profile=1 cost=consumables level=reserve amount=0.10"],
+            ),
+            may("MM", ITEMS, &[("start-hours", ZERO)], &[STORAGE_ITEM]),
             REQUESTS,
-            Need {
-                mark: "HR",
-                must: true,
-                how_many: "one for each hour from 1 to the window",
-                limits: &[],
-                samples: &[
+            must(
+                "HR",
+                "one for each hour from 1 to the window",
+                &[],
+                &[
                     "HR issue=1 hour=1 price=106.40",
                     "HR issue=1 hour=2 price=205.50",
                     "HR issue=1 hour=3 price=302.50",
                     "HR issue=1 hour=4 price=98.15",
                 ],
-            },
-            Need {
-                mark: "CH",
-                must: false,
-                how_many: "one for each interval of the week in which it charged; without energy in any, LC counts",
-                limits: &[],
-                samples: &["CH issue=1 interval=13 price=20.00 energy=1000"],
-            },
-            Need {
-                mark: "TH",
-                must: false,
-                how_many: THRESHOLDS,
-                limits: &[("level", ENERGY_AND_RESERVE)],
-                samples: &["TH issue=1 condition=narrow level=energy percent=50 margin=25.00 floor=0.00"],
-            },
-            Need {
-                mark: "LC",
-                must: false,
-                how_many: "one",
-                limits: &[],
-                samples: &["LC issue=1 cost=21.40"],
-            },
+            ),
+            may(
+                "CH",
+                INTERVALS,
+                &[],
+                &["CH issue=1 interval=13 price=20.00 energy=1000"],
+            ),
+            may(
+                "TH",
+                THRESHOLDS,
+                &[("level", ENERGY_AND_RESERVE)],
+                &[THRESHOLD],
+            ),
+            may("LC", "one", &[], &["LC issue=1 cost=21.40"]),
         ],
     },
     Technology {
         name: "hydro",
         needs: &[
-            Need {
-                mark: "RS",
-                must: true,
-                how_many: STATION,
-                limits: &[
+            must(
+                "RS",
+                STATION,
+                &[
                     ("technology", Only(&[4])),
                     ("factor", ZERO),
                     ("start-heat", ZERO),
@@ -269,44 +280,34 @@ pub static TECHNOLOGIES: [Technology; 4] = [
                     ("efficiency", ZERO),
                     ("window", FromIn(50, 4_000, "places of the forecast")),
                 ],
-                samples: &["RS issue=1 technology=hydro capacity=45.0 factor=0.000 start-heat=0 no-load-heat=0 incremental-fuel=0 charge=0.0 efficiency=0.000 window=50"],
-            },
-            Need {
-                mark: "FU",
-                must: true,
-                how_many: FUEL,
-                limits: &[("fuel", ZERO), ("emission", ZERO)],
-                samples: &["FU issue=1 profile=1 fuel=0.00 emission=0.00"],
-            },
-            Need {
-                mark: "AD",
-                must: false,
-                how_many: ADDERS,
-                limits: &[("cost", ALL_BUT_PRORATED), ("level", ENERGY_AND_RESERVE)],
-                samples: &["AD issue=1 profile=1 cost=unscheduled level=energy amount=2.35"],
-            },
-            Need {
-                mark: "MM",
-                must: false,
-                how_many: ITEMS,
-                limits: &[("start-hours", ZERO)],
-                samples: &["MM issue=1 profile=1 item=1 cost=900000.00 output=45.0 interval=43800 start-hours=0.0"],
-            },
+                &[HYDRO_STATION],
+            ),
+            must(
+                "FU",
+                FUEL,
+                &[("fuel", ZERO), ("emission", ZERO)],
+                &["FU issue=1 profile=1 fuel=0.00 emission=0.00"],
+            ),
+            may(
+                "AD",
+                ADDERS,
+                &[("cost", ALL_BUT_PRORATED), ("level", ENERGY_AND_RESERVE)],
+                &["AD issue=1 profile=1 cost=unscheduled level=energy amount=2.35"],
+            ),
+            may("MM", ITEMS, &[("start-hours", ZERO)], &[HYDRO_ITEM]),
             REQUESTS,
-            Need {
-                mark: "TH",
-                must: false,
-                how_many: THRESHOLDS,
-                limits: &[("level", ENERGY_AND_RESERVE)],
-                samples: &["TH issue=1 condition=narrow level=energy percent=50 margin=25.00 floor=0.00"],
-            },
-            Need {
-                mark: "FP",
-                must: true,
-                how_many: "one for each place from 1 to the window",
-                limits: &[],
-                samples: &["FP issue=1 place={} price=48.50"],
-            },
+            may(
+                "TH",
+                THRESHOLDS,
+                &[("level", ENERGY_AND_RESERVE)],
+                &[THRESHOLD],
+            ),
+            must(
+                "FP",
+                "one for each place from 1 to the window",
+                &[],
+                &["FP issue=1 place={} price=48.50"],
+            ),
         ],
     },
 ];
