@@ -281,3 +281,51 @@ fn drawn_day(input: &Input, question: &Question, day: &Day) -> String {
         hours: hours.into_iter().map(|(_, found)| found).collect(),
     })
 }
+
+#[cfg(test)]
+mod tests {
+    use super::*;
+    use crate::lines::Lines;
+
+    const STATION: &str = concat!(env!("CARGO_MANIFEST_DIR"), "/../../examples/thermal.txt");
+
+    /// A day in which one hour is refused, as no rule does today.
+    #[test]
+    fn an_hour_that_is_refused_is_shown_among_the_others() {
+        let text = std::fs::read(STATION).expect("an example");
+        let input = Input {
+            name: crate::input::name("day".as_ref()),
+            dossier: crate::text::pack(&text).expect("a text").dossier,
+            lines: Lines::default(),
+        };
+        let question = Question {
+            from: 5,
+            hours: 3,
+            at: 5,
+            offer: None,
+        };
+        let mut day = asked(&input, &question).expect("levels");
+        day.hours.remove(1);
+        let refusal = Refusal {
+            number: 8,
+            place: 7,
+        };
+        day.refused.push((6, refusal));
+        let said = said(&input, &day);
+        assert_eq!(said.status, Status::Refused);
+        assert!(
+            said.words.contains("\nhour 6: refused 8 at 7: "),
+            "{}",
+            said.words
+        );
+        let json = said.json.to_string();
+        let at = |part: &str| json.find(part).expect(part);
+        assert!(
+            at("\"hour\":5") < at("\"hour\":6,\"refused\"") && at("\"hour\":6") < at("\"hour\":7")
+        );
+        let rows = csv::rows(csv::DAY, &said.json);
+        assert!(rows.contains(",refused,6,,,,,,,,,,8,7,"), "{rows}");
+        let picture = drawn_day(&input, &question, &day);
+        assert!(picture.contains(">hour 6: refused 8<"), "{picture}");
+    }
+}
