@@ -31,6 +31,9 @@
 extern "C" {
 #endif
 
+/* The version of the library; `bench --version` tells that of the command, which is the same. */
+#define BENCH_VERSION "0.1.0"
+
 /* How many words bench_levels writes. */
 #define BENCH_WORDS 66
 

@@ -16,6 +16,7 @@ bench: reference levels of a station, and offers held against them
   bench day FILE...        the levels over hours as a table, and pictures
   bench help fields        the fields of every record, with their units and ranges
   bench help records       the records that each technology must have and may have
+  bench --version          the version
 
 'bench COMMAND --help' says more. FILE is a dossier, as text or bytes, which are told apart; '-' or no
 FILE at all is standard input. With --together all files are one station.

@@ -168,39 +168,47 @@ fn command(word: &OsString) -> Option<&'static Command> {
     COMMANDS.iter().find(|c| *word == *c.name)
 }
 
+/// Pages of help beside those of the commands.
+const PAGES: [&str; 2] = ["fields", "records"];
+
+/// What a call prints that asks for nothing but help or the version.
+fn page(words: &[OsString]) -> Option<String> {
+    let words = words.iter().take(2).map(|word| word.to_str().unwrap_or(""));
+    match words.collect::<Vec<&str>>()[..] {
+        ["--help" | "-h", ..] | ["help"] => Some(help::ALL.to_string()),
+        ["--version" | "-V", ..] => Some(format!("bench {}\n", env!("CARGO_PKG_VERSION"))),
+        ["help", "fields"] => Some(help::fields()),
+        ["help", "records"] => Some(new::page()),
+        _ => None,
+    }
+}
+
 fn called(words: &[OsString], streams: &mut Streams) -> Result<Status, Stop> {
-    let Some((first, rest)) = words.split_first() else {
-        return Err(Stop::Use("a command is missing".to_string()));
-    };
-    let asks = |word: &OsString| word == "--help" || word == "-h";
-    if asks(first) || first == "help" && rest.is_empty() {
-        write!(streams.out, "{}", help::ALL)?;
+    if let Some(page) = page(words) {
+        write!(streams.out, "{page}")?;
         return Ok(Status::Done);
     }
-    if first == "help" && rest[0] == "fields" {
-        write!(streams.out, "{}", help::fields())?;
-        return Ok(Status::Done);
-    }
-    if first == "help" && rest[0] == "records" {
-        write!(streams.out, "{}", new::page())?;
-        return Ok(Status::Done);
-    }
-    let (first, rest) = match (first == "help", rest) {
-        (true, [of, ..]) => (of, &[OsString::from("--help")][..]),
-        _ => (first, rest),
+    let (first, rest) = match words {
+        [] => return Err(Stop::Use("a command is missing".to_string())),
+        [help, of, ..] if help == "help" => (of, &[OsString::from("--help")][..]),
+        [first, rest @ ..] => (first, rest),
     };
-    let Some(command) = command(first) else {
-        let word = first.to_string_lossy();
-        let names: Vec<&str> = COMMANDS.iter().map(|c| c.name).collect();
-        let (shown, meant) = (text::quoted(&word), near::hint(&word, &names));
-        return Err(Stop::Use(format!("no command is called {shown}{meant}")));
-    };
-    let options = rest.iter().take_while(|word| *word != "--");
-    if options.clone().any(asks) {
+    let command = command(first).ok_or_else(|| no_command(first, words[0] == "help"))?;
+    let mut options = rest.iter().take_while(|word| *word != "--");
+    if options.any(|word| word == "--help" || word == "-h") {
         write!(streams.out, "{}", command.help)?;
         return Ok(Status::Done);
     }
     let args = Args::read(rest, command.choices)?;
     output::check(&args)?;
     (command.run)(&args, streams)
+}
+
+/// What is said of a command that there isn't, or of a page of help.
+fn no_command(word: &OsString, help: bool) -> Stop {
+    let word = word.to_string_lossy();
+    let pages = PAGES.iter().filter(|_| help).copied();
+    let names: Vec<&str> = COMMANDS.iter().map(|c| c.name).chain(pages).collect();
+    let (shown, meant) = (text::quoted(&word), near::hint(&word, &names));
+    Stop::Use(format!("no command is called {shown}{meant}"))
 }

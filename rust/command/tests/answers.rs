@@ -448,6 +448,10 @@ fn wrong_use_is_told_in_short_with_a_hint() {
             "no command is called 'lvels' (did you mean levels?)",
         ),
         (
+            &["help", "feilds"],
+            "no command is called 'feilds' (did you mean fields?)",
+        ),
+        (
             &["levels", "--huor", "1"],
             "no option is called '--huor' (did you mean --hour?)",
         ),

@@ -106,3 +106,26 @@ fn a_closed_pipe_is_no_panic() {
     assert_eq!(text(&ended.stderr), "");
     assert_eq!(ended.status.code(), Some(0));
 }
+
+/// The command, the header of the library, the crates and the changelog have one version.
+#[test]
+fn one_version() {
+    let root = Path::new(env!("CARGO_MANIFEST_DIR")).join("../..");
+    let read = |name: &str| std::fs::read_to_string(root.join(name)).expect(name);
+    let version = env!("CARGO_PKG_VERSION");
+    for words in ["--version", "-V"] {
+        let ended = call(&[words], b"");
+        assert_eq!(text(&ended.stdout), format!("bench {version}\n"));
+        assert_eq!(ended.status.code(), Some(0));
+    }
+    let header = format!("\n#define BENCH_VERSION \"{version}\"\n");
+    assert!(read("include/bench.h").contains(&header), "{header}");
+    let of_crate = format!("\nversion = \"{version}\"\n");
+    for name in ["bench", "command", "model"] {
+        assert!(
+            read(&format!("rust/{name}/Cargo.toml")).contains(&of_crate),
+            "{name}"
+        );
+    }
+    assert!(read("CHANGELOG.md").contains(&format!("\n## {version}\n")));
+}
