@@ -85,20 +85,20 @@ fn unclean(line: &[u8], at: usize, byte: u8) -> String {
             "byte 1 begins a record {letters} in bytes, behind text: join texts, or bytes"
         );
     }
+    if !byte.is_ascii() {
+        let other = windows_1252(byte);
+        return format!(
+            "byte {number} is {byte}, which is no UTF-8{other}: save the text as UTF-8"
+        );
+    }
     let what = match byte {
-        0 => "NUL".to_string(),
-        0x0B => "a vertical tab".to_string(),
-        0x0C => "a form feed".to_string(),
-        0x1A => "^Z, which ended texts in older systems".to_string(),
-        0x1B => "an escape".to_string(),
-        0x7F => "a delete".to_string(),
-        0..0x20 => format!("the control character {byte}"),
-        _ => {
-            let other = windows_1252(byte);
-            return format!(
-                "byte {number} is {byte}, which is no UTF-8{other}: save the text as UTF-8"
-            );
-        }
+        0 => "NUL",
+        0x0B => "a vertical tab",
+        0x0C => "a form feed",
+        0x1A => "^Z, which ended texts in older systems",
+        0x1B => "an escape",
+        0x7F => "a delete",
+        _ => &format!("the control character {byte}"),
     };
     format!("byte {number} is {what}: take it out")
 }
