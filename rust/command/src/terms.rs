@@ -13,7 +13,6 @@ use crate::args::{hour, Args};
 use crate::explain::{of_dossier, of_offer, standing, Standing};
 use crate::form::Form;
 use crate::input::Input;
-use crate::json::object;
 use crate::levels::others;
 use crate::many::each;
 use crate::offer::read_level;
@@ -66,17 +65,8 @@ const PER_CENT: i128 = 10_000;
 impl Level {
     /// The side that is taken: the greater one, and the first of two that are equal.
     pub fn taken(&self) -> Option<&Side> {
-        let greater =
-            |best: Option<&'_ Side>, side: &Side| best.is_none_or(|b| side.sum() > b.sum());
-        let mut best = None;
-        for side in &self.sides {
-            best = if greater(best, side) {
-                Some(side)
-            } else {
-                best
-            };
-        }
-        best
+        // Of equal ones the last is found, so they are turned round.
+        self.sides.iter().rev().max_by_key(|side| side.sum())
     }
 
     /// The sum of the side that is taken, in micro-dollars.
@@ -173,7 +163,7 @@ impl Explanation {
             return None;
         }
         let told = |level: Option<(Place, i128)>| match level {
-            Some((place, cents)) => format!("{} is {}", place.words(), words::dollars(cents)),
+            Some((place, cents)) => format!("{} is {}", place.words(), words::cents(cents)),
             None => "there is no such level".to_string(),
         };
         Some(format!(
@@ -202,7 +192,7 @@ impl Explanation {
             },
             line: String::new(),
             words,
-            json: object([]).and(self.json(&differences)),
+            json: self.json(&differences),
         }
     }
 }

@@ -36,6 +36,7 @@ fn every_template_is_accepted_as_it_stands() {
         assert_eq!(shown.status, Status::Done);
         assert_eq!(shown.out, template(technology));
         let file = Kept::new(shown.out.as_bytes());
+        assert_eq!(call(&["pack", file.name()]).status, Status::Done);
         let checked = call(&["check", file.name()]);
         let accepted = format!("accepted: {name}, ");
         assert!(

@@ -5,6 +5,7 @@ use super::book::Book;
 use super::words::{cents, fine, paid};
 use super::{Level, Place, Side, Term};
 use crate::record::Record;
+use crate::unit::MEGAWATTS;
 
 const ENERGY: u8 = 1;
 const START: u8 = 2;
@@ -134,7 +135,7 @@ impl Costs<'_, '_> {
         let factor = self.station.get("factor");
         let burnt = share(heat * self.fuel.get("fuel") * factor, 100_000 * output);
         let emitted = share(heat * self.fuel.get("emission"), 100 * output);
-        let over = crate::unit::MEGAWATTS.write(output);
+        let over = MEGAWATTS.write(output);
         let [price, emission] = ["fuel", "emission"].map(|n| self.fuel.value(n));
         let factor = self.station.value("factor");
         let records = [*from, *to, self.fuel, self.station];

@@ -21,8 +21,6 @@ pub fn cents(amount: i128) -> String {
     DOLLARS.write(amount)
 }
 
-pub use cents as dollars;
-
 /// What was paid for charged energy, a sum of cents per MWh times kWh, as dollars.
 pub fn paid(sum: i128) -> String {
     let below = if sum < 0 { ", counted as 0," } else { "" };
