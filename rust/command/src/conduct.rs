@@ -55,6 +55,24 @@ fn offered(args: &Args) -> Result<Offered, Stop> {
     }
 }
 
+impl Question {
+    /// Hour, condition and level as members of an answer.
+    fn json(&self) -> Json {
+        let level = match self.offered {
+            Offered::Energy(_) => 1,
+            Offered::Price { level, .. } => level,
+        };
+        object([
+            ("hour", Json::whole(self.hour as usize)),
+            (
+                "condition",
+                Json::text(CONDITION.write(self.condition.into())),
+            ),
+            ("level", Json::text(LEVEL.write(level.into()))),
+        ])
+    }
+}
+
 /// What the library says of an offer to a station, in words and JSON.
 pub fn test(input: &Input, question: &Question) -> Said {
     let Question {
@@ -74,7 +92,11 @@ pub fn test(input: &Input, question: &Question) -> Said {
         }
     };
     match verdict {
-        Err(refusal) => refused(&of_offer(refusal, dossier, lines, pairs)),
+        Err(refusal) => {
+            let said = refused(&of_offer(refusal, dossier, lines, pairs));
+            let json = said.json.and(question.json());
+            Said { json, ..said }
+        }
         Ok(Verdict::Passes) => judged(input, question, None),
         Ok(Verdict::Fails(failing)) => judged(input, question, Some(failing)),
     }
@@ -82,7 +104,6 @@ pub fn test(input: &Input, question: &Question) -> Said {
 
 /// What there is to say of an offer that drew no refusal, beside its verdict.
 struct Judged {
-    level: String,
     /// What passes or fails.
     what: String,
     /// Which prices pass, a line for each lamination.
@@ -104,11 +125,6 @@ fn judged(input: &Input, question: &Question, fails: Option<Failing>) -> Said {
     );
     let price = |p: Option<i32>| p.map_or(Json::Null, |p| Json::Number(DOLLARS.write(p.into())));
     let highest = judged.highest.into_iter().map(price).collect();
-    let asked = object([
-        ("hour", Json::whole(question.hour as usize)),
-        ("condition", Json::text(under)),
-        ("level", Json::text(judged.level)),
-    ]);
     Said {
         status: if fails.is_some() {
             Status::Fails
@@ -118,7 +134,8 @@ fn judged(input: &Input, question: &Question, fails: Option<Failing>) -> Said {
         counts_as: if fails.is_some() { "fail" } else { "pass" },
         words: format!("{line}\n{}", judged.passing),
         line,
-        json: asked
+        json: question
+            .json()
             .and(verdict(fails))
             .with("highest", Json::List(highest)),
     }
@@ -157,7 +174,6 @@ fn energy(input: &Input, question: &Question, pairs: &[Pair], fails: Option<Fail
         format!("  lamination {number}, {from} to {to} MW: level {level}, {passes}\n")
     };
     Judged {
-        level: LEVEL.write(1),
         what: match fails {
             Some(fails) => failing(pairs, fails),
             None => "the energy offer".to_string(),
@@ -183,7 +199,6 @@ fn single(input: &Input, question: &Question, level: u8, price: i32) -> Judged {
     Judged {
         what: format!("{name} at {}", DOLLARS.write(price.into())),
         passing: format!("  {name}: {}\n", passing(highest)),
-        level: name,
         highest: vec![highest],
     }
 }

@@ -169,15 +169,19 @@ fn of_verdict(answer: &Json) -> Row {
 
 fn of_refusal(refused: &Json) -> Row {
     let member = |name| refused.member(name).map_or_else(String::new, cell);
-    let details = match refused.member("details") {
-        Some(Json::List(details)) => details.iter().map(|d| format!("; {}", cell(d))).collect(),
-        _ => String::new(),
-    };
     vec![
         ("refused", member("number")),
         ("place", member("place")),
-        ("says", member("means") + &details),
+        ("says", member("means") + &details(refused)),
     ]
+}
+
+/// What is wrong in a refusal, as far as it can be told, to stand behind what it means.
+pub fn details(refused: &Json) -> String {
+    match refused.member("details") {
+        Some(Json::List(details)) => details.iter().map(|d| format!("; {}", cell(d))).collect(),
+        _ => String::new(),
+    }
 }
 
 fn of_wrong_line(wrong: &Json) -> Row {

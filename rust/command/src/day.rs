@@ -14,7 +14,7 @@ use crate::offer::{self, highest_in, Pair};
 use crate::output;
 use crate::picture::{self, Picture};
 use crate::table;
-use crate::together::only;
+use crate::together::{only, told};
 use crate::unit::CONDITION;
 use bench::{energy_test, Failing, Levels, Refusal, Verdict};
 
@@ -56,10 +56,11 @@ pub fn run(args: &Args, streams: &mut Streams) -> Result<Status, Stop> {
     };
     let day = match asked(&input, &question) {
         Ok(day) => day,
-        Err(said) => return Ok(one(&form, streams, &input.name, &said)?),
+        Err(said) => return Ok(one(&form, streams, &input.name, &told(&input, said))?),
     };
     draw(args, &input, &question, &day)?;
-    Ok(one(&form, streams, &input.name, &said(&input, &day))?)
+    let said = told(&input, said(&input, &day));
+    Ok(one(&form, streams, &input.name, &said)?)
 }
 
 /// What is said of the hours of one station.

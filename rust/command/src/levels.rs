@@ -27,7 +27,11 @@ fn levels(input: &Input, hour: u32) -> Said {
             words: report,
             json: json(hour, &levels),
         },
-        Err(refusal) => refused(&of_dossier(refusal, dossier, lines)),
+        Err(refusal) => {
+            let said = refused(&of_dossier(refusal, dossier, lines));
+            let json = said.json.with("hour", Json::whole(hour as usize));
+            Said { json, ..said }
+        }
     }
 }
 

@@ -72,10 +72,11 @@ fn fields(need: &Need) -> impl Iterator<Item = (&'static Field, bool)> {
 pub fn page() -> String {
     let head = "# Records by technology\n\n\
         Which records a station must have and may have, with the units and ranges of their fields there. \
-        `bench help records` prints this page, from the table that\n`bench help fields` prints; `bench new TECHNOLOGY` \
-        writes a text with them that is accepted as it stands. Every record has `issue`, 0 to 4294967295; of the\n\
-        records with one mark and key (the fields with a \\*) the highest issue counts, and older ones may stay. \
-        A record that isn't listed for a technology is refused (6).\n";
+        `bench help records` prints this page, from the table that\n\
+        `bench help fields` prints; `bench new TECHNOLOGY` writes a text with them that is accepted as it stands. \
+        Every record has `issue`, 0 to 4294967295; of\n\
+        the records with one mark and key (the fields with a \\*) the highest issue counts, and older ones may stay. \
+        A record that isn't listed for a technology\nis refused (6).\n";
     let pages = TECHNOLOGIES.iter().map(of_technology);
     [head.to_string()].into_iter().chain(pages).collect()
 }

@@ -38,7 +38,11 @@ pub fn run(args: &Args, streams: &mut Streams) -> Result<Status, Stop> {
     }
     progress.clear(streams)?;
     if form.is_words() {
-        writeln!(streams.out, "{} offers: {}", lines.len(), counted(&counts))?;
+        let offers = match lines.len() {
+            1 => "1 offer".to_string(),
+            n => format!("{n} offers"),
+        };
+        writeln!(streams.out, "{offers}: {}", counted(&counts))?;
     }
     Ok(status)
 }
@@ -109,7 +113,12 @@ impl Answer {
     fn shown(&self, form: &Form) -> String {
         match (form, &self.station) {
             (Form::Words, Some(station)) => {
-                format!("line {}: {station}: {}\n", self.line, self.said.line)
+                let refused = self.said.json.member("refused");
+                let details = refused.map_or(String::new(), csv::details);
+                format!(
+                    "line {}: {station}: {}{details}\n",
+                    self.line, self.said.line
+                )
             }
             (Form::Words, None) => format!("{}\n", self.said.line),
             (Form::Json, _) => format!("{}\n", self.json()),

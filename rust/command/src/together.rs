@@ -21,10 +21,18 @@ pub fn ask(
     ask: impl Fn(&Input) -> Said,
 ) -> Result<Status, Stop> {
     let (name, said) = match join(files) {
-        Ok(input) => (input.name.clone(), ask(&input)),
-        Err(wrong) => (Name::joined(files), wrong),
+        Ok(input) => (input.name.clone(), told(&input, ask(&input))),
+        Err(wrong) => (Name::joined(files), with_files(files, wrong)),
     };
-    Ok(one(form, streams, &name, &with_files(files, said))?)
+    Ok(one(form, streams, &name, &said)?)
+}
+
+/// What is said of a station, with the names of its files where there are several.
+pub fn told(input: &Input, said: Said) -> Said {
+    match &input.lines.parts[..] {
+        [] => said,
+        parts => with_names(parts.iter().map(|part| part.name.file.clone()), said),
+    }
 }
 
 /// The station of a call that takes one: from its only file, or from all of them together. Without
@@ -35,14 +43,21 @@ pub fn only(args: &Args) -> Result<Result<Input, (Name, Said)>, Stop> {
         let wrong = |said| (Name::joined(&files), with_files(&files, said));
         return Ok(join(&files).map_err(wrong));
     }
+    if args.files.len() > 1 {
+        let says = "it takes one file, or several as one station with --together";
+        return Err(Stop::Use(says.to_string()));
+    }
     let file = only_file(args)?;
     let wrong = |error: input::NoInput| (input::name(&file), error.said());
     Ok(input::read(&file).map_err(wrong))
 }
 
-/// The names of the files in an answer's object, before what is said of them.
 fn with_files(files: &[OsString], said: Said) -> Said {
-    let names = files.iter().map(|file| input::name(file).file);
+    with_names(files.iter().map(|file| input::name(file).file), said)
+}
+
+/// The names of the files in an answer's object, before what is said of them.
+fn with_names(names: impl Iterator<Item = Json>, said: Said) -> Said {
     let names = object([("files", Json::List(names.collect()))]);
     let json = names.and(said.json);
     Said { json, ..said }

@@ -108,7 +108,7 @@ fn statuses() {
     let wrong = "station=x hour=0 condition=wide offer=1@1";
     let unreadable = "station=no-such-file hour=0 condition=narrow offer=1@1";
     for (lines, status, counts) in [
-        (vec![passes.as_str()], Status::Done, "1 offers: 1 pass"),
+        (vec![passes.as_str()], Status::Done, "1 offer: 1 pass"),
         (
             vec![&fails, &passes],
             Status::Fails,
@@ -164,7 +164,8 @@ fn objects_and_tables_have_a_row_a_line() {
         rows[1]
     );
     assert!(rows[2].starts_with("2,,refused,"), "{}", rows[2]);
-    assert!(rows[3].contains(",14,0,\"a condition"), "{}", rows[3]);
+    let asked = ",refused,0,global,energy,,,,14,0,\"a condition";
+    assert!(rows[3].contains(asked), "{}", rows[3]);
 }
 
 /// A station from several files in a line.

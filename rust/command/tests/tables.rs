@@ -109,7 +109,7 @@ fn names_and_refusals_stand_between_quotes() {
     ]);
     assert_eq!(ended.status, Status::Refused);
     let says = "a condition that isn't 1 to 3, or no threshold for it and the level; the dossier has no TH";
-    let row = format!("{quoted},refused,,,,,,,14,0,\"{says}\"");
+    let row = format!("{quoted},refused,0,broad,energy,,,,14,0,\"{says}\"");
     assert_eq!(ended.out.lines().nth(1), Some(row.as_str()));
     assert!(ended.err.contains(": refused 14 at 0: "), "{}", ended.err);
     std::fs::remove_dir_all(&folder).expect("removed");

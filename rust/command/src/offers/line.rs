@@ -4,9 +4,10 @@
 use crate::args::hour;
 use crate::conduct::{Offered, Question};
 use crate::input::STANDARD;
+use crate::marks::listed;
 use crate::offer;
 use crate::plain::{clean, lines};
-use crate::text::{unknown, BOM};
+use crate::text::{quoted, unknown, BOM};
 use std::ffi::OsString;
 
 /// An offer, and the files of the station that it is put to.
@@ -50,6 +51,19 @@ fn words(line: &str) -> Result<Vec<String>, String> {
     }
 }
 
+/// What is said of words that are no fields; of many, as in a line of another file, but once.
+fn no_fields(words: &[&str]) -> Option<String> {
+    match words {
+        [] => None,
+        [word] => Some(unknown(word, "field", &NAMES)),
+        [first, ..] => {
+            let (first, more) = (quoted(first), words.len() - 1);
+            let known = listed(&NAMES);
+            Some(format!("{first} and {more} more are no fields: {known}"))
+        }
+    }
+}
+
 /// The fields of a line.
 struct Fields<'a> {
     fields: Vec<(&'a str, &'a str)>,
@@ -58,19 +72,20 @@ struct Fields<'a> {
 
 impl<'a> Fields<'a> {
     fn of(words: &'a [String]) -> Fields<'a> {
-        let (mut fields, mut wrong) = (Vec::new(), Vec::new());
+        let (mut fields, mut wrong, mut none) = (Vec::new(), Vec::new(), Vec::new());
         for word in words {
             let (name, value) = word.split_once('=').unwrap_or((word, ""));
             // Several files of one station are named one by one.
             let twice = name != "station" && fields.iter().any(|(n, _)| *n == name);
             if !NAMES.contains(&name) || !word.contains('=') {
-                wrong.push(unknown(name, "field", &NAMES));
+                none.push(name);
             } else if twice {
                 wrong.push(format!("{name} stands twice"));
             } else {
                 fields.push((name, value));
             }
         }
+        wrong.splice(..0, no_fields(&none));
         Fields { fields, wrong }
     }
 
@@ -185,6 +200,9 @@ mod tests {
             "'x' is no field: station, hour, condition, offer, level or price; station is missing; \
              hour is missing; condition is missing; offer is missing, or level and price"
         );
+        let record = wrong("FU issue=1 profile=1 station=a hour=1 condition=narrow offer=1@1");
+        let says = "'FU' and 2 more are no fields: station, hour, condition, offer, level or price";
+        assert_eq!(record, says);
         assert_eq!(wrong("station=\"a"), "a quote that doesn't end");
         assert!(wrong("station=a\u{c}").starts_with("byte 10 is a form feed"));
         assert!(wrong("station=- hour=1 condition=narrow offer=1@1").starts_with("station: "));
