@@ -9,7 +9,9 @@ use command::answer::Status;
 use command::input::Input;
 use command::lines::Lines;
 use command::terms::Explanation;
+use model::accept::accepted;
 use model::cases::{run, same, Check};
+use model::levels::{reckon, Levels, Micro};
 use model::make;
 use model::random::Random;
 use std::sync::atomic::{AtomicU64, Ordering};
@@ -27,6 +29,15 @@ fn explained(random: &mut Random, dossier: &[u8]) -> Option<Explanation> {
     Explanation::of(&input(dossier), hour).ok()
 }
 
+/// The sums in micro-dollars are those of the model, which is written from the papers alone.
+fn sums_are_those_of_the_model(explanation: &Explanation, dossier: &[u8]) -> Check {
+    let station = accepted(dossier).map_err(|refusal| format!("{refusal:?}"))?;
+    let levels: Levels<Micro> = reckon(&station, explanation.hour);
+    let model: Vec<i128> = levels.all().map(|micro| micro.0 as i128).collect();
+    let sums: Vec<i128> = explanation.levels.iter().map(|level| level.sum()).collect();
+    same("sums", sums, model)
+}
+
 /// The terms come to the library's levels, each record that they name lies in the dossier, and the
 /// JSON holds.
 fn adds_up(random: &mut Random, dossier: &[u8]) -> Check {
@@ -34,6 +45,7 @@ fn adds_up(random: &mut Random, dossier: &[u8]) -> Check {
         return Ok(());
     };
     same("differences", explanation.differences(), Vec::new())?;
+    sums_are_those_of_the_model(&explanation, dossier)?;
     let said = explanation.said();
     same("status", said.status, Status::Done)?;
     for term in explanation
@@ -54,6 +66,23 @@ fn adds_up(random: &mut Random, dossier: &[u8]) -> Check {
 #[test]
 fn terms_add_up_to_the_levels_of_the_library() {
     run("explained levels", 4_000, make::dossier, adds_up);
+}
+
+/// Divisions that leave half a micro-dollar, batteries that didn't charge, and forecasts at their ends.
+#[test]
+fn terms_add_up_at_the_edges() {
+    let edges = make::edges();
+    assert!(edges.len() > 30, "{} edges", edges.len());
+    let mut explained = 0;
+    for dossier in edges {
+        let Ok(explanation) = Explanation::of(&input(&dossier), 0) else {
+            continue;
+        };
+        assert_eq!(explanation.differences(), Vec::<String>::new());
+        sums_are_those_of_the_model(&explanation, &dossier).unwrap();
+        explained += 1;
+    }
+    assert!(explained > 20, "{explained} explained");
 }
 
 /// A term that is a cent off, at any place, is told and is an error. In a battery's lesser side it
