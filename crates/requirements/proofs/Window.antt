@@ -13,7 +13,7 @@ use Rattle.records.specs.MarkShapes.{shape, shapeOf}
 use Rattle.records.specs.Dossier.{records}
 use Rattle.station.specs.Parameters.{Parameters, parameters, technology, window}
 use Rattle.index.specs.Slots.{slot}
-use Rattle.index.proofs.Slots.{InKey}
+use Rattle.index.proofs.KeyBounds.{InKey}
 use Rattle.lookup.specs.Parts.{Indexed, Complete}
 use Rattle.lookup.proofs.Parts.{one-field, slot-tells, beyond-index}
 use Rattle.parameters.proofs.Points.{there-is, none-there}
