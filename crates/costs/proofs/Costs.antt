@@ -1,12 +1,11 @@
 -- The formulas over numbers that were read are the paper's.
 use mathlib.Core.Path.{_≡_, refl}
 use Prim.Native.Nat.{ℕ, _+_, _*_}
-use native.Mathlib.Omega.{arith}
 use Rattle.station.specs.Parameters.{Parameters, Amounts, factor, startHeat, noLoadHeat, incrementalFuel, output, heat, fuel, emission}
-use Rattle.rules.specs.Fit.{energy, start, noLoad}
+use Rattle.rules.specs.Fit.{start, noLoad}
 use Rattle.rules.specs.Curve.{rise}
 use Rattle.formulas.specs.Exact.{quotient, microDollars}
-use Rattle.formulas.specs.Levels.{adders, maintenance, startMaintenance, thermalEnergy, heatCost, startCost, noLoadCost, nuclearEnergy, forecastPrice, hydroEnergy}
+use Rattle.formulas.specs.Levels.{adders, additions, startMaintenance, thermalEnergy, heatCost, startCost, noLoadCost, nuclearEnergy, forecastPrice, hydroEnergy}
 
 module _ (s : Parameters) (m : Amounts) (p : ℕ) {f e k : ℕ} (fuel-is : f ≡ fuel m p) (emission-is : e ≡ emission m p) (factor-is : k ≡ factor s) where
   pub heat-costs : (h : ℕ) {r : ℕ} → r ≡ quotient (h * f * k) 1000000 + quotient (h * e) 1000 → r ≡ microDollars (heatCost s m p h)
@@ -14,9 +13,9 @@ module _ (s : Parameters) (m : Amounts) (p : ℕ) {f e k : ℕ} (fuel-is : f ≡
   heat-costs h g = rw (g, fuel-is, emission-is, factor-is) refl
 
   pub thermal-costs : (i : ℕ) {h o r more : ℕ} → h ≡ rise (heat s) i → o ≡ rise (output s) i → r ≡ quotient (h * f * k) (100000 * o) + quotient (h * e) (100 * o)
-      → more ≡ microDollars (adders m p 1) + microDollars (maintenance s m p) → r + more ≡ microDollars (thermalEnergy s m p i)
+      → more ≡ microDollars (additions s m p) → r + more ≡ microDollars (thermalEnergy s m p i)
   unfolding microDollars thermalEnergy
-  thermal-costs i a b g t = rw (g, t, a, b, fuel-is, emission-is, factor-is) (omega arith)
+  thermal-costs i a b g t = rw (g, t, a, b, fuel-is, emission-is, factor-is) refl
 
 module _ (s : Parameters) (m : Amounts) (p : ℕ) where
   pub start-costs : {h x a t : ℕ} → h ≡ startHeat s → x ≡ microDollars (heatCost s m p h) → a ≡ microDollars (adders m p start) → t ≡ microDollars (startMaintenance s m p) → x + a + t ≡ microDollars (startCost s m p)
@@ -27,10 +26,10 @@ module _ (s : Parameters) (m : Amounts) (p : ℕ) where
   unfolding microDollars noLoadCost
   noLoad-costs e f g = rw (f, g, e) refl
 
-  pub nuclear-costs : {u f k q a t : ℕ} → u ≡ incrementalFuel s → f ≡ fuel m p → k ≡ factor s → q ≡ quotient (u * f * k) 1000000000 → a ≡ microDollars (adders m p energy) → t ≡ microDollars (maintenance s m p) → q + a + t ≡ microDollars (nuclearEnergy s m p)
+  pub nuclear-costs : {u f k q a : ℕ} → u ≡ incrementalFuel s → f ≡ fuel m p → k ≡ factor s → q ≡ quotient (u * f * k) 1000000000 → a ≡ microDollars (additions s m p) → q + a ≡ microDollars (nuclearEnergy s m p)
   unfolding microDollars nuclearEnergy
-  nuclear-costs e f g q a t = rw (q, e, f, g, a, t) refl
+  nuclear-costs e f g q a = rw (q, e, f, g, a) refl
 
-  pub hydro-costs : {x a t : ℕ} → x ≡ forecastPrice s m → a ≡ microDollars (adders m p energy) → t ≡ microDollars (maintenance s m p) → x * 10000 + a + t ≡ microDollars (hydroEnergy s m p)
+  pub hydro-costs : {x a : ℕ} → x ≡ forecastPrice s m → a ≡ microDollars (additions s m p) → x * 10000 + a ≡ microDollars (hydroEnergy s m p)
   unfolding microDollars hydroEnergy
-  hydro-costs e a t = rw (e, a, t) refl
+  hydro-costs e a = rw (e, a) refl

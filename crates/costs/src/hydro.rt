@@ -7,8 +7,7 @@ ghost use Rattle.lookup.specs.Parts.{Indexed, Complete, parametersHeld, amounts
 ghost use Rattle.formulas.specs.Sums.{listTo, fromTop};
 ghost use Rattle.formulas.specs.Exact.{microDollars};
 ghost use Rattle.formulas.specs.Levels.{parametersIn, amountsIn, forecastPrice, hydroEnergy};
-use crate::maintenance::adders;
-use crate::maintenance::maintenance;
+use crate::maintenance::additions;
 
 // The prices of so many places from place 1 on, into the last places of an array, place 1 the very last.
 fn prices(d: &[u8], index: &[u16], places: usize, prices: &mut [u32])
@@ -61,5 +60,5 @@ pub fn hydro_energy(d: &[u8], index: &[u16], p: usize) -> u64
     ensures { λ r. ⌜ r ≡ microDollars (hydroEnergy (parametersHeld (now (d .entry)) (now (index .entry))) (amountsHeld (now (d .entry)) (now (index .entry))) p) ⌝ }
 {
     let price = forecast_price(d, index, parameters::window(d, index));
-    price * 10000 + adders(d, index, p, 1) + maintenance(d, index, p)
+    price * 10000 + additions(d, index, p)
 }

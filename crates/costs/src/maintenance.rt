@@ -4,7 +4,7 @@ ghost use Prim.Native.Nat.{_*_, _≤_};
 ghost use Rattle.station.specs.Parameters.{costC, outputW, intervalT, hoursPerStartS};
 ghost use Rattle.lookup.specs.Parts.{Indexed, parametersHeld, amountsHeld};
 ghost use Rattle.formulas.specs.Exact.{quotient, microDollars};
-ghost use Rattle.formulas.specs.Levels.{adders, maintenance, startMaintenance};
+ghost use Rattle.formulas.specs.Levels.{adders, maintenance, additions, startMaintenance};
 
 // The adders of a level. A profile without any is told by its slots at once, as one without items is below.
 pub fn adders(d: &[u8], index: &[u16], p: usize, v: usize) -> u64
@@ -46,7 +46,7 @@ fn start_item(d: &[u8], index: &[u16], p: usize, j: usize) -> u64
 }
 
 // Maintenance in an energy level.
-pub fn maintenance(d: &[u8], index: &[u16], p: usize) -> u64
+fn maintenance(d: &[u8], index: &[u16], p: usize) -> u64
     requires { ⌜ Indexed (now d) (now index) × (1 ≤ p) × (p ≤ 4) ⌝ }
     ensures { λ r. ⌜ (r ≡ microDollars (maintenance (parametersHeld (now (d .entry)) (now (index .entry))) (amountsHeld (now (d .entry)) (now (index .entry))) p)) × (r ≤ 80000000000000000) ⌝ }
 {
@@ -60,6 +60,14 @@ pub fn maintenance(d: &[u8], index: &[u16], p: usize) -> u64
         j += 1;
     }
     sum
+}
+
+// What AD and MM add to an energy level.
+pub fn additions(d: &[u8], index: &[u16], p: usize) -> u64
+    requires { ⌜ Indexed (now d) (now index) × (1 ≤ p) × (p ≤ 4) ⌝ }
+    ensures { λ r. ⌜ (r ≡ microDollars (additions (parametersHeld (now (d .entry)) (now (index .entry))) (amountsHeld (now (d .entry)) (now (index .entry))) p)) × (r ≤ 80005000000000000) ⌝ }
+{
+    adders(d, index, p, 1) + maintenance(d, index, p)
 }
 
 // Maintenance in a start level.

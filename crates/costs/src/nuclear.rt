@@ -4,8 +4,7 @@ ghost use Prim.Native.Nat.{_≤_};
 ghost use Rattle.lookup.specs.Parts.{Indexed, parametersHeld, amountsHeld};
 ghost use Rattle.formulas.specs.Exact.{microDollars};
 ghost use Rattle.formulas.specs.Levels.{nuclearEnergy};
-use crate::maintenance::adders;
-use crate::maintenance::maintenance;
+use crate::maintenance::additions;
 
 // The sum of its one lamination.
 pub fn nuclear_energy(d: &[u8], index: &[u16], p: usize) -> u64
@@ -15,7 +14,5 @@ pub fn nuclear_energy(d: &[u8], index: &[u16], p: usize) -> u64
     let uranium = parameters::incremental_fuel(d, index);
     let fuel = parameters::fuel(d, index, p);
     let factor = parameters::factor(d, index);
-    arithmetic::share(uranium * fuel * factor, 1000000000)
-        + adders(d, index, p, 1)
-        + maintenance(d, index, p)
+    arithmetic::share(uranium * fuel * factor, 1000000000) + additions(d, index, p)
 }

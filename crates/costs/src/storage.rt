@@ -11,8 +11,7 @@ ghost use Rattle.formulas.specs.Sums.{listTo, sumHighest};
 ghost use Rattle.formulas.specs.Exact.{microDollars};
 ghost use Rattle.formulas.specs.Levels.{parametersIn, amountsIn, chargingCost, shortRunCost, opportunityCost, storageEnergy};
 ghost use Rattle.costs.specs.Intervals.{Summed, Walked, Week};
-use crate::maintenance::adders;
-use crate::maintenance::maintenance;
+use crate::maintenance::additions;
 
 // Price × energy, the price plus 2^31, and energy, added up over intervals.
 pub struct Charging {
@@ -202,7 +201,7 @@ fn short_run_cost(d: &[u8], index: &[u16], p: usize) -> u64
 {
     let charge = charging_cost(d, index) + parameters::fuel(d, index, p);
     let efficiency = parameters::efficiency(d, index);
-    arithmetic::share(charge * 1000, efficiency) + adders(d, index, p, 1) + maintenance(d, index, p)
+    arithmetic::share(charge * 1000, efficiency) + additions(d, index, p)
 }
 
 // The prices of hours 1 to the window, into the last places of an array, hour 1 the very last.

@@ -7,9 +7,8 @@ ghost use Rattle.station.specs.Parameters.{output, heat};
 ghost use Rattle.lookup.specs.Parts.{Indexed, parametersHeld, amountsHeld};
 ghost use Rattle.rules.specs.Curve.{points, rise};
 ghost use Rattle.formulas.specs.Exact.{microDollars, cents};
-ghost use Rattle.formulas.specs.Levels.{parametersIn, adders, maintenance, thermalEnergy, heatCost, startCost, noLoadCost};
+ghost use Rattle.formulas.specs.Levels.{parametersIn, additions, thermalEnergy, heatCost, startCost, noLoadCost};
 use crate::maintenance::adders;
-use crate::maintenance::maintenance;
 use crate::maintenance::start_maintenance;
 use arithmetic::Money;
 
@@ -56,9 +55,9 @@ fn output_rise(d: &[u8], index: &[u16], i: usize) -> u64
     )
 }
 
-// The level of lamination i in cents, given its adders and maintenance together.
+// The level of lamination i in cents, given what AD and MM add.
 pub fn lamination(d: &[u8], index: &[u16], p: usize, i: usize, more: u64) -> u64
-    requires { ⌜ Indexed (now d) (now index) × (1 ≤ p) × (p ≤ 4) × (1 ≤ i) × (i ≤ 20) × (more ≡ microDollars (adders (amountsHeld (now d) (now index)) p 1) + microDollars (maintenance (parametersHeld (now d) (now index)) (amountsHeld (now d) (now index)) p)) × (more ≤ 80005000000000000) ⌝ }
+    requires { ⌜ Indexed (now d) (now index) × (1 ≤ p) × (p ≤ 4) × (1 ≤ i) × (i ≤ 20) × (more ≡ microDollars (additions (parametersHeld (now d) (now index)) (amountsHeld (now d) (now index)) p)) × (more ≤ 80005000000000000) ⌝ }
     ensures { λ r. ⌜ r ≡ cents (microDollars (thermalEnergy (parametersHeld (now (d .entry)) (now (index .entry))) (amountsHeld (now (d .entry)) (now (index .entry))) p i)) ⌝ }
 {
     let heat = heat_rise(d, index, i);

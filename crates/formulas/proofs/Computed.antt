@@ -2,10 +2,10 @@
 use Prim.Native.Nat.{ℕ, _+_}
 use Rattle.rules.proofs.Computed.{computed as below}
 use Rattle.formulas.specs.Exact.{quotient, microDollars, cents, plus, sumOver, greaterOf, exact}
-use Rattle.formulas.specs.Levels.{covers, profileOf, profile, adders, maintenance, startMaintenance, thermalEnergy, heatCost, startCost, noLoadCost, nuclearEnergy, totalEnergy, chargingSum, chargingCost, shortRunCost, highestSum, opportunityCost, storageEnergy, forecastPlace, forecastPrice, hydroEnergy, laminations, oneLamination, single, linesOf, lines, levels}
+use Rattle.formulas.specs.Levels.{covers, profileOf, profile, adders, maintenance, additions, startMaintenance, thermalEnergy, heatCost, startCost, noLoadCost, nuclearEnergy, totalEnergy, chargingSum, chargingCost, shortRunCost, highestSum, opportunityCost, storageEnergy, forecastPlace, forecastPrice, hydroEnergy, laminations, oneLamination, single, linesOf, lines, levels, hourAnswer}
 use Rattle.formulas.specs.Sums.{sumTo, sumOf, listTo, insert, falling, sumFirst, sumHighest, fromTop}
 
 -- how many definitions there are to open
 unfoldable pub computed : ℕ
-unfolding below quotient microDollars cents plus sumOver greaterOf exact covers profileOf profile adders maintenance startMaintenance thermalEnergy heatCost startCost noLoadCost nuclearEnergy totalEnergy chargingSum chargingCost shortRunCost highestSum opportunityCost storageEnergy forecastPlace forecastPrice hydroEnergy laminations oneLamination single linesOf lines levels sumTo sumOf listTo insert falling sumFirst sumHighest fromTop
-computed = below + 42
+unfolding below quotient microDollars cents plus sumOver greaterOf exact covers profileOf profile adders maintenance additions startMaintenance thermalEnergy heatCost startCost noLoadCost nuclearEnergy totalEnergy chargingSum chargingCost shortRunCost highestSum opportunityCost storageEnergy forecastPlace forecastPrice hydroEnergy laminations oneLamination single linesOf lines levels hourAnswer sumTo sumOf listTo insert falling sumFirst sumHighest fromTop
+computed = below + 44

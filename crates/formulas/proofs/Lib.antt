@@ -5,5 +5,6 @@ pub mod Rounding
 pub mod Exact
 pub mod Lines
 pub mod Profile
+pub mod Hours
 pub mod Signed
 pub mod Memo

@@ -14,7 +14,7 @@ use Rattle.station.specs.Parameters.{Parameters, Amounts, Higher, technology, e
 use Rattle.rules.specs.Curve.{fullHours}
 use Rattle.formulas.specs.Sums.{sumTo}
 use Rattle.formulas.specs.Exact.{Sum, whole, share}
-use Rattle.formulas.specs.Levels.{profile, adders, maintenance, startMaintenance, thermalEnergy, heatCost, startCost, noLoadCost, nuclearEnergy, totalEnergy, chargingSum, chargingCost, shortRunCost, highestSum, opportunityCost, storageEnergy, forecastPlace, forecastPrice, hydroEnergy, Line, line, amount, NoLower, CloseLine, laminations, oneLamination, single, linesOf, lines}
+use Rattle.formulas.specs.Levels.{profile, adders, maintenance, additions, startMaintenance, thermalEnergy, heatCost, startCost, noLoadCost, nuclearEnergy, totalEnergy, chargingSum, chargingCost, shortRunCost, highestSum, opportunityCost, storageEnergy, forecastPlace, forecastPrice, hydroEnergy, Line, line, amount, NoLower, CloseLine, laminations, oneLamination, single, linesOf, lines}
 use Rattle.formulas.proofs.Sums.{sumTo-mono, listTo-mono, sumHighest-mono, fromTop-mono}
 use Rattle.formulas.proofs.Exact.{Below, wholes, shares, both, totals, perThousands, greaters, microDollars-mono, cents-mono, divisions, Efficient, close}
 
@@ -29,6 +29,10 @@ module _ (s : Parameters) {m n : Amounts} (h : Higher m n) (p : ℕ) where
   unfolding maintenance
   maintenance-below = totals (λ j. shares (mul-le-mul-right 100000 (h MM (itemKey p j) 2)))
 
+  additions-below : Below (additions s m p) (additions s n p)
+  unfolding additions
+  additions-below = both (adders-below 1) maintenance-below
+
   startMaintenance-below : Below (startMaintenance s m p) (startMaintenance s n p)
   unfolding startMaintenance
   startMaintenance-below = totals (λ j. shares (mul-le-mul-right 1000 (mul-le-mul-right _ (h MM (itemKey p j) 2))))
@@ -36,7 +40,7 @@ module _ (s : Parameters) {m n : Amounts} (h : Higher m n) (p : ℕ) where
   thermal-below : (i : ℕ) → Below (thermalEnergy s m p i) (thermalEnergy s n p i)
   unfolding thermalEnergy
   thermal-below i =
-      both (both (both (shares (mul-le-mul-right _ (mul-le-mul-left _ (h FU p 1)))) (shares (mul-le-mul-left _ (h FU p 2)))) (adders-below 1)) maintenance-below
+      both (both (shares (mul-le-mul-right _ (mul-le-mul-left _ (h FU p 1)))) (shares (mul-le-mul-left _ (h FU p 2)))) additions-below
 
   heat-below : (x : ℕ) → Below (heatCost s m p x) (heatCost s n p x)
   unfolding heatCost
@@ -52,7 +56,7 @@ module _ (s : Parameters) {m n : Amounts} (h : Higher m n) (p : ℕ) where
 
   nuclear-below : Below (nuclearEnergy s m p) (nuclearEnergy s n p)
   unfolding nuclearEnergy
-  nuclear-below = both (both (shares (mul-le-mul-right _ (mul-le-mul-left _ (h FU p 1)))) (adders-below 1)) maintenance-below
+  nuclear-below = both (shares (mul-le-mul-right _ (mul-le-mul-left _ (h FU p 1)))) additions-below
 
   chargingSum-le : chargingSum s m ≤ chargingSum s n
   unfolding chargingSum
@@ -72,7 +76,7 @@ module _ (s : Parameters) {m n : Amounts} (h : Higher m n) (p : ℕ) where
   unfolding storageEnergy shortRunCost opportunityCost
   storage-below =
       greaters
-      (both (both (perThousands (both charging-below (wholes (h FU p 1)))) (adders-below 1)) maintenance-below)
+      (both (perThousands (both charging-below (wholes (h FU p 1)))) additions-below)
       (shares (mul-le-mul-right 10000 highestSum-le))
 
   forecastPrice-le : forecastPrice s m ≤ forecastPrice s n
@@ -81,7 +85,7 @@ module _ (s : Parameters) {m n : Amounts} (h : Higher m n) (p : ℕ) where
 
   hydro-below : Below (hydroEnergy s m p) (hydroEnergy s n p)
   unfolding hydroEnergy
-  hydro-below = both (both (wholes (mul-le-mul-right 10000 forecastPrice-le)) (adders-below 1)) maintenance-below
+  hydro-below = both (wholes (mul-le-mul-right 10000 forecastPrice-le)) additions-below
 
 -- ---- the lines: the same levels, laminations and ends, none lower
 
@@ -115,8 +119,8 @@ lines-upper s g h = linesOf-upper s g (profile s h)
 
 module _ (s : Parameters) (m : Amounts) (p : ℕ) where
   thermal-close : (i a b : ℕ) → CloseLine (line 1 i a b (thermalEnergy s m p i))
-  unfolding thermalEnergy adders maintenance divisions sumTo
-  thermal-close i a b = close (thermalEnergy s m p i) (((tt, tt), tt), λ j. tt) (lit≤ tt)
+  unfolding thermalEnergy additions adders maintenance divisions sumTo
+  thermal-close i a b = close (thermalEnergy s m p i) ((tt, tt), (tt, λ j. tt)) (lit≤ tt)
 
   start-close : CloseLine (single 2 (startCost s m p))
   unfolding single startCost heatCost adders startMaintenance divisions sumTo
@@ -131,8 +135,8 @@ module _ (s : Parameters) (m : Amounts) (p : ℕ) where
   reserve-close = close (adders m p 4) tt (lit≤ tt)
 
   nuclear-close : CloseLine (oneLamination s (nuclearEnergy s m p))
-  unfolding oneLamination nuclearEnergy adders maintenance divisions sumTo
-  nuclear-close = close (nuclearEnergy s m p) ((tt, tt), λ j. tt) (lit≤ tt)
+  unfolding oneLamination nuclearEnergy additions adders maintenance divisions sumTo
+  nuclear-close = close (nuclearEnergy s m p) (tt, (tt, λ j. tt)) (lit≤ tt)
 
   -- at most one division, whether energy was charged or not
   charging-one : Efficient (chargingCost s m) × (divisions (chargingCost s m) ≤ 1)
@@ -141,12 +145,12 @@ module _ (s : Parameters) (m : Amounts) (p : ℕ) where
       cond-holds (λ x. Efficient x × (divisions x ≤ 1)) (eqb (totalEnergy s) 0) (whole (lastCost m)) (share (chargingSum s m * 10000) (totalEnergy s)) (tt, lit≤ tt) (tt, lit≤ tt)
 
   storage-close : 500 ≤ efficiency s → CloseLine (oneLamination s (storageEnergy s m p))
-  unfolding oneLamination storageEnergy shortRunCost opportunityCost adders maintenance divisions sumTo
-  storage-close e = close (storageEnergy s m p) ((((e, (charging-one .0, tt)), tt), λ j. tt), tt) (max-le (omega (arith, charging-one .1)) (lit≤ tt))
+  unfolding oneLamination storageEnergy shortRunCost opportunityCost additions adders maintenance divisions sumTo
+  storage-close e = close (storageEnergy s m p) (((e, (charging-one .0, tt)), (tt, λ j. tt)), tt) (max-le (omega (arith, charging-one .1)) (lit≤ tt))
 
   hydro-close : CloseLine (oneLamination s (hydroEnergy s m p))
-  unfolding oneLamination hydroEnergy adders maintenance divisions sumTo
-  hydro-close = close (hydroEnergy s m p) ((tt, tt), λ j. tt) (lit≤ tt)
+  unfolding oneLamination hydroEnergy additions adders maintenance divisions sumTo
+  hydro-close = close (hydroEnergy s m p) (tt, (tt, λ j. tt)) (lit≤ tt)
 
   laminations-close : (k i : ℕ) {l : List Line} → Each CloseLine l → Each CloseLine (laminations s m p i k l)
   unfolding laminations

@@ -5,10 +5,12 @@ use mathlib.Core.List.{List, [], _∷_}
 use Prim.Native.Nat.{ℕ, zero, suc, _+_, _*_, _-_, _/_, _≤_}
 use lib.Dec.{leb, eqb}
 use Rattle.records.specs.Table.{thermal, nuclear, storage, hydro, RQ}
+use Rattle.records.specs.declared.Answer.{Answer}
 use Rattle.records.specs.Dossier.{records}
 use Rattle.station.specs.Parameters.{Parameters, Amounts, parameters, amounts, technology, capacity, factor, startHeat, noLoadHeat, incrementalFuel, efficiency, window, output, heat, fuel, emission, adder, costC, outputW, intervalT, hoursPerStartS, firstHour, lastHour, requested, hourPrice, chargePrice, chargeEnergy, placePrice, lastCost}
 use Rattle.rules.specs.Fit.{energy, start, noLoad, reserve}
 use Rattle.rules.specs.Curve.{points, rise, fullHours}
+use Rattle.rules.specs.Answer.{answer}
 use Rattle.formulas.specs.Sums.{sumTo, listTo, sumHighest, fromTop}
 use Rattle.formulas.specs.Exact.{Sum, whole, share, _⊕_, total, perThousand, greater, microDollars, exact, cents, Close}
 
@@ -47,6 +49,10 @@ adders m p v = whole (sumTo 5 (λ c. adder m p c v))
 unfoldable pub maintenance : Parameters → Amounts → ℕ → Sum
 maintenance s m p = total 8 (λ j. share (costC m p j * 100000) (outputW s p j * intervalT s p j))
 
+-- what AD and MM add to an energy level
+unfoldable pub additions : Parameters → Amounts → ℕ → Sum
+additions s m p = adders m p energy ⊕ maintenance s m p
+
 -- "and C × S × 1,000 / T to start"
 unfoldable pub startMaintenance : Parameters → Amounts → ℕ → Sum
 startMaintenance s m p = total 8 (λ j. share (costC m p j * hoursPerStartS s p j * 1000) (intervalT s p j))
@@ -56,8 +62,7 @@ unfoldable pub thermalEnergy : Parameters → Amounts → ℕ → ℕ → Sum
 thermalEnergy s m p i =
     share (rise (heat s) i * fuel m p * factor s) (100000 * rise (output s) i)
     ⊕ share (rise (heat s) i * emission m p) (100 * rise (output s) i)
-    ⊕ adders m p energy
-    ⊕ maintenance s m p
+    ⊕ additions s m p
 
 -- "heat × fuel × factor / 1,000,000 plus heat × emission / 1,000"
 unfoldable pub heatCost : Parameters → Amounts → ℕ → ℕ → Sum
@@ -73,7 +78,7 @@ noLoadCost s m p = heatCost s m p (noLoadHeat s) ⊕ adders m p noLoad
 
 -- "incremental fuel × fuel × factor / 10^9"
 unfoldable pub nuclearEnergy : Parameters → Amounts → ℕ → Sum
-nuclearEnergy s m p = share (incrementalFuel s * fuel m p * factor s) 1000000000 ⊕ adders m p energy ⊕ maintenance s m p
+nuclearEnergy s m p = share (incrementalFuel s * fuel m p * factor s) 1000000000 ⊕ additions s m p
 
 -- over all intervals
 unfoldable pub totalEnergy : Parameters → ℕ
@@ -89,7 +94,7 @@ chargingCost s m = cond (eqb (totalEnergy s) 0) (whole (lastCost m)) (share (cha
 
 -- "(charging cost + fuel) × 1,000 / efficiency, plus AD and MM"
 unfoldable pub shortRunCost : Parameters → Amounts → ℕ → Sum
-shortRunCost s m p = perThousand (chargingCost s m ⊕ whole (fuel m p)) (efficiency s) ⊕ adders m p energy ⊕ maintenance s m p
+shortRunCost s m p = perThousand (chargingCost s m ⊕ whole (fuel m p)) (efficiency s) ⊕ additions s m p
 
 -- "the X highest of hours 1 to the window, repeated prices counted each", "their sum, 0 if below 0"
 unfoldable pub highestSum : Parameters → Amounts → ℕ
@@ -114,7 +119,7 @@ forecastPrice s m = fromTop (forecastPlace s) (listTo (window s) (placePrice m))
 
 -- "Energy is the greater of 0 and that price, plus AD and MM, in one lamination": cents in micro-dollars
 unfoldable pub hydroEnergy : Parameters → Amounts → ℕ → Sum
-hydroEnergy s m p = whole (forecastPrice s m * 10000) ⊕ adders m p energy ⊕ maintenance s m p
+hydroEnergy s m p = whole (forecastPrice s m * 10000) ⊕ additions s m p
 
 -- ---- the levels
 
@@ -171,6 +176,10 @@ lines s m h = linesOf s m (profile s h)
 -- the levels of a dossier at an hour
 unfoldable pub levels : List ℕ → ℕ → List Line
 levels d h = lines (parametersIn d) (amountsIn d) h
+
+-- what a dossier draws before it is asked for anything at an hour; no hour draws more than another
+unfoldable pub hourAnswer : List ℕ → ℕ → Answer
+hourAnswer d h = answer d
 
 -- ---- what a line shows
 

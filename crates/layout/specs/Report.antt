@@ -11,8 +11,7 @@ use Rattle.records.specs.Answers.{orElse, refuseIf, isAccepted}
 use Rattle.records.specs.Dossier.{records}
 use Rattle.station.specs.Parameters.{parameters}
 use Rattle.rules.specs.Fit.{energy, start, noLoad}
-use Rattle.rules.specs.Answer.{answer}
-use Rattle.formulas.specs.Levels.{profile, levels, Shown, shown}
+use Rattle.formulas.specs.Levels.{profile, levels, hourAnswer, Shown, shown}
 use Rattle.layout.specs.declared.Written.{Written}
 use Rattle.layout.specs.declared.Written.the-variants.{Bytes, Refused}
 use Rattle.text.specs.Text.{decimal, tenths, hundredths, refusalLine, profileWord, energyWord, startWord, noLoadWord, reserveWord, space, newline, over}
@@ -74,7 +73,7 @@ writtenNumbers (Refused k p) = 2 ∷ k ∷ p ∷ []
 
 -- the answer to a report into a buffer of n bytes: "10, 11, 15"
 unfoldable pub reportAnswer : List ℕ → ℕ → ℕ → Answer
-reportAnswer d h n = orElse (answer d) (shortFor (report d h) n)
+reportAnswer d h n = orElse (hourAnswer d h) (shortFor (report d h) n)
 
 -- the buffer after it: "so does the report buffer to its last byte"
 unfoldable pub bufferAfter : List ℕ → ℕ → List ℕ → List ℕ
@@ -89,4 +88,4 @@ printed (Turned n p) text = refusalLine n p
 
 -- what `levels` prints for its standard input, "a big-endian 4-byte hour, then the dossier"; "16 under four bytes of input" comes first
 unfoldable pub prints : List ℕ → List ℕ
-prints i = printed (orElse (refuseIf (ltb (length i) 4) 16 0) (answer (drop 4 i))) (report (drop 4 i) (number 0 4 i))
+prints i = printed (orElse (refuseIf (ltb (length i) 4) 16 0) (hourAnswer (drop 4 i) (number 0 4 i))) (report (drop 4 i) (number 0 4 i))

@@ -1,4 +1,5 @@
 pub mod Demand
+pub mod Meaning
 pub mod Order
 pub mod Declared
 pub mod Marked

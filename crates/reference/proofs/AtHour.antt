@@ -12,6 +12,7 @@ use Rattle.lookup.specs.Parts.{Indexed, parametersHeld, amountsHeld}
 use Rattle.lookup.proofs.Held.{parameters-held, amounts-held}
 use Rattle.formulas.specs.Exact.{microDollars, cents}
 use Rattle.formulas.specs.Levels.{parametersIn, amountsIn, profile, linesOf, lines, levels}
+use Rattle.formulas.proofs.Hours.{hour-accepted, hour-refused}
 use Rattle.arrays.specs.declared.HourLevels.{HourLevels}
 use Rattle.arrays.specs.Packed.{amountOf, packed, packedAt, singleSum, noLevels}
 use Rattle.arrays.proofs.Single.{sum-amount}
@@ -34,8 +35,8 @@ single-amount {d} i h v {q} e l u g = ap₂ (λ (s : Parameters) (m : Amounts). 
 -- the answer with the levels
 pub levels-accepted : (d : List ℕ) (h : ℕ) {l : HourLevels} → answer d ≡ Accepted → l ≡ packedAt d h → record { answer = Accepted; levels = l } ≡ levelsAnswer d h
 unfolding levelsAnswer isAccepted
-levels-accepted d h e f = rw (e, f) refl
+levels-accepted d h e f = rw (hour-accepted d h (record { clean = e }), f) refl
 
 pub levels-refused : (d : List ℕ) (h n p : ℕ) {l : HourLevels} → answer d ≡ Refused n p → l ≡ noLevels → record { answer = Refused n p; levels = l } ≡ levelsAnswer d h
 unfolding levelsAnswer isAccepted
-levels-refused d h n p e f = rw (e, f) refl
+levels-refused d h n p e f = rw (hour-refused d h e, f) refl

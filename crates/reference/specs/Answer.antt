@@ -3,7 +3,7 @@ use mathlib.Core.Bool.{cond}
 use mathlib.Core.List.{List}
 use Prim.Native.Nat.{ℕ}
 use Rattle.records.specs.Answers.{isAccepted}
-use Rattle.rules.specs.Answer.{answer}
+use Rattle.formulas.specs.Levels.{hourAnswer}
 use Rattle.arrays.specs.Packed.{packedAt, noLevels}
 use Rattle.reference.specs.declared.LevelsAnswer.{LevelsAnswer}
 
@@ -11,6 +11,6 @@ use Rattle.reference.specs.declared.LevelsAnswer.{LevelsAnswer}
 unfoldable pub levelsAnswer : List ℕ → ℕ → LevelsAnswer
 levelsAnswer d h =
     record {
-      answer = answer d;
-      levels = cond (isAccepted (answer d)) (packedAt d h) noLevels;
+      answer = hourAnswer d h;
+      levels = cond (isAccepted (hourAnswer d h)) (packedAt d h) noLevels;
     }

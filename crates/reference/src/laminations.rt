@@ -6,8 +6,7 @@ ghost use lib.ListN.{replicate};
 ghost use Rattle.lookup.specs.Parts.{Indexed, parametersHeld, amountsHeld};
 ghost use Rattle.formulas.specs.Levels.{laminations, amount};
 ghost use Rattle.arrays.specs.Packed.{padded};
-use costs::maintenance::adders;
-use costs::maintenance::maintenance;
+use costs::maintenance::additions;
 use costs::thermal::bottom;
 use costs::thermal::lamination;
 
@@ -24,7 +23,7 @@ pub fn laminations(
     requires { ⌜ Indexed (now d) (now index) × (1 ≤ p) × (p ≤ 4) × (n ≤ 20) × (now from ≡ replicate 20 0) × (now to ≡ replicate 20 0) × (now cents ≡ replicate 20 0) ⌝ }
     ensures { λ r. ⌜ (now (from .exit) ≡ padded 20 (map (λ x. x .from) (laminations (parametersHeld (now (d .entry)) (now (index .entry))) (amountsHeld (now (d .entry)) (now (index .entry))) p 1 n []))) × (now (to .exit) ≡ padded 20 (map (λ x. x .to) (laminations (parametersHeld (now (d .entry)) (now (index .entry))) (amountsHeld (now (d .entry)) (now (index .entry))) p 1 n []))) × (now (cents .exit) ≡ padded 20 (map (λ x. amount x) (laminations (parametersHeld (now (d .entry)) (now (index .entry))) (amountsHeld (now (d .entry)) (now (index .entry))) p 1 n []))) ⌝ }
 {
-    let more = adders(d, index, p, 1) + maintenance(d, index, p);
+    let more = additions(d, index, p);
     let mut i = 0;
     while i < n {
         from[i] = bottom(d, index, i + 1);

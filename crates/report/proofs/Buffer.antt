@@ -9,6 +9,7 @@ use Rattle.records.specs.Dossier.{records}
 use Rattle.station.specs.Parameters.{parameters}
 use Rattle.rules.specs.Answer.{answer}
 use Rattle.arrays.specs.declared.HourLevels.{HourLevels}
+use Rattle.formulas.proofs.Hours.{hour-accepted, hour-refused}
 use Rattle.formulas.specs.Levels.{profile, levels, shown}
 use Rattle.arrays.specs.Packed.{unpacked}
 use Rattle.layout.specs.declared.Written.{Written}
@@ -31,9 +32,9 @@ module _ (d : List ℕ) (h : ℕ) (e : List ℕ) where
   pub told-levels : (r : HourLevels) {w : Written} {b : List ℕ} → answer d ≡ Accepted → packedReport r ≡ report d h
       → Put (packedReport r) e w b → Told d h e w b
   unfolding reportAnswer bufferAfter orElse
-  told-levels r a q p = rw (a, ← q) p
+  told-levels r a q p = rw (hour-accepted d h (record { clean = a }), ← q) p
 
   -- a refused dossier's refusal comes first
   pub told-refusal : (k p : ℕ) → answer d ≡ Turned k p → Told d h e (Refused k p) e
   unfolding reportAnswer bufferAfter bufferWith written orElse isAccepted
-  told-refusal k p a = rw a (refl, refl)
+  told-refusal k p a = rw (hour-refused d h a) (refl, refl)

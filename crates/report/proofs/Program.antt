@@ -18,11 +18,11 @@ use Rattle.records.proofs.Answers.{orElse-none}
 use Rattle.records.specs.Table.{thermal, nuclear, storage, hydro, HP}
 use Rattle.records.specs.Dossier.{records}
 use Rattle.index.proofs.Turn.{tail}
-use Rattle.station.specs.Current.{readable}
 use Rattle.station.specs.Parameters.{Parameters, Amounts, parameters, amounts, technology}
-use Rattle.rules.specs.Answer.{answer}
+use Rattle.rules.proofs.Draws.{overlong}
 use Rattle.rules.specs.Curve.{points}
-use Rattle.formulas.specs.Levels.{Line, profile, laminations, linesOf, lines, levels, shown}
+use Rattle.formulas.specs.Levels.{Line, profile, laminations, linesOf, lines, levels, hourAnswer, shown}
+use Rattle.formulas.proofs.Hours.{hour-refused}
 use Rattle.text.specs.Text.{refusalLine}
 use Rattle.text.proofs.Decimal.{decimal-within}
 use Rattle.text.proofs.Lengths.{refusal-length}
@@ -85,18 +85,18 @@ hour-there n a h = rw (le-ltb n 4 h)
 
 pub prints-short : (i : List ℕ) → length i < 4 → prints i ≡ refusalLine 16 0
 unfolding prints printed
-prints-short i h = ap (λ (a : Answer). printed a (report (drop 4 i) (number 0 4 i))) (no-hour (length i) (answer (drop 4 i)) h)
+prints-short i h = ap (λ (a : Answer). printed a (report (drop 4 i) (number 0 4 i))) (no-hour (length i) (hourAnswer (drop 4 i) (number 0 4 i)) h)
 
 -- an hour is there: the dossier's refusal, or its report
-prints-answer : (i : List ℕ) (a : Answer) → 4 ≤ length i → answer (drop 4 i) ≡ a → prints i ≡ printed a (report (drop 4 i) (number 0 4 i))
+prints-answer : (i : List ℕ) (a : Answer) → 4 ≤ length i → hourAnswer (drop 4 i) (number 0 4 i) ≡ a → prints i ≡ printed a (report (drop 4 i) (number 0 4 i))
 unfolding prints
-prints-answer i a h e = ap (λ (a : Answer). printed a (report (drop 4 i) (number 0 4 i))) (hour-there (length i) (answer (drop 4 i)) h ∙ e)
+prints-answer i a h e = ap (λ (a : Answer). printed a (report (drop 4 i) (number 0 4 i))) (hour-there (length i) (hourAnswer (drop 4 i) (number 0 4 i)) h ∙ e)
 
 prints-too-long : (i : List ℕ) → 60004 < length i → prints i ≡ refusalLine 13 0
-unfolding answer readable orElse refuseIf printed
+unfolding printed
 prints-too-long i h =
     let k : 60000 < length (drop 4 i) = simp length-drop (omega arith) in
-    prints-answer i (Turned 13 0) (omega arith) (rw (lt-ltb 60000 (length (drop 4 i)) k))
+    prints-answer i (Turned 13 0) (omega arith) (hour-refused (drop 4 i) (number 0 4 i) (overlong (drop 4 i) k))
 
 -- 4 hour bytes, 60,000 of a dossier, and one more to tell that it is too long: what comes after them changes nothing
 pub prints-cut : (i : List ℕ) → prints (take 60005 i) ≡ prints i
@@ -110,9 +110,9 @@ prints-cut i =
 
 -- ---- the function that prints: a report in a buffer where every report fits
 
-with-room : (d : List ℕ) (h : ℕ) (e : List ℕ) → 2283 ≤ length e → reportAnswer d h (length e) ≡ answer d
+with-room : (d : List ℕ) (h : ℕ) (e : List ℕ) → 2283 ≤ length e → reportAnswer d h (length e) ≡ hourAnswer d h
 unfolding reportAnswer
-with-room d h e k = rw (long-enough (report d h) (length e) (omega (arith, report-fits d h))) (orElse-none (answer d))
+with-room d h e k = rw (long-enough (report d h) (length e) (omega (arith, report-fits d h))) (orElse-none (hourAnswer d h))
 
 -- the report that the function calls sees the input after the hour as a part
 pub after-hour : (i e : List ℕ) {h : ℕ} {w : Written} {b : List ℕ} → h ≡ number 0 4 i → Told (take (length i - 4) (drop 4 i)) h e w b → Told (drop 4 i) (number 0 4 i) e w b
@@ -122,7 +122,7 @@ after-hour i e {h} {w} {b} q t =
 
 module _ (i e : List ℕ) (room : 2283 ≤ length e) (four : 4 ≤ length i) where
   -- what is told stands on the dossier's answer alone
-  told-answer : {w : Written} {b : List ℕ} (a : Answer) → answer (drop 4 i) ≡ a → Told (drop 4 i) (number 0 4 i) e w b
+  told-answer : {w : Written} {b : List ℕ} (a : Answer) → hourAnswer (drop 4 i) (number 0 4 i) ≡ a → Told (drop 4 i) (number 0 4 i) e w b
       → (w ≡ written a (length (report (drop 4 i) (number 0 4 i)))) × (b ≡ bufferWith a (report (drop 4 i) (number 0 4 i)) e)
   unfolding bufferAfter
   told-answer a p t = rw (with-room (drop 4 i) (number 0 4 i) e room, p) at t
@@ -130,9 +130,9 @@ module _ (i e : List ℕ) (room : 2283 ≤ length e) (four : 4 ≤ length i) whe
   -- bytes that are told are all that is printed
   pub print-report : (n : ℕ) {b : List ℕ} → Told (drop 4 i) (number 0 4 i) e (Bytes n) b → Wrote (prints i) e n b
   unfolding printed bufferWith written isAccepted
-  print-report n {b} t = go (answer (drop 4 i)) refl
+  print-report n {b} t = go (hourAnswer (drop 4 i) (number 0 4 i)) refl
     where
-      go : (a : Answer) → answer (drop 4 i) ≡ a → Wrote (prints i) e n b
+      go : (a : Answer) → hourAnswer (drop 4 i) (number 0 4 i) ≡ a → Wrote (prints i) e n b
       go Accepted p =
           let l : n ≡ length (report (drop 4 i) (number 0 4 i)) = cc (told-answer Accepted p t .0) in
           rw (prints-answer i Accepted four p) (l, told-answer Accepted p t .1)
@@ -141,9 +141,9 @@ module _ (i e : List ℕ) (room : 2283 ≤ length e) (four : 4 ≤ length i) whe
   -- a refusal that is told is what is printed, and the buffer is as it was
   pub print-refusal : (k q : ℕ) {b : List ℕ} → Told (drop 4 i) (number 0 4 i) e (Refused k q) b → (prints i ≡ refusalLine k q) × (b ≡ e)
   unfolding printed bufferWith written isAccepted
-  print-refusal k q {b} t = go (answer (drop 4 i)) refl
+  print-refusal k q {b} t = go (hourAnswer (drop 4 i) (number 0 4 i)) refl
     where
-      go : (a : Answer) → answer (drop 4 i) ≡ a → (prints i ≡ refusalLine k q) × (b ≡ e)
+      go : (a : Answer) → hourAnswer (drop 4 i) (number 0 4 i) ≡ a → (prints i ≡ refusalLine k q) × (b ≡ e)
       go Accepted p = let z : _≡_ {A = ℕ} 0 1 = cc (told-answer Accepted p t .0) in absurd (omega arith)
       go (Turned k′ q′) p =
           let f : k ≡ k′ = cc (told-answer (Turned k′ q′) p t .0) in

@@ -12,11 +12,11 @@ use Rattle.records.specs.MarkShapes.{shape, shapes, shapeOf, keyField, keyFits,
 use Rattle.records.specs.Table.{table, rowOf, fieldOf}
 use Rattle.station.specs.Current.{matches, better, currentFrom, current, startFrom, startOf, present, twin, anyTwin, twins, readable, lookup, lookupBytes}
 use Rattle.station.specs.Parameters.{parameters, amounts}
-use Rattle.rules.specs.Answer.{unsupported, answer}
+use Rattle.rules.specs.Answer.{unsupported, recordsAnswer, answer}
 use Rattle.rules.specs.Curve.{points, rise, curveHolds, curveFits, fuelHolds, fullHours, hoursHold, windowFits, placesHold, forecastFits}
 use Rattle.rules.specs.Fit.{levelsOf, holds, fieldFits, ruleFits, fits, isCurrent, unfit}
 
 -- how many definitions there are to open
 unfoldable pub computed : ℕ
-unfolding joined allBelow allTo countTo every everyOf among between number bytesOnto bytesOf signed biased biasedOf orElse refuseIf drawn isAccepted answerNumbers numberOf placeOf valuesIn made pair firstOf restOf recordsIn records moneyAtIn moneyAt firstDrawn scan limitOf markIn mark issue widths size offsetIn offset keyIn keyWidth keyOf moneyIn moneyByte read value inRange agrees rangesHold fault shape shapes shapeOf keyField keyFits keyTest table rowOf fieldOf matches better currentFrom current startFrom startOf present twin anyTwin twins readable lookup lookupBytes parameters amounts unsupported answer points rise curveHolds curveFits fuelHolds fullHours hoursHold windowFits placesHold forecastFits levelsOf holds fieldFits ruleFits fits isCurrent unfit
-computed = 94
+unfolding joined allBelow allTo countTo every everyOf among between number bytesOnto bytesOf signed biased biasedOf orElse refuseIf drawn isAccepted answerNumbers numberOf placeOf valuesIn made pair firstOf restOf recordsIn records moneyAtIn moneyAt firstDrawn scan limitOf markIn mark issue widths size offsetIn offset keyIn keyWidth keyOf moneyIn moneyByte read value inRange agrees rangesHold fault shape shapes shapeOf keyField keyFits keyTest table rowOf fieldOf matches better currentFrom current startFrom startOf present twin anyTwin twins readable lookup lookupBytes parameters amounts unsupported recordsAnswer answer points rise curveHolds curveFits fuelHolds fullHours hoursHold windowFits placesHold forecastFits levelsOf holds fieldFits ruleFits fits isCurrent unfit
+computed = 95

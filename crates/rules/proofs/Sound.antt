@@ -28,9 +28,10 @@ use Rattle.station.proofs.Twins.{twins-distinct, distinct-twins, distinct-permu
 use Rattle.station.proofs.Parameters.{parameters-permuted, same-parameters}
 use Rattle.rules.specs.Fit.{fieldFits, ruleFits, fits, isCurrent, unfit}
 use Rattle.rules.specs.Curve.{curveFits, fuelHolds, windowFits, forecastFits}
-use Rattle.rules.specs.Answer.{unsupported, answer, IsAccepted}
+use Rattle.rules.specs.Answer.{unsupported, IsAccepted}
 use Rattle.rules.specs.Sound.{FitsIn, Sound}
 use Rattle.rules.proofs.Fit.{fits-stays}
+use Rattle.rules.proofs.Draws.{beyondReading, answer-parts}
 
 unfit-each : (l : List (List ℕ)) → unfit (technology (parameters l)) l ≡ Accepted → Each (FitsIn l) l
 unfolding unfit
@@ -84,11 +85,11 @@ supporting s n p q r t =
 -- ---- accepted is: not too long, and of sound records
 
 pub accepted-sound : (d : List ℕ) → IsAccepted d → (length d ≤ 60000) × Sound (records d)
-unfolding answer readable
+unfolding readable
 accepted-sound d h =
     let l : List (List ℕ) = records d in
     let s : Parameters = parameters l in
-    let a = orElse-parts (readable d) _ (h .clean) in
+    let a = orElse-parts (readable d) (beyondReading d) (sym (answer-parts d) ∙ h .clean) in
     let b = orElse-parts (refuseIf (ltb 60000 (length d)) 13 0) _ (a .0) in
     let c = orElse-parts (scan 0 l) (twins 0 [] l) (b .1) in
     let e = orElse-parts (refuseIf (not (s .has RS 0)) 5 (length d)) _ (a .1) in
@@ -108,13 +109,14 @@ accepted-sound d h =
     )
 
 pub sound-accepted : (d : List ℕ) → length d ≤ 60000 → Sound (records d) → IsAccepted d
-unfolding answer readable
+unfolding readable
 sound-accepted d n h =
     let l : List (List ℕ) = records d in
     let s : Parameters = parameters l in
     record {
       clean =
-          parts-orElse (readable d) (orElse (refuseIf (not (s .has RS 0)) 5 (length d)) (orElse (unfit (technology s) l) (unsupported s (length d))))
+          answer-parts d
+          ∙ parts-orElse (readable d) (beyondReading d)
           (parts-orElse (refuseIf (ltb 60000 (length d)) 13 0) (orElse (scan 0 l) (twins 0 [] l))
           (refuseIf-not (ltb 60000 (length d)) 13 0 (le-ltb 60000 (length d) n))
           (parts-orElse (scan 0 l) (twins 0 [] l) (each-scan 0 (h .clean)) (distinct-twins 0 l (h .distinct))))

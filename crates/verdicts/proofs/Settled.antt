@@ -5,21 +5,26 @@ use mathlib.Core.List.{List, [], _∷_}
 use Prim.Native.Nat.{ℕ, _%_, _≤_}
 use native.Mathlib.Omega.{arith}
 use lib.Dec.{eqb}
+use lib.IntN.{ℤ}
 use lib.ListN.{length}
 use borrow.Author.Tests.{eqb-true, eqb-false, not-false}
 use Rattle.lists.specs.Tests.{everyOf, between, among}
 use Rattle.lists.proofs.Tests.{and-left, and-right, or-false-left, or-false-right, between-low, between-high}
+use Rattle.fields.specs.Numbers.{biasedOf}
 use Rattle.records.specs.declared.Answer.{Answer}
 use Rattle.records.specs.declared.Answer.the-variants.{Accepted, Refused as Turned}
 use Rattle.records.specs.Table.{TH}
 use Rattle.records.proofs.Answers.{not-refuseIf, orElse-parts}
-use Rattle.station.specs.Parameters.{Parameters, technology, thresholdKey}
+use Rattle.records.specs.Dossier.{records}
+use Rattle.station.specs.Parameters.{Parameters, parameters, technology, thresholdKey}
 use Rattle.rules.specs.Fit.{energy, holds, levelsOf}
-use Rattle.formulas.specs.Levels.{Line}
+use Rattle.rules.specs.Answer.{answer, IsAccepted}
+use Rattle.formulas.specs.Levels.{Line, levels}
+use Rattle.formulas.proofs.Hours.{hour-accepted, hour-refused}
 use Rattle.verdicts.specs.declared.Verdict.{Verdict}
 use Rattle.verdicts.specs.declared.Verdict.the-variants.{Refused}
 use Rattle.verdicts.specs.Refusals.{conditionRefusal, lengthRefusal, levelRefusal, offerRefusal, priceRefusal}
-use Rattle.verdicts.specs.Verdict.{settle, offerVerdict, priceVerdict}
+use Rattle.verdicts.specs.Verdict.{settle, offerVerdict, priceVerdict, onOffer, onPrice}
 
 -- ---- what one refusal that is not drawn says
 
@@ -101,3 +106,22 @@ price-accepted s v c e =
 pub price-refused : (s : Parameters) (v c : ℕ) (l : List Line) (price : ℕ) {n p : ℕ} → priceRefusal s v c ≡ Turned n p → Refused n p ≡ priceVerdict s v c l price
 unfolding priceVerdict
 price-refused s v c l price e = settle-refused _ e
+
+-- ---- the verdict of a dossier: a refused one's refusal, or what is said of an accepted one
+
+module _ (d : List ℕ) (h : ℕ) where
+  pub on-offer-refused : (c : ℕ) (o : List ℕ) {n p : ℕ} → answer d ≡ Turned n p → Refused n p ≡ onOffer d h c o
+  unfolding onOffer
+  on-offer-refused c o e = settle-refused _ (hour-refused d h e)
+
+  pub on-offer : (c : ℕ) (o : List ℕ) {w : Verdict} → IsAccepted d → w ≡ offerVerdict (parameters (records d)) c (levels d h) o → w ≡ onOffer d h c o
+  unfolding onOffer
+  on-offer c o e f = settle-accepted (hour-accepted d h e) f
+
+  pub on-price-refused : (v c : ℕ) (price : ℤ) {n p : ℕ} → answer d ≡ Turned n p → Refused n p ≡ onPrice d h v c price
+  unfolding onPrice
+  on-price-refused v c price e = settle-refused _ (hour-refused d h e)
+
+  pub on-price : (v c : ℕ) (price : ℤ) {w : Verdict} → IsAccepted d → w ≡ priceVerdict (parameters (records d)) v c (levels d h) (biasedOf price) → w ≡ onPrice d h v c price
+  unfolding onPrice
+  on-price v c price e f = settle-accepted (hour-accepted d h e) f

@@ -10,6 +10,7 @@ use Rattle.records.specs.declared.Answer.the-variants.{Accepted, Refused}
 use Rattle.records.specs.Answers.{orElse, refuseIf, isAccepted}
 use Rattle.rules.specs.Answer.{answer}
 use Rattle.arrays.specs.declared.HourLevels.{HourLevels}
+use Rattle.formulas.proofs.Hours.{hour-accepted, hour-refused}
 use Rattle.formulas.specs.Levels.{Line, amount}
 use Rattle.arrays.specs.Packed.{arraysOf, energyLines, padded, packed, packedAt}
 use Rattle.arrays.proofs.Packed.{handed-count}
@@ -24,17 +25,17 @@ module _ (d : List ℕ) (h : ℕ) (e : List ℕ) where
       → r ≡ packedAt d h → w ≡ wordsOf r ++ drop 66 e
       → Told d h e Accepted w
   unfolding wordsAnswer wordsAfter orElse refuseIf isAccepted
-  told-words r a l p q = rw (a, le-ltb (length e) 66 l, ← p) (refl, q)
+  told-words r a l p q = rw (hour-accepted d h (record { clean = a }), le-ltb (length e) 66 l, ← p) (refl, q)
 
   -- too few words
   pub told-few : answer d ≡ Accepted → length e < 66 → Told d h e (Refused 15 0) e
   unfolding wordsAnswer wordsAfter orElse refuseIf isAccepted
-  told-few a l = rw (a, lt-ltb (length e) 66 l) (refl, refl)
+  told-few a l = rw (hour-accepted d h (record { clean = a }), lt-ltb (length e) 66 l) (refl, refl)
 
   -- a refused dossier's refusal comes first
   pub told-refusal : (k p : ℕ) → answer d ≡ Refused k p → Told d h e (Refused k p) e
   unfolding wordsAnswer wordsAfter orElse isAccepted
-  told-refusal k p a = rw a (refl, refl)
+  told-refusal k p a = rw (hour-refused d h a) (refl, refl)
 
 -- ---- what `hour_levels` hands over has nothing past its laminations
 

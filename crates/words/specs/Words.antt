@@ -8,7 +8,7 @@ use lib.ListN.{length, getD, drop}
 use Rattle.records.specs.declared.Answer.{Answer}
 use Rattle.records.specs.Answers.{orElse, refuseIf, isAccepted}
 use Rattle.rules.specs.Fit.{energy, start, noLoad, reserve, holds}
-use Rattle.rules.specs.Answer.{answer}
+use Rattle.formulas.specs.Levels.{hourAnswer}
 use Rattle.arrays.specs.declared.HourLevels.{HourLevels}
 use Rattle.arrays.specs.Packed.{Arrays, arraysOf, packedAt}
 
@@ -36,7 +36,7 @@ wordsOf r = wordsTo (r .profile) (arraysOf r) 20 ++ (heldBits (r .technology) �
 
 -- the answer to a dossier at an hour into n words: 15 where they are too few
 unfoldable pub wordsAnswer : List ℕ → ℕ → ℕ → Answer
-wordsAnswer d h n = orElse (answer d) (refuseIf (ltb n 66) 15 0)
+wordsAnswer d h n = orElse (hourAnswer d h) (refuseIf (ltb n 66) 15 0)
 
 -- the words after it: those past 66 stay, and a refused call keeps every one
 unfoldable pub wordsAfter : List ℕ → ℕ → List ℕ → List ℕ

@@ -1,15 +1,13 @@
 use Rattle.acceptance.proofs.Entry.{no-room}
-use Rattle.verdicts.proofs.Settled.{settle-refused}
-use Rattle.verdicts.specs.Verdict.{onOffer}
+use Rattle.verdicts.proofs.Settled.{on-offer-refused}
 use borrow.Author.Needs.{needs}
 use Rattle.conduct.proofs.energy_test.Statement.{statement}
 use Rattle.conduct.proofs.energy_test.Tie as tie
 
 returns : tie.Need-returns
-unfolding onOffer
 returns c =
     let m = c .before .before in
-    settle-refused _ (no-room (m .before .before .before .args .d .now) (m .room-for .ensures) (c .enum-told .given .1))
+    on-offer-refused _ _ _ _ (no-room (m .before .before .before .args .d .now) (m .room-for .ensures) (c .enum-told .given .1))
 
 pub energy-test-spec : {M : Type 1} → statement M
 energy-test-spec =

@@ -1,6 +1,5 @@
 use mathlib.Core.Path.{sym, _∙_}
-use Rattle.verdicts.specs.Verdict.{onOffer}
-use Rattle.verdicts.proofs.Settled.{settle-refused, settle-accepted}
+use Rattle.verdicts.proofs.Settled.{on-offer-refused, on-offer}
 use borrow.Author.Needs.{needs}
 use Rattle.conduct.proofs.energy_test_in.Statement.{statement}
 use Rattle.conduct.proofs.energy_test_in.Tie as tie
@@ -15,12 +14,10 @@ offer-verdict-requires c κs =
     (j .1 e, record { clean = sym (j .0) ∙ e })
 
 returns : tie.Need-returns
-unfolding onOffer
-returns c = settle-refused _ (sym (c .before .before .before .before .before .judge .ensures .0) ∙ c .before .number .given .1)
+returns c = on-offer-refused _ _ _ _ (sym (c .before .before .before .before .before .judge .ensures .0) ∙ c .before .number .given .1)
 
 returns-2 : tie.Need-returns-2
-unfolding onOffer
-returns-2 c = settle-accepted (sym (c .before .before .before .before .before .before .judge .ensures .0) ∙ c .before .before .enum-told .given .1) (c .offer-verdict .ensures)
+returns-2 c = on-offer _ _ _ _ (record { clean = sym (c .before .before .before .before .before .before .judge .ensures .0) ∙ c .before .before .enum-told .given .1 }) (c .offer-verdict .ensures)
 
 pub energy-test-in-spec : {M : Type 1} → statement M
 energy-test-in-spec =

@@ -1,17 +1,16 @@
 use mathlib.Core.Path.{ap, _∙_}
 use mir.Facts.{toZ-ofZ}
 use Rattle.acceptance.proofs.Entry.{no-room}
-use Rattle.verdicts.proofs.Settled.{settle-refused}
+use Rattle.verdicts.proofs.Settled.{on-price-refused}
 use Rattle.verdicts.specs.Verdict.{onPrice}
 use borrow.Author.Needs.{needs}
 use Rattle.conduct.proofs.price_test.Statement.{statement}
 use Rattle.conduct.proofs.price_test.Tie as tie
 
 returns : tie.Need-returns
-unfolding onPrice
 returns c =
     let m = c .before .before in
-    settle-refused _ (no-room (m .before .before .args .d .now) (m .room-for .ensures) (c .enum-told .given .1))
+    on-price-refused _ _ _ _ _ (no-room (m .before .before .args .d .now) (m .room-for .ensures) (c .enum-told .given .1))
 
 returns-2 : tie.Need-returns-2
 returns-2 c = c .before .price-test-in .ensures ∙ ap (onPrice _ _ _ _) (toZ-ofZ (c .before .before .before .before .before .before .before .fits .price))

@@ -1,8 +1,8 @@
 use mathlib.Core.Path.{ap, sym, _∙_}
 use mir.Facts.{toZ-ofZ}
 use Rattle.fields.specs.Numbers.{biasedOf}
-use Rattle.verdicts.specs.Verdict.{priceVerdict, onPrice}
-use Rattle.verdicts.proofs.Settled.{settle-refused, settle-accepted}
+use Rattle.verdicts.specs.Verdict.{priceVerdict}
+use Rattle.verdicts.proofs.Settled.{on-price-refused, on-price}
 use borrow.Author.Needs.{needs}
 use Rattle.conduct.proofs.price_test_in.Statement.{statement}
 use Rattle.conduct.proofs.price_test_in.Tie as tie
@@ -17,12 +17,10 @@ price-verdict-requires c κs =
     (j .1 e, record { clean = sym (j .0) ∙ e }, c .biased .ensures .1)
 
 returns : tie.Need-returns
-unfolding onPrice
-returns c = settle-refused _ (sym (c .before .before .before .before .before .judge .ensures .0) ∙ c .before .number .given .1)
+returns c = on-price-refused _ _ _ _ _ (sym (c .before .before .before .before .before .judge .ensures .0) ∙ c .before .number .given .1)
 
 returns-2 : tie.Need-returns-2
-unfolding onPrice
-returns-2 c = settle-accepted (sym (c .before .before .before .before .before .before .before .judge .ensures .0) ∙ c .before .before .before .enum-told .given .1) (c .price-verdict .ensures ∙ ap (priceVerdict _ _ _ _) (c .before .biased .ensures .0 ∙ ap biasedOf (toZ-ofZ (c .before .before .before .before .before .before .before .before .before .before .before .fits .price))))
+returns-2 c = on-price _ _ _ _ _ (record { clean = sym (c .before .before .before .before .before .before .before .judge .ensures .0) ∙ c .before .before .before .enum-told .given .1 }) (c .price-verdict .ensures ∙ ap (priceVerdict _ _ _ _) (c .before .biased .ensures .0 ∙ ap biasedOf (toZ-ofZ (c .before .before .before .before .before .before .before .before .before .before .before .fits .price))))
 
 pub price-test-in-spec : {M : Type 1} → statement M
 price-test-in-spec =

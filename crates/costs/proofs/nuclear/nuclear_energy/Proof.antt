@@ -18,13 +18,10 @@ mul-share-2 c = omega (arith, product c)
 add-result : tie.Need-add-result
 add-result c = omega (arith, c .before .share .ensures .1, product (c .before .before))
 
-add-result-2 : tie.Need-add-result-2
-add-result-2 c = omega (arith, c .before .before .share .ensures .1, product (c .before .before .before))
-
 returns : tie.Need-returns
 returns c =
-    let f = c .before .before .before in
-    nuclear-costs _ _ _ (f .before .before .incremental-fuel .ensures .0) (f .before .fuel .ensures .0) (f .factor .ensures .0) (c .before .before .share .ensures .0) (c .before .adders .ensures .0) (c .maintenance .ensures .0)
+    let f = c .before .before in
+    nuclear-costs _ _ _ (f .before .before .incremental-fuel .ensures .0) (f .before .fuel .ensures .0) (f .factor .ensures .0) (c .before .share .ensures .0) (c .additions .ensures .0)
 
 pub nuclear-energy-spec : {M : Type 1} → statement M
 nuclear-energy-spec =
@@ -38,6 +35,4 @@ nuclear-energy-spec =
     (λ c κs. search needs)
     (λ c κs. search needs)
     add-result
-    (λ c κs. search needs)
-    add-result-2
     returns)

@@ -64,7 +64,7 @@ lamination-requires : tie.Need-lamination-requires Inv-loop μ-loop
 lamination-requires c κs =
     let m = c .before .before .before .before in
     let h = m .before .before .before .before .before .before .before .pre in
-    (h .0, h .1, h .2, omega arith, omega arith, ap₂ (λ (x y : ℕ). x + y) (m .before .adders .ensures .0) (m .maintenance .ensures .0), omega arith)
+    (h .0, h .1, h .2, omega arith, omega arith, m .additions .ensures .0, m .additions .ensures .1)
 
 slice-write-cents : tie.Need-slice-write-cents Inv-loop μ-loop
 slice-write-cents c = omega (arith, cents-long (c .before .before .before .before))
