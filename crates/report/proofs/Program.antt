@@ -31,6 +31,7 @@ use Rattle.layout.specs.declared.Written.{Written}
 use Rattle.layout.specs.declared.Written.the-variants.{Bytes, Refused}
 use Rattle.layout.specs.Report.{report, bufferWith, written, reportAnswer, bufferAfter, printed, prints}
 use Rattle.lines.proofs.Fits.{long-enough}
+use Rattle.report.specs.Print.{printAnswer, bufferPrinted}
 use Rattle.report.proofs.Buffer.{Told}
 use Rattle.layout.proofs.Lines.{either, text-within}
 
@@ -149,3 +150,10 @@ module _ (i e : List ℕ) (room : 2283 ≤ length e) (four : 4 ≤ length i) whe
           let f : k ≡ k′ = cc (told-answer (Turned k′ q′) p t .0) in
           let g : q ≡ q′ = cc (told-answer (Turned k′ q′) p t .0) in
           rw (f, g) (prints-answer i (Turned k′ q′) four p, told-answer (Turned k′ q′) p t .1)
+
+-- what the function tells its caller, with the buffer that it leaves: all is printed where every text fits, and else nothing
+pub told-text : (i e : List ℕ) {n : ℕ} {b : List ℕ} → 2283 ≤ length e → Wrote (prints i) e n b → (Bytes n ≡ printAnswer i e) × (b ≡ bufferPrinted i e)
+told-text i e h w = rw (le-ltb (length e) 2283 h) (ap Bytes (w .0), w .1)
+
+pub told-scant : (i e : List ℕ) → length e < 2283 → (Refused 15 0 ≡ printAnswer i e) × (e ≡ bufferPrinted i e)
+told-scant i e h = rw (lt-ltb (length e) 2283 h) (refl, refl)
