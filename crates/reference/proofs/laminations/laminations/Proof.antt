@@ -29,7 +29,7 @@ abbrev μ-loop : tie.MeasureT-loop
 loop-holds : tie.Need-loop-holds Inv-loop μ-loop
 unfolding padded
 loop-holds c =
-    let h = c .before .before .before .before .before .before .before .pre in
+    let h = c .before .before .before .before .before .before .pre in
     (search needs, h .4, h .5, h .6)
 
 abbrev At : Type 0
@@ -37,13 +37,13 @@ At = tie.At-loop Inv-loop μ-loop
 
 -- what the loop was given
 abbrev held-of : At → List (List ℕ)
-held-of c = let a = c .before .before .before .before .before .before .before .before .args in held (a .d .now) (a .index .now)
+held-of c = let a = c .before .before .before .before .before .before .before .args in held (a .d .now) (a .index .now)
 
 abbrev p-of : At → ℕ
-p-of c = c .before .before .before .before .before .before .before .before .args .p
+p-of c = c .before .before .before .before .before .before .before .args .p
 
 abbrev n-of : At → ℕ
-n-of c = c .before .before .before .before .before .before .before .before .args .n
+n-of c = c .before .before .before .before .before .before .before .args .n
 
 from-long : (c : At) → length (c .loop .from) ≡ 20
 from-long c = row-length (column (held-of c) (p-of c) (n-of c) (λ x. x .from)) _ (c .loop .i) (c .loop .inv .1)
@@ -63,7 +63,7 @@ slice-write-to c = omega (arith, to-long (c .before .before .before))
 lamination-requires : tie.Need-lamination-requires Inv-loop μ-loop
 lamination-requires c κs =
     let m = c .before .before .before .before in
-    let h = m .before .before .before .before .before .before .before .pre in
+    let h = m .before .before .before .before .before .before .pre in
     (h .0, h .1, h .2, omega arith, omega arith, m .additions .ensures .0, m .additions .ensures .1)
 
 slice-write-cents : tie.Need-slice-write-cents Inv-loop μ-loop
@@ -80,7 +80,7 @@ loop-again : tie.Need-loop-again Inv-loop μ-loop
 loop-again c =
     let t = c .before .before .before .before in
     let l = t .loop in
-    let h = t .before .before .before .before .before .before .before .before .pre in (
+    let h = t .before .before .before .before .before .before .before .pre in (
       omega arith,
       turn (held-of t) (p-of t) (n-of t) (l .i) (λ x. x .from) (l .from) _ (h .3) (omega arith) (l .inv .1) (c .before .before .bottom .ensures),
       turn (held-of t) (p-of t) (n-of t) (l .i) (λ x. x .to) (l .to) _ (h .3) (omega arith) (l .inv .2)
@@ -89,13 +89,13 @@ loop-again c =
     )
 
 same-length : tie.Need-same-length Inv-loop μ-loop
-same-length c = omega (arith, from-long (c .before), ap length (c .before .before .before .before .before .before .before .before .before .pre .4))
+same-length c = omega (arith, from-long (c .before), ap length (c .before .before .before .before .before .before .before .before .pre .4))
 
 same-length-2 : tie.Need-same-length-2 Inv-loop μ-loop
-same-length-2 c = omega (arith, to-long (c .before), ap length (c .before .before .before .before .before .before .before .before .before .pre .5))
+same-length-2 c = omega (arith, to-long (c .before), ap length (c .before .before .before .before .before .before .before .before .pre .5))
 
 same-length-3 : tie.Need-same-length-3 Inv-loop μ-loop
-same-length-3 c = omega (arith, cents-long (c .before), ap length (c .before .before .before .before .before .before .before .before .before .pre .6))
+same-length-3 c = omega (arith, cents-long (c .before), ap length (c .before .before .before .before .before .before .before .before .pre .6))
 
 -- a column that is filled
 filled : (c : tie.After-loop Inv-loop μ-loop) (g : Line → ℕ) {a : List ℕ} → a ≡ padded 20 (take (c .before .loop .i) (column (held-of (c .before)) (p-of (c .before)) (n-of (c .before)) g))
@@ -117,8 +117,6 @@ laminations-spec =
     Inv-loop
     μ-loop
     (λ c κs. search needs)
-    (λ c κs. search needs)
-    (λ c. omega arith)
     loop-holds
     (λ c. omega arith)
     (λ c κs. search needs)
