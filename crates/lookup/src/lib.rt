@@ -7,7 +7,7 @@ ghost use lib.Dec.{ltb};
 ghost use lib.ListN.{length};
 ghost use Rattle.fields.specs.Numbers.{number};
 ghost use Rattle.records.specs.declared.Answer.the-variants.{Accepted};
-ghost use Rattle.records.specs.Table.{kinds};
+ghost use Rattle.records.specs.Table.{RS, HP, FU, AD, MM, RQ, HR, TH, FP, LC, kinds};
 ghost use Rattle.records.specs.Record.{mark};
 ghost use Rattle.records.specs.Dossier.{records, scan};
 ghost use Rattle.station.specs.Current.{longest, current, readable, lookupBytes};
@@ -54,13 +54,13 @@ fn guess(d: &[u8]) -> Room
     let mut at = 0;
     while at < end {
         let k = records::kind_at(&d[at..]);
-        if k == 10 {
+        if k == records::kinds::FP {
             return Room::Wide;
         }
-        if (k == 8) | (k == 11) {
+        if (k == records::kinds::CH) | (k == records::kinds::LC) {
             return Room::Narrow;
         }
-        if k == 2 {
+        if k == records::kinds::HP {
             return Room::Short;
         }
         at += records::length_of(k);
@@ -87,7 +87,7 @@ pub fn fits_short(d: &[u8]) -> bool
     let mut at = 0;
     while at < d.len() {
         let k = records::kind_at(&d[at..]);
-        if (k == 8) | (k == 10) | (k == 11) {
+        if (k == records::kinds::CH) | (k == records::kinds::FP) | (k == records::kinds::LC) {
             return false;
         }
         at += records::length_of(k);
@@ -183,7 +183,7 @@ pub fn part_at<'a>(d: &'a [u8], index: &[u16], j: usize, len: usize) -> &'a [u8]
 // The current RS.
 pub fn rs<'a>(d: &'a [u8], index: &[u16]) -> &'a [u8]
     requires { ⌜ Indexed (now d) (now index) ⌝ }
-    ensures { λ r. ⌜ now r ≡ current 1 0 (records (now (d .entry))) ⌝ }
+    ensures { λ r. ⌜ now r ≡ current RS 0 (records (now (d .entry))) ⌝ }
 {
     part_at(d, index, 0, records::RS.length)
 }
@@ -191,7 +191,7 @@ pub fn rs<'a>(d: &'a [u8], index: &[u16]) -> &'a [u8]
 // The current HP of a point.
 pub fn hp<'a>(d: &'a [u8], index: &[u16], n: usize) -> &'a [u8]
     requires { ⌜ Indexed (now d) (now index) × (1 ≤ n) × (n ≤ 21) ⌝ }
-    ensures { λ r. ⌜ now r ≡ current 2 n (records (now (d .entry))) ⌝ }
+    ensures { λ r. ⌜ now r ≡ current HP n (records (now (d .entry))) ⌝ }
 {
     part_at(d, index, index::keys::slot_hp(n), records::HP.length)
 }
@@ -199,7 +199,7 @@ pub fn hp<'a>(d: &'a [u8], index: &[u16], n: usize) -> &'a [u8]
 // The current FU of a profile.
 pub fn fu<'a>(d: &'a [u8], index: &[u16], p: usize) -> &'a [u8]
     requires { ⌜ Indexed (now d) (now index) × (1 ≤ p) × (p ≤ 4) ⌝ }
-    ensures { λ r. ⌜ now r ≡ current 3 p (held (now (d .entry)) (now (index .entry))) ⌝ }
+    ensures { λ r. ⌜ now r ≡ current FU p (held (now (d .entry)) (now (index .entry))) ⌝ }
 {
     part_at(d, index, index::keys::slot_fu(p), records::FU.length)
 }
@@ -207,7 +207,7 @@ pub fn fu<'a>(d: &'a [u8], index: &[u16], p: usize) -> &'a [u8]
 // The current AD of a profile, cost and level.
 pub fn ad<'a>(d: &'a [u8], index: &[u16], p: usize, c: usize, v: usize) -> &'a [u8]
     requires { ⌜ Indexed (now d) (now index) × (1 ≤ p) × (p ≤ 4) × (1 ≤ c) × (c ≤ 5) × (1 ≤ v) × (v ≤ 4) ⌝ }
-    ensures { λ r. ⌜ now r ≡ current 4 (p * 65536 + c * 256 + v) (held (now (d .entry)) (now (index .entry))) ⌝ }
+    ensures { λ r. ⌜ now r ≡ current AD (p * 65536 + c * 256 + v) (held (now (d .entry)) (now (index .entry))) ⌝ }
 {
     part_at(d, index, index::keys::slot_ad(p, c, v), records::AD.length)
 }
@@ -215,7 +215,7 @@ pub fn ad<'a>(d: &'a [u8], index: &[u16], p: usize, c: usize, v: usize) -> &'a [
 // The current MM of a profile and item.
 pub fn mm<'a>(d: &'a [u8], index: &[u16], p: usize, j: usize) -> &'a [u8]
     requires { ⌜ Indexed (now d) (now index) × (1 ≤ p) × (p ≤ 4) × (1 ≤ j) × (j ≤ 8) ⌝ }
-    ensures { λ r. ⌜ now r ≡ current 5 (p * 256 + j) (held (now (d .entry)) (now (index .entry))) ⌝ }
+    ensures { λ r. ⌜ now r ≡ current MM (p * 256 + j) (held (now (d .entry)) (now (index .entry))) ⌝ }
 {
     part_at(d, index, index::keys::slot_mm(p, j), records::MM.length)
 }
@@ -223,7 +223,7 @@ pub fn mm<'a>(d: &'a [u8], index: &[u16], p: usize, j: usize) -> &'a [u8]
 // The current RQ of a request.
 pub fn rq<'a>(d: &'a [u8], index: &[u16], n: usize) -> &'a [u8]
     requires { ⌜ Indexed (now d) (now index) × (1 ≤ n) × (n ≤ 16) ⌝ }
-    ensures { λ r. ⌜ now r ≡ current 6 n (records (now (d .entry))) ⌝ }
+    ensures { λ r. ⌜ now r ≡ current RQ n (records (now (d .entry))) ⌝ }
 {
     part_at(d, index, index::keys::slot_rq(n), records::RQ.length)
 }
@@ -231,7 +231,7 @@ pub fn rq<'a>(d: &'a [u8], index: &[u16], n: usize) -> &'a [u8]
 // The current HR of an hour of the window.
 pub fn hr<'a>(d: &'a [u8], index: &[u16], n: usize) -> &'a [u8]
     requires { ⌜ Indexed (now d) (now index) × (1 ≤ n) × (n ≤ 168) ⌝ }
-    ensures { λ r. ⌜ now r ≡ current 7 n (records (now (d .entry))) ⌝ }
+    ensures { λ r. ⌜ now r ≡ current HR n (records (now (d .entry))) ⌝ }
 {
     part_at(d, index, index::keys::slot_hr(n), records::HR.length)
 }
@@ -239,7 +239,7 @@ pub fn hr<'a>(d: &'a [u8], index: &[u16], n: usize) -> &'a [u8]
 // The current TH of a condition and level.
 pub fn th<'a>(d: &'a [u8], index: &[u16], c: usize, v: usize) -> &'a [u8]
     requires { ⌜ Indexed (now d) (now index) × (1 ≤ c) × (c ≤ 3) × (1 ≤ v) × (v ≤ 4) ⌝ }
-    ensures { λ r. ⌜ now r ≡ current 9 (c * 256 + v) (records (now (d .entry))) ⌝ }
+    ensures { λ r. ⌜ now r ≡ current TH (c * 256 + v) (records (now (d .entry))) ⌝ }
 {
     part_at(d, index, index::keys::slot_th(c, v), records::TH.length)
 }
@@ -247,7 +247,7 @@ pub fn th<'a>(d: &'a [u8], index: &[u16], c: usize, v: usize) -> &'a [u8]
 // The current LC.
 pub fn lc<'a>(d: &'a [u8], index: &[u16]) -> &'a [u8]
     requires { ⌜ Indexed (now d) (now index) × (narrow ≤ length (now index)) ⌝ }
-    ensures { λ r. ⌜ now r ≡ current 11 0 (records (now (d .entry))) ⌝ }
+    ensures { λ r. ⌜ now r ≡ current LC 0 (records (now (d .entry))) ⌝ }
 {
     part_at(d, index, index::keys::slot_lc(), records::LC.length)
 }
@@ -255,7 +255,7 @@ pub fn lc<'a>(d: &'a [u8], index: &[u16]) -> &'a [u8]
 // The current FP of a place, through an index of every record; a place without a slot there has none.
 pub fn fp<'a>(d: &'a [u8], index: &[u16], n: usize) -> &'a [u8]
     requires { ⌜ Indexed (now d) (now index) × Complete (now d) (now index) × (1 ≤ n) × (n ≤ 4000) ⌝ }
-    ensures { λ r. ⌜ now r ≡ current 10 n (records (now (d .entry))) ⌝ }
+    ensures { λ r. ⌜ now r ≡ current FP n (records (now (d .entry))) ⌝ }
 {
     let j = index::keys::slot_fp(n);
     if index.len() <= j {
@@ -269,34 +269,34 @@ pub fn slot_of(kind: usize, n: usize) -> usize
     requires { ⌜ (n < 16777216) × (kind < kinds) ⌝ }
     ensures { λ r. ⌜ r ≡ slot kind n ⌝ }
 {
-    if kind == 2 {
+    if kind == records::kinds::HP {
         return index::keys::slot_hp(n);
     }
-    if kind == 3 {
+    if kind == records::kinds::FU {
         return index::keys::slot_fu(n);
     }
-    if kind == 4 {
+    if kind == records::kinds::AD {
         return index::keys::slot_ad(n / 65536, n / 256 % 256, n % 256);
     }
-    if kind == 5 {
+    if kind == records::kinds::MM {
         return index::keys::slot_mm(n / 256, n % 256);
     }
-    if kind == 6 {
+    if kind == records::kinds::RQ {
         return index::keys::slot_rq(n);
     }
-    if kind == 7 {
+    if kind == records::kinds::HR {
         return index::keys::slot_hr(n);
     }
-    if kind == 8 {
+    if kind == records::kinds::CH {
         return index::keys::slot_ch(n);
     }
-    if kind == 9 {
+    if kind == records::kinds::TH {
         return index::keys::slot_th(n / 256, n % 256);
     }
-    if kind == 10 {
+    if kind == records::kinds::FP {
         return index::keys::slot_fp(n);
     }
-    if kind == 11 {
+    if kind == records::kinds::LC {
         return index::keys::slot_lc();
     }
     0
@@ -338,10 +338,10 @@ fn part_in(d: &[u8], index: &mut [u16], kind: usize, n: usize) -> Part
 fn slots_for(kind: usize) -> usize
     ensures { λ r. ⌜ r ≡ slotsFor kind ⌝ }
 {
-    if kind == 10 {
+    if kind == records::kinds::FP {
         return index::WIDE;
     }
-    if (kind == 8) | (kind == 11) {
+    if (kind == records::kinds::CH) | (kind == records::kinds::LC) {
         return index::NARROW;
     }
     index::SHORT
