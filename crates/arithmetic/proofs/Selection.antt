@@ -127,7 +127,8 @@ first-sum zero v b l f p q = omega (arith, no-excess v l p)
 first-sum (suc n) v b [] f p q = absurd (omega arith)
 first-sum (suc n) v b (x ∷ l) f p q = go (decLe v x) (decLe x v) (first-sum n v x l (f .1))
   where
-    go : Dec (v ≤ x) → Dec (x ≤ v) → (above v l ≤ n → n ≤ atLeast v l → sumFirst n l ≡ excess v l + n * v) → x + sumFirst n l ≡ (x - v) + excess v l + suc n * v
+    go : Dec (v ≤ x) → Dec (x ≤ v) → (above v l ≤ n → n ≤ atLeast v l → sumFirst n l ≡ excess v l + n * v)
+        → x + sumFirst n l ≡ (x - v) + excess v l + suc n * v
     go (yes h) (yes g) r = omega (arith, r (omega (arith, falls-above x v l (f .1) g)) (omega (arith, least-head v x h)))
     go (yes h) (no g) r = omega (arith, r (omega (arith, above-head v x (omega arith))) (omega (arith, least-head v x h)))
     go (no h) g r = absurd (omega (arith, least-not v x (omega arith), falls-least x v l (f .1) (omega arith)))
@@ -163,4 +164,5 @@ threshold-place n v l h t = go (decLe (fromTop n l) v) (decLe v (fromTop n l))
     go : Dec (fromTop n l ≤ v) → Dec (v ≤ fromTop n l) → fromTop n l ≡ v
     go (yes p) (yes q) = omega arith
     go (yes p) (no q) = absurd (omega (arith, least-above (fromTop n l) v l (omega arith), fromTop-few n l h, t .enough))
-    go (no p) q = absurd (omega (arith, least-above v (fromTop n l) l (omega arith), fromTop-enough n l h (omega (arith, t .enough, least-length v l)), t .few))
+    go (no p) q =
+        absurd (omega (arith, least-above v (fromTop n l) l (omega arith), fromTop-enough n l h (omega (arith, t .enough, least-length v l)), t .few))

@@ -76,12 +76,14 @@ module _ (s : Parameters) (m : Amounts) (p : ℕ) (g : Line → ℕ) where
 
 -- ---- the lines, packed
 
-energy-laminations : (s : Parameters) (m : Amounts) (p k n : ℕ) (l : List Line) → energyLines (laminations s m p k n l) ≡ laminations s m p k n (energyLines l)
+energy-laminations : (s : Parameters) (m : Amounts) (p k n : ℕ) (l : List Line)
+    → energyLines (laminations s m p k n l) ≡ laminations s m p k n (energyLines l)
 unfolding energyLines laminations
 energy-laminations s m p k zero l = refl
 energy-laminations s m p k (suc n) l = ap (λ (r : List Line). lamination s m p k ∷ r) (energy-laminations s m p (k + 1) n l)
 
-pub amount-laminations : (s : Parameters) (m : Amounts) (p k n v : ℕ) (l : List Line) → eqb energy v ≡ false → amountOf v (laminations s m p k n l) ≡ amountOf v l
+pub amount-laminations : (s : Parameters) (m : Amounts) (p k n v : ℕ) (l : List Line) → eqb energy v ≡ false
+    → amountOf v (laminations s m p k n l) ≡ amountOf v l
 unfolding amountOf laminations
 amount-laminations s m p k zero v l e = refl
 amount-laminations s m p k (suc n) v l e = rw e (amount-laminations s m p (k + 1) n v l e)
@@ -101,13 +103,20 @@ filled s m t p n a b c =
 packed-laminations : (s : Parameters) (m : Amounts) (t p n : ℕ) (a b c : Sum) → packed t p (laminations s m p 1 n (others a b c)) ≡ filled s m t p n a b c
 unfolding packed energyLines single amountOf
 packed-laminations s m t p n a b c =
-    rw (energy-laminations s m p 1 n (others a b c), amount-laminations s m p 1 n 2 (others a b c) refl, amount-laminations s m p 1 n 3 (others a b c) refl, amount-laminations s m p 1 n 4 (others a b c) refl, lines-length s m p 1 n) refl
+    rw (
+      energy-laminations s m p 1 n (others a b c),
+      amount-laminations s m p 1 n 2 (others a b c) refl,
+      amount-laminations s m p 1 n 3 (others a b c) refl,
+      amount-laminations s m p 1 n 4 (others a b c) refl,
+      lines-length s m p 1 n,
+    ) refl
 
 -- ---- by technology
 
 module _ (s : Parameters) (m : Amounts) (p : ℕ) where
   pub thermal-packed : technology s ≡ 1 → {t n x y z : ℕ} {a b c : List ℕ} → t ≡ 1 → n ≡ points s - 1
-      → a ≡ padded 20 (map (λ l. l .from) (laminations s m p 1 n [])) → b ≡ padded 20 (map (λ l. l .to) (laminations s m p 1 n [])) → c ≡ padded 20 (map (λ l. amount l) (laminations s m p 1 n []))
+      → a ≡ padded 20 (map (λ l. l .from) (laminations s m p 1 n [])) → b ≡ padded 20 (map (λ l. l .to) (laminations s m p 1 n []))
+      → c ≡ padded 20 (map (λ l. amount l) (laminations s m p 1 n []))
       → x ≡ cents (microDollars (startCost s m p)) → y ≡ cents (microDollars (noLoadCost s m p)) → z ≡ cents (microDollars (adders m p reserve))
       → hourLevels t p n a b c x y z ≡ packed (technology s) p (linesOf s m p)
   unfolding linesOf
@@ -122,11 +131,13 @@ module _ (s : Parameters) (m : Amounts) (p : ℕ) where
   unfolding linesOf packed energyLines amountOf oneLamination padded cents quotient
   nuclear-packed e y = rw (e, y) refl
 
-  pub storage-packed : technology s ≡ 3 → {y z : ℕ} → y ≡ microDollars (storageEnergy s m p) → z ≡ microDollars (adders m p reserve) → one 3 y z ≡ packed (technology s) p (linesOf s m p)
+  pub storage-packed : technology s ≡ 3 → {y z : ℕ} → y ≡ microDollars (storageEnergy s m p) → z ≡ microDollars (adders m p reserve)
+      → one 3 y z ≡ packed (technology s) p (linesOf s m p)
   unfolding linesOf packed energyLines amountOf oneLamination single padded
   storage-packed e y z = rw (e, y, z) refl
 
-  pub hydro-packed : technology s ≡ 4 → {y z : ℕ} → y ≡ microDollars (hydroEnergy s m p) → z ≡ microDollars (adders m p reserve) → one 4 y z ≡ packed (technology s) p (linesOf s m p)
+  pub hydro-packed : technology s ≡ 4 → {y z : ℕ} → y ≡ microDollars (hydroEnergy s m p) → z ≡ microDollars (adders m p reserve)
+      → one 4 y z ≡ packed (technology s) p (linesOf s m p)
   unfolding linesOf packed energyLines amountOf oneLamination single padded
   hydro-packed e y z = rw (e, y, z) refl
 
@@ -155,7 +166,8 @@ module _ (s : Parameters) (m : Amounts) (p n : ℕ) (fits : n ≤ 20) where
       ∙ padded-at 20 i (map g (laminations s m p 1 n [])) (omega arith)
       ∙ sym (lamination-at s m p g 1 n i (suc i) h (omega arith))
 
-  rows : (r : Arrays) → r .from ≡ padded 20 (map (λ x. x .from) (laminations s m p 1 n [])) → r .to ≡ padded 20 (map (λ x. x .to) (laminations s m p 1 n [])) → r .cents ≡ padded 20 (map (λ x. amount x) (laminations s m p 1 n []))
+  rows : (r : Arrays) → r .from ≡ padded 20 (map (λ x. x .from) (laminations s m p 1 n [])) → r .to ≡ padded 20 (map (λ x. x .to) (laminations s m p 1 n []))
+      → r .cents ≡ padded 20 (map (λ x. amount x) (laminations s m p 1 n []))
       → (i k : ℕ) → i + k ≤ n → laminationsFrom r i k ≡ map shown (laminations s m p (suc i) k [])
   unfolding laminationsFrom laminations
   rows r a b c i zero h = refl
@@ -163,9 +175,11 @@ module _ (s : Parameters) (m : Amounts) (p n : ℕ) (fits : n ≤ 20) where
       let x = at (λ l. l .from) i (omega arith) a in
       let y = at (λ l. l .to) i (omega arith) b in
       let z = at (λ l. amount l) i (omega arith) c in
-      ap₂ (λ (u : Shown) (l : List Shown). u ∷ l) (λ j. shownAs energy (suc i) (x j) (y j) (z j)) (rw (add-one (suc i)) (rows r a b c (suc i) k (omega arith)))
+      ap₂ (λ (u : Shown) (l : List Shown). u ∷ l) (λ j. shownAs energy (suc i) (x j) (y j) (z j))
+      (rw (add-one (suc i)) (rows r a b c (suc i) k (omega arith)))
 
-shown-others : (s : Parameters) (m : Amounts) (p k n : ℕ) (l : List Line) → map shown (laminations s m p k n l) ≡ map shown (laminations s m p k n []) ++ map shown l
+shown-others : (s : Parameters) (m : Amounts) (p k n : ℕ) (l : List Line) → map shown (laminations s m p k n l) ≡ map shown (laminations s m p k n [])
+    ++ map shown l
 unfolding laminations
 shown-others s m p k zero l = refl
 shown-others s m p k (suc n) l = ap (λ (r : List Shown). shown (lamination s m p k) ∷ r) (shown-others s m p (k + 1) n l)
@@ -184,7 +198,8 @@ unfolding points
 points-high s = omega (arith, countTo-high 21 (s .has HP))
 
 module _ (s : Parameters) (m : Amounts) (p : ℕ) where
-  thermal-lines : eqb (technology s) 1 ≡ true → linesOf s m p ≡ laminations s m p 1 (points s - 1) (others (startCost s m p) (noLoadCost s m p) (adders m p reserve))
+  thermal-lines : eqb (technology s) 1 ≡ true → linesOf s m p ≡ laminations s m p 1 (points s - 1)
+      (others (startCost s m p) (noLoadCost s m p) (adders m p reserve))
   unfolding linesOf
   thermal-lines e = rw e refl
 
@@ -195,22 +210,32 @@ module _ (s : Parameters) (m : Amounts) (p : ℕ) where
       let x : Sum = startCost s m p in
       let y : Sum = noLoadCost s m p in
       let z : Sum = adders m p reserve in
-      rw (thermal-lines e, packed-laminations s m (technology s) p n x y z, e, rows s m p n (points-high s) (arraysOf (filled s m (technology s) p n x y z)) refl refl refl 0 n (omega arith), shown-others s m p 1 n (others x y z))
+      rw (
+        thermal-lines e,
+        packed-laminations s m (technology s) p n x y z,
+        e,
+        rows s m p n (points-high s) (arraysOf (filled s m (technology s) p n x y z)) refl refl refl 0 n (omega arith),
+        shown-others s m p 1 n (others x y z),
+      )
       (simp append-assoc)
 
-  nuclear-unpacked : eqb (technology s) 1 ≡ false → eqb (technology s) 2 ≡ true → unpacked (packed (technology s) p (linesOf s m p)) ≡ map shown (linesOf s m p)
+  nuclear-unpacked : eqb (technology s) 1 ≡ false → eqb (technology s) 2 ≡ true
+      → unpacked (packed (technology s) p (linesOf s m p)) ≡ map shown (linesOf s m p)
   unfolding linesOf unpacked laminationsFrom singleOf holds levelsOf among packed energyLines amountOf padded oneLamination
   nuclear-unpacked e f = rw (e, f) refl
 
-  storage-unpacked : eqb (technology s) 1 ≡ false → eqb (technology s) 2 ≡ false → eqb (technology s) 3 ≡ true → unpacked (packed (technology s) p (linesOf s m p)) ≡ map shown (linesOf s m p)
+  storage-unpacked : eqb (technology s) 1 ≡ false → eqb (technology s) 2 ≡ false → eqb (technology s) 3 ≡ true
+      → unpacked (packed (technology s) p (linesOf s m p)) ≡ map shown (linesOf s m p)
   unfolding linesOf unpacked laminationsFrom singleOf holds levelsOf among packed energyLines amountOf padded oneLamination single
   storage-unpacked e f g = rw (e, f, g) refl
 
-  hydro-unpacked : eqb (technology s) 1 ≡ false → eqb (technology s) 2 ≡ false → eqb (technology s) 3 ≡ false → eqb (technology s) 4 ≡ true → unpacked (packed (technology s) p (linesOf s m p)) ≡ map shown (linesOf s m p)
+  hydro-unpacked : eqb (technology s) 1 ≡ false → eqb (technology s) 2 ≡ false → eqb (technology s) 3 ≡ false → eqb (technology s) 4 ≡ true
+      → unpacked (packed (technology s) p (linesOf s m p)) ≡ map shown (linesOf s m p)
   unfolding linesOf unpacked laminationsFrom singleOf holds levelsOf among packed energyLines amountOf padded oneLamination single
   hydro-unpacked e f g i = rw (e, f, g, i) refl
 
-  none-unpacked : eqb (technology s) 1 ≡ false → eqb (technology s) 2 ≡ false → eqb (technology s) 3 ≡ false → eqb (technology s) 4 ≡ false → unpacked (packed (technology s) p (linesOf s m p)) ≡ map shown (linesOf s m p)
+  none-unpacked : eqb (technology s) 1 ≡ false → eqb (technology s) 2 ≡ false → eqb (technology s) 3 ≡ false → eqb (technology s) 4 ≡ false
+      → unpacked (packed (technology s) p (linesOf s m p)) ≡ map shown (linesOf s m p)
   unfolding linesOf unpacked laminationsFrom singleOf holds levelsOf among packed energyLines
   none-unpacked e f g i = rw (e, f, g, i) refl
 
@@ -218,7 +243,8 @@ module _ (s : Parameters) (m : Amounts) (p : ℕ) where
   pub unpacked-levels : unpacked (packed (technology s) p (linesOf s m p)) ≡ map shown (linesOf s m p)
   unpacked-levels =
       split (eqb (technology s) 1) thermal-unpacked
-      (λ e. split (eqb (technology s) 2) (nuclear-unpacked e) (λ f. split (eqb (technology s) 3) (storage-unpacked e f) (λ g. split (eqb (technology s) 4) (hydro-unpacked e f g) (none-unpacked e f g))))
+      (λ e. split (eqb (technology s) 2) (nuclear-unpacked e)
+      (λ f. split (eqb (technology s) 3) (storage-unpacked e f) (λ g. split (eqb (technology s) 4) (hydro-unpacked e f g) (none-unpacked e f g))))
 
   -- no more laminations than places
   pub count-levels : (t : ℕ) → packed t p (linesOf s m p) .count ≤ 20
@@ -229,7 +255,11 @@ module _ (s : Parameters) (m : Amounts) (p : ℕ) where
           → length (energyLines (cond a (laminations s m p 1 (points s - 1) (others (startCost s m p) (noLoadCost s m p) (adders m p reserve)))
           (cond b (oneLamination s (nuclearEnergy s m p) ∷ []) (cond c (oneLamination s (storageEnergy s m p) ∷ single reserve (adders m p reserve) ∷ [])
           (cond d (oneLamination s (hydroEnergy s m p) ∷ single reserve (adders m p reserve) ∷ []) []))))) ≤ 20
-      go true b c d = rw (energy-laminations s m p 1 (points s - 1) (others (startCost s m p) (noLoadCost s m p) (adders m p reserve)), lines-length s m p 1 (points s - 1)) (points-high s)
+      go true b c d =
+          rw (
+            energy-laminations s m p 1 (points s - 1) (others (startCost s m p) (noLoadCost s m p) (adders m p reserve)),
+            lines-length s m p 1 (points s - 1),
+          ) (points-high s)
       go false true c d = lit≤ tt
       go false false true d = lit≤ tt
       go false false false true = lit≤ tt
@@ -244,7 +274,9 @@ module _ (d : List ℕ) (h : ℕ) (r : HourLevels) (e : r ≡ packedAt d h) wher
 
   pub handed-count : r .count ≤ 20
   unfolding levels lines
-  handed-count = subst (λ (x : HourLevels). x .count ≤ 20) (sym e) (count-levels (parametersIn d) (amountsIn d) (profile (parametersIn d) h) (technology (parametersIn d)))
+  handed-count =
+      subst (λ (x : HourLevels). x .count ≤ 20) (sym e) (count-levels (parametersIn d) (amountsIn d) (profile (parametersIn d) h)
+      (technology (parametersIn d)))
 
   pub handed-technology : r .technology ≡ technology (parametersIn d)
   unfolding packed

@@ -37,18 +37,25 @@ module _ (s : Parameters) (m : Amounts) (p : ℕ) where
   heldBy a b c d = cond a (energy ∷ start ∷ noLoad ∷ reserve ∷ []) (cond b (energy ∷ []) (cond (c || d) (energy ∷ reserve ∷ []) []))
 
   abbrev linesBy : Bool → Bool → Bool → Bool → List Line
-  linesBy a b c d = cond a (thermalLines (points s - 1)) (cond b (oneLamination s (nuclearEnergy s m p) ∷ []) (cond c (reservedLines (storageEnergy s m p)) (cond d (reservedLines (hydroEnergy s m p)) [])))
+  linesBy a b c d =
+      cond a (thermalLines (points s - 1)) (cond b (oneLamination s (nuclearEnergy s m p) ∷ [])
+      (cond c (reservedLines (storageEnergy s m p)) (cond d (reservedLines (hydroEnergy s m p)) [])))
 
-  module _ (P : ℕ → List Line → Type 0) (thermal : (v n : ℕ) → 2 ≤ v → v ≤ 4 → P v (thermalLines n)) (reserved : (e : Sum) → P reserve (reservedLines e)) where
+  module _ (P : ℕ → List Line → Type 0) (thermal : (v n : ℕ) → 2 ≤ v → v ≤ 4 → P v (thermalLines n))
+      (reserved : (e : Sum) → P reserve (reservedLines e)) where
     -- behind one lamination no other kind is held
     behind : (e : Sum) (v : ℕ) → 2 ≤ v → v ≤ 4 → among v (energy ∷ reserve ∷ []) ≡ true → P v (reservedLines e)
     unfolding among
-    behind e = by-kind (λ (v : ℕ). among v (energy ∷ reserve ∷ []) ≡ true → P v (reservedLines e)) (λ h. absurd (false≢true h)) (λ h. absurd (false≢true h)) (λ h. reserved e)
+    behind e =
+        by-kind (λ (v : ℕ). among v (energy ∷ reserve ∷ []) ≡ true → P v (reservedLines e)) (λ h. absurd (false≢true h)) (λ h. absurd (false≢true h))
+        (λ h. reserved e)
 
     -- nor any of these where energy alone is
     alone : (v : ℕ) → 2 ≤ v → v ≤ 4 → among v (energy ∷ []) ≡ true → P v (oneLamination s (nuclearEnergy s m p) ∷ [])
     unfolding among
-    alone = by-kind (λ (v : ℕ). among v (energy ∷ []) ≡ true → P v (oneLamination s (nuclearEnergy s m p) ∷ [])) (λ h. absurd (false≢true h)) (λ h. absurd (false≢true h)) (λ h. absurd (false≢true h))
+    alone =
+        by-kind (λ (v : ℕ). among v (energy ∷ []) ≡ true → P v (oneLamination s (nuclearEnergy s m p) ∷ [])) (λ h. absurd (false≢true h))
+        (λ h. absurd (false≢true h)) (λ h. absurd (false≢true h))
 
     by-tests : (v : ℕ) → 2 ≤ v → v ≤ 4 → (a b c d : Bool) → among v (heldBy a b c d) ≡ true → P v (linesBy a b c d)
     unfolding among
@@ -68,5 +75,6 @@ module _ (s : Parameters) (m : Amounts) (p : ℕ) where
   unfolding singleSum amountOf oneLamination single
   sum-amount =
       held-lines (λ v l. cents (microDollars (singleSum s m p v)) ≡ amountOf v l)
-      (λ v n. by-kind (λ (u : ℕ). cents (microDollars (singleSum s m p u)) ≡ amountOf u (thermalLines n)) (sym (amount-laminations s m p 1 n 2 _ refl)) (sym (amount-laminations s m p 1 n 3 _ refl)) (sym (amount-laminations s m p 1 n 4 _ refl)) v)
+      (λ v n. by-kind (λ (u : ℕ). cents (microDollars (singleSum s m p u)) ≡ amountOf u (thermalLines n)) (sym (amount-laminations s m p 1 n 2 _ refl))
+      (sym (amount-laminations s m p 1 n 3 _ refl)) (sym (amount-laminations s m p 1 n 4 _ refl)) v)
       (λ e. refl)

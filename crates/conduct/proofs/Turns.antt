@@ -65,7 +65,8 @@ pair-test o k =
     go true true true true = refl
 
 -- 10: what was read of a pair, and of the one before it
-module _ (o : List ℕ) (n k low last high p : ℕ) (h : k < n) (l : low ≡ before o k) (b : last ≡ priceBefore o k) (q : high ≡ quantity o k) (e : p ≡ priceAt o k) where
+module _ (o : List ℕ) (n k low last high p : ℕ) (h : k < n) (l : low ≡ before o k) (b : last ≡ priceBefore o k) (q : high ≡ quantity o k)
+    (e : p ≡ priceAt o k) where
   pub malformed-stop : pairTest low last high p ≡ false → Refused 10 (6 * k) ≡ malformed o k (n - k)
   unfolding malformed orElse refuseIf
   malformed-stop t =
@@ -122,12 +123,17 @@ module _ (o : List ℕ) where
     pair-rises : (j : ℕ) → suc j < n → (quantity o j ≤ quantity o (suc j)) × (priceAt o j ≤ priceAt o (suc j))
     unfolding before priceBefore
     pair-rises j h =
-        let z : pairTest (quantity o j) (priceAt o j) (quantity o (suc j)) (priceAt o (suc j)) ≡ true = pair-test o (suc j) ∙ pairs-hold n 0 e (suc j) (omega arith) (omega arith) in
-        parts (ltb (quantity o j) (quantity o (suc j))) (leb 2147283648 (priceAt o (suc j))) (leb (priceAt o (suc j)) 2147683648) (leb (priceAt o j) (priceAt o (suc j))) z refl refl
+        let z : pairTest (quantity o j) (priceAt o j) (quantity o (suc j)) (priceAt o (suc j)) ≡ true = pair-test o (suc j)
+        ∙ pairs-hold n 0 e (suc j) (omega arith) (omega arith) in
+        parts (ltb (quantity o j) (quantity o (suc j))) (leb 2147283648 (priceAt o (suc j))) (leb (priceAt o (suc j)) 2147683648)
+        (leb (priceAt o j) (priceAt o (suc j))) z refl refl
       where
-        parts : (a b c d : Bool) → a && b && c && d ≡ true → ltb (quantity o j) (quantity o (suc j)) ≡ a → leb (priceAt o j) (priceAt o (suc j)) ≡ d → (quantity o j ≤ quantity o (suc j)) × (priceAt o j ≤ priceAt o (suc j))
-        parts a b c d y f g =
-            (omega (arith, ltb-true (quantity o j) (quantity o (suc j)) (f ∙ and-left a b (and-left (a && b) c (and-left (a && b && c) d y)))), leb-true (priceAt o j) (priceAt o (suc j)) (g ∙ and-right (a && b && c) d y))
+        parts : (a b c d : Bool) → a && b && c && d ≡ true → ltb (quantity o j) (quantity o (suc j)) ≡ a → leb (priceAt o j) (priceAt o (suc j)) ≡ d
+            → (quantity o j ≤ quantity o (suc j)) × (priceAt o j ≤ priceAt o (suc j))
+        parts a b c d y f g = (
+          omega (arith, ltb-true (quantity o j) (quantity o (suc j)) (f ∙ and-left a b (and-left (a && b) c (and-left (a && b && c) d y)))),
+          leb-true (priceAt o j) (priceAt o (suc j)) (g ∙ and-right (a && b && c) d y),
+        )
 
     pub last-highest : LastHighest o n
     last-highest = record { at = to-last (priceAt o) n (λ j h. pair-rises j h .1) }
@@ -136,7 +142,8 @@ module _ (o : List ℕ) where
     unfolding aboveCapacity orElse refuseIf
     within-from s h zero k f = refl
     within-from s h (suc m) k f =
-        rw (le-ltb (capacity s) (quantity o k) (omega (arith, to-last (quantity o) n (λ j g. pair-rises j g .0) k (omega arith)))) (within-from s h m (k + 1) (omega arith))
+        rw (le-ltb (capacity s) (quantity o k) (omega (arith, to-last (quantity o) n (λ j g. pair-rises j g .0) k (omega arith))))
+        (within-from s h m (k + 1) (omega arith))
 
     -- 11: where the last quantity is not above the capacity, none is
     pub within-capacity : (s : Parameters) → quantity o (n - 1) ≤ capacity s → Accepted ≡ aboveCapacity s o 0 n
@@ -177,11 +184,13 @@ module _ (s : Parameters) (v t : ℕ) (r : Bool) (e : t ≡ technology s) (h : r
 pub in-conditions : (c : ℕ) → leb 1 c && leb c 3 ≡ true → (1 ≤ c) × (c ≤ 3)
 in-conditions c e = (leb-true 1 c (and-left (leb 1 c) (leb c 3) e), leb-true c 3 (and-right (leb 1 c) (leb c 3) e))
 
-pub condition-in : (l : List (List ℕ)) (v c : ℕ) (r : List ℕ) → leb 1 c && leb c 3 ≡ true → r ≡ current TH (thresholdKey c v) l → 0 < length r → Accepted ≡ conditionRefusal (parameters l) v c
+pub condition-in : (l : List (List ℕ)) (v c : ℕ) (r : List ℕ) → leb 1 c && leb c 3 ≡ true → r ≡ current TH (thresholdKey c v) l → 0 < length r
+    → Accepted ≡ conditionRefusal (parameters l) v c
 unfolding conditionRefusal between parameters present
 condition-in l v c r t e h = accepted-if _ 14 0 (rw (t, ← e, lt-ltb 0 (length r) h) refl)
 
-pub condition-none : (l : List (List ℕ)) (v c : ℕ) (r : List ℕ) → leb 1 c && leb c 3 ≡ true → r ≡ current TH (thresholdKey c v) l → length r ≤ 0 → Refused 14 0 ≡ conditionRefusal (parameters l) v c
+pub condition-none : (l : List (List ℕ)) (v c : ℕ) (r : List ℕ) → leb 1 c && leb c 3 ≡ true → r ≡ current TH (thresholdKey c v) l → length r ≤ 0
+    → Refused 14 0 ≡ conditionRefusal (parameters l) v c
 unfolding conditionRefusal between parameters present
 condition-none l v c r t e h = refused-if _ 14 0 (rw (t, ← e, le-ltb 0 (length r) h) refl)
 

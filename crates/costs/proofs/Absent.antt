@@ -55,5 +55,6 @@ module _ {d ix : List ℕ} (h : Indexed d ix) (p : ℕ) (a : 1 ≤ p) (b : p ≤
     pub no-start-maintenance : 0 ≡ microDollars (startMaintenance (parametersHeld d ix) (amountsHeld d ix) p)
     unfolding microDollars startMaintenance sumTo
     no-start-maintenance =
-        sym (sumTo-zeros (λ k. quotient (costC (amountsHeld d ix) p k * hoursPerStartS (parametersHeld d ix) p k * 1000) (intervalT (parametersHeld d ix) p k)) 0 8
+        sym (sumTo-zeros (λ k. quotient (costC (amountsHeld d ix) p k * hoursPerStartS (parametersHeld d ix) p k * 1000)
+        (intervalT (parametersHeld d ix) p k)) 0 8
         (λ i z. quotient-of-none _ _ (rw (no-item (suc (0 + i)) (omega arith) (omega arith)) (omega arith))))

@@ -14,7 +14,10 @@ use Rattle.formulas.specs.Levels.{parametersIn, amountsIn, totalEnergy, chargin
 module _ {d ix : List ℕ} (h : Indexed d ix) where
   pub charging-always : chargingCost (parametersHeld d ix) (amountsHeld d ix) ≡ chargingCost (parametersIn d) (amountsIn d)
   unfolding chargingCost chargingSum totalEnergy
-  charging-always = λ j. cond (eqb (sumTo 2016 (λ n. says-always h CH n refl 2 j)) 0) (whole (of-always h LC 0 refl 0 j)) (share ((sumTo 2016 (λ n. of-always h CH n refl 1 j * says-always h CH n refl 2 j) - 2147483648 * sumTo 2016 (λ n. says-always h CH n refl 2 j)) * 10000) (sumTo 2016 (λ n. says-always h CH n refl 2 j)))
+  charging-always =
+      λ j. cond (eqb (sumTo 2016 (λ n. says-always h CH n refl 2 j)) 0) (whole (of-always h LC 0 refl 0 j))
+      (share ((sumTo 2016 (λ n. of-always h CH n refl 1 j * says-always h CH n refl 2 j) - 2147483648 * sumTo 2016
+      (λ n. says-always h CH n refl 2 j)) * 10000) (sumTo 2016 (λ n. says-always h CH n refl 2 j)))
 
   pub forecast-always : forecastPrice (parametersHeld d ix) (amountsHeld d ix) ≡ forecastPrice (parametersIn d) (amountsIn d)
   unfolding forecastPrice forecastPlace

@@ -42,10 +42,14 @@ unfolding startFrom At
 start-at k n q p b done = inl refl
 start-at k n q p b (also {a = r} {l = l} w e) =
     go (matches k n r && leb (issue b) (issue r))
-    (λ o. subst (λ (x : ℕ). (startFrom k n (better k n b r) o (p + length r) l ≡ o) ⊎ At (startFrom k n (better k n b r) o (p + length r) l) (p + x) l) w (start-at k n o (p + length r) (better k n b r) e))
+    (λ o. subst (λ (x : ℕ). (startFrom k n (better k n b r) o (p + length r) l ≡ o) ⊎ At (startFrom k n (better k n b r) o (p + length r) l) (p + x) l) w
+    (start-at k n o (p + length r) (better k n b r) e))
   where
-    go : (t : Bool) → ((o : ℕ) → (startFrom k n (better k n b r) o (p + length r) l ≡ o) ⊎ At (startFrom k n (better k n b r) o (p + length r) l) (p + size (mark r)) l)
-        → (startFrom k n (better k n b r) (cond t p q) (p + length r) l ≡ q) ⊎ ((startFrom k n (better k n b r) (cond t p q) (p + length r) l ≡ p) ⊎ At (startFrom k n (better k n b r) (cond t p q) (p + length r) l) (p + size (mark r)) l)
+    go : (t : Bool) → ((o : ℕ) → (startFrom k n (better k n b r) o (p + length r) l ≡ o) ⊎ At (startFrom k n (better k n b r) o (p + length r) l)
+        (p + size (mark r)) l)
+        → (startFrom k n (better k n b r) (cond t p q) (p + length r) l ≡ q) ⊎
+        ((startFrom k n (better k n b r) (cond t p q) (p + length r) l ≡ p) ⊎ At (startFrom k n (better k n b r) (cond t p q) (p + length r) l)
+        (p + size (mark r)) l)
     go true f = ⊎-elim (λ z. inr (inl z)) (λ z. inr (inr z)) (f p)
     go false f = ⊎-elim (λ z. inl z) (λ z. inr (inr z)) (f q)
 
@@ -78,7 +82,8 @@ module _ {d ix : List ℕ} (h : Indexed d ix) (roomy : narrow ≤ length ix) whe
     unfolding placeAt currentPart size widths rowOf table
     named z =
         let c = charged h roomy n a b refl (λ e. omega arith) in
-        let e : part (v n - 1) 16 ≡ currentPart CH n (records d) = rw (ne-eqb (v n) 0 (λ w. omega arith), le-ltb (length d) (v n - 1 + 16) (c .0)) at (place-current d ix h CH n (interval-key n a b) fits refl refl) in
+        let e : part (v n - 1) 16 ≡ currentPart CH n (records d) = rw (ne-eqb (v n) 0 (λ w. omega arith), le-ltb (length d) (v n - 1 + 16) (c .0)) at
+        (place-current d ix h CH n (interval-key n a b) fits refl refl) in
         ap (λ (q : Part). q .start) e
 
     -- which is one of the dossier's
@@ -102,10 +107,15 @@ module _ {d ix : List ℕ} (h : Indexed d ix) (roomy : narrow ≤ length ix) whe
       tells = go (current-found CH n (records d))
         where
           go : CurrentOf CH n (records d) (current CH n (records d)) → (mark (drop p d) ≡ CH) × (number 6 2 (drop p d) ≡ n)
-          go (absent z _) = absurd (true≢false (sym (slot-tells d ix h CH n (interval-key n a b) fits ∙ ap not (ne-eqb (v n) 0 (λ w. omega arith))) ∙ ap (λ (l : List ℕ). ltb 0 (length l)) z))
+          go (absent z _) =
+              absurd (true≢false (sym (slot-tells d ix h CH n (interval-key n a b) fits ∙ ap not (ne-eqb (v n) 0 (λ w. omega arith))) ∙ ap (λ (l : List
+              ℕ). ltb 0 (length l)) z))
           go (standing q) =
-              let m : mark (take 16 (drop p d)) ≡ CH = ap mark there ∙ q .marked in
-              (sym (mark-take 16 (drop p d) (omega arith)) ∙ m, sym (number-take 16 6 2 (drop p d) (omega arith)) ∙ sym (ch-key _ m) ∙ ap keyOf there ∙ q .keyed)
+              let m : mark (take 16 (drop p d)) ≡ CH = ap mark there ∙ q .marked in (
+                sym (mark-take 16 (drop p d) (omega arith)) ∙ m,
+                sym (number-take 16 6 2 (drop p d) (omega arith)) ∙ sym (ch-key _ m) ∙ ap keyOf there
+                    ∙ q .keyed,
+              )
 
   -- ---- from place to place
 
@@ -176,7 +186,9 @@ module _ {d ix : List ℕ} (h : Indexed d ix) (roomy : narrow ≤ length ix) whe
     still f n a b other = go (ltb p (v n)) refl
       where
         go : (t : Bool) → ltb p (v n) ≡ t → cond t (f n) 0 ≡ left f next n
-        go true z = ⊎-elim (λ q. absurd (other q)) (λ q. rw (lt-ltb next (v n) (omega (arith, at-ahead (v n - 1) next (records (drop next d)) q, ltb-true p (v n) z))) refl) (parts n a b (ltb-true p (v n) z))
+        go true z =
+            ⊎-elim (λ q. absurd (other q)) (λ q. rw (lt-ltb next (v n) (omega (arith, at-ahead (v n - 1) next (records (drop next d)) q, ltb-true p (v n) z)))
+            refl) (parts n a b (ltb-true p (v n) z))
         go false z = rw (le-ltb next (v n) (omega (arith, ltb-false p (v n) z))) refl
 
     onward : (n : ℕ) → 1 ≤ n → n ≤ 2016 → next < v n → At (v n - 1) next (records (drop next d))
@@ -187,7 +199,8 @@ module _ {d ix : List ℕ} (h : Indexed d ix) (roomy : narrow ≤ length ix) whe
     unfolding restOf
     split-rest = go (subst (Each (λ r. fault r ≡ 0)) (records-step (drop p d) (omega (arith, length-drop p d))) (w .rest))
       where
-        go : Each (λ r. fault r ≡ 0) (firstOf (drop p d) ∷ records (drop (size (mark (drop p d))) (drop p d))) → (fault (firstOf (drop p d)) ≡ 0) × Each (λ r. fault r ≡ 0) (records (drop next d))
+        go : Each (λ r. fault r ≡ 0) (firstOf (drop p d) ∷ records (drop (size (mark (drop p d))) (drop p d))) → (fault (firstOf (drop p d)) ≡ 0)
+            × Each (λ r. fault r ≡ 0) (records (drop next d))
         go (also f l) = (f, rw (drop-drop (size (mark (drop p d))) p d) at l)
 
     -- a CH is there whole, of an interval that there is
@@ -200,7 +213,8 @@ module _ {d ix : List ℕ} (h : Indexed d ix) (roomy : narrow ≤ length ix) whe
       unfolding firstOf slot low high
       interval-in =
           let m : mark (firstOf (drop p d)) ≡ CH = first-mark (drop p d) ∙ charging in
-          let n : keyOf (firstOf (drop p d)) ≡ number 6 2 (drop p d) = ch-key _ m ∙ number-take (size (mark (drop p d))) 6 2 (drop p d) (omega (arith, ap size charging, ch-size)) in
+          let n : keyOf (firstOf (drop p d)) ≡ number 6 2 (drop p d) = ch-key _ m
+          ∙ number-take (size (mark (drop p d))) 6 2 (drop p d) (omega (arith, ap size charging, ch-size)) in
           let z = limits CH (number 6 2 (drop p d)) (rw (m, n) at (in-key (firstOf (drop p d)) (split-rest .0))) in
           (omega (arith, z), omega (arith, z))
 
@@ -209,7 +223,8 @@ module _ {d ix : List ℕ} (h : Indexed d ix) (roomy : narrow ≤ length ix) whe
     walk-passes none =
         record {
           cost-left = ap (λ (x : ℕ). c + x) (sym (sumTo-same 2016 (left cost p) (left cost next) (λ n a b. still cost n a b (none n a b)))) ∙ w .cost-left;
-          energy-left = ap (λ (x : ℕ). e + x) (sym (sumTo-same 2016 (left energy p) (left energy next) (λ n a b. still energy n a b (none n a b)))) ∙ w .energy-left;
+          energy-left =
+              ap (λ (x : ℕ). e + x) (sym (sumTo-same 2016 (left energy p) (left energy next) (λ n a b. still energy n a b (none n a b)))) ∙ w .energy-left;
           cost-most = w .cost-most;
           rest = split-rest .1;
           ahead = onward;

@@ -12,21 +12,25 @@ module _ (s : Parameters) (m : Amounts) (p : ℕ) {f e k : ℕ} (fuel-is : f ≡
   unfolding microDollars heatCost
   heat-costs h g = rw (g, fuel-is, emission-is, factor-is) refl
 
-  pub thermal-costs : (i : ℕ) {h o r more : ℕ} → h ≡ rise (heat s) i → o ≡ rise (output s) i → r ≡ quotient (h * f * k) (100000 * o) + quotient (h * e) (100 * o)
+  pub thermal-costs : (i : ℕ) {h o r more : ℕ} → h ≡ rise (heat s) i → o ≡ rise (output s) i
+      → r ≡ quotient (h * f * k) (100000 * o) + quotient (h * e) (100 * o)
       → more ≡ microDollars (additions s m p) → r + more ≡ microDollars (thermalEnergy s m p i)
   unfolding microDollars thermalEnergy
   thermal-costs i a b g t = rw (g, t, a, b, fuel-is, emission-is, factor-is) refl
 
 module _ (s : Parameters) (m : Amounts) (p : ℕ) where
-  pub start-costs : {h x a t : ℕ} → h ≡ startHeat s → x ≡ microDollars (heatCost s m p h) → a ≡ microDollars (adders m p start) → t ≡ microDollars (startMaintenance s m p) → x + a + t ≡ microDollars (startCost s m p)
+  pub start-costs : {h x a t : ℕ} → h ≡ startHeat s → x ≡ microDollars (heatCost s m p h) → a ≡ microDollars (adders m p start)
+      → t ≡ microDollars (startMaintenance s m p) → x + a + t ≡ microDollars (startCost s m p)
   unfolding microDollars startCost
   start-costs e f g k = rw (f, g, k, e) refl
 
-  pub noLoad-costs : {h x a : ℕ} → h ≡ noLoadHeat s → x ≡ microDollars (heatCost s m p h) → a ≡ microDollars (adders m p noLoad) → x + a ≡ microDollars (noLoadCost s m p)
+  pub noLoad-costs : {h x a : ℕ} → h ≡ noLoadHeat s → x ≡ microDollars (heatCost s m p h) → a ≡ microDollars (adders m p noLoad)
+      → x + a ≡ microDollars (noLoadCost s m p)
   unfolding microDollars noLoadCost
   noLoad-costs e f g = rw (f, g, e) refl
 
-  pub nuclear-costs : {u f k q a : ℕ} → u ≡ incrementalFuel s → f ≡ fuel m p → k ≡ factor s → q ≡ quotient (u * f * k) 1000000000 → a ≡ microDollars (additions s m p) → q + a ≡ microDollars (nuclearEnergy s m p)
+  pub nuclear-costs : {u f k q a : ℕ} → u ≡ incrementalFuel s → f ≡ fuel m p → k ≡ factor s → q ≡ quotient (u * f * k) 1000000000
+      → a ≡ microDollars (additions s m p) → q + a ≡ microDollars (nuclearEnergy s m p)
   unfolding microDollars nuclearEnergy
   nuclear-costs e f g q a = rw (q, e, f, g, a) refl
 

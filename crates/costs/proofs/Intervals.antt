@@ -32,7 +32,8 @@ pub summed-none : (d : List ℕ) → Summed d 0 0 0
 unfolding sumTo
 summed-none d = record { cost-sum = refl; energy-sum = refl; cost-high = omega arith; energy-high = omega arith }
 
-pub summed-more : {d : List ℕ} {n c e x y : ℕ} → Summed d n c e → x ≡ c + chargePrice (amountsIn d) (n + 1) * chargeEnergy (parametersIn d) (n + 1) → y ≡ e + chargeEnergy (parametersIn d) (n + 1) → x ≤ 2147683648 * y → chargeEnergy (parametersIn d) (n + 1) ≤ 1000000 → Summed d (n + 1) x y
+pub summed-more : {d : List ℕ} {n c e x y : ℕ} → Summed d n c e → x ≡ c + chargePrice (amountsIn d) (n + 1) * chargeEnergy (parametersIn d) (n + 1)
+    → y ≡ e + chargeEnergy (parametersIn d) (n + 1) → x ≤ 2147683648 * y → chargeEnergy (parametersIn d) (n + 1) ≤ 1000000 → Summed d (n + 1) x y
 summed-more h p q a b =
     record {
       cost-sum = p ∙ sum-more _ _ _ _ (h .cost-sum) refl;
@@ -42,7 +43,8 @@ summed-more h p q a b =
     }
 
 -- a part that is not empty lies within the dossier, where its slot says
-part-there : (d ix : List ℕ) (j n : ℕ) {c : List ℕ} → partAt d ix j n ≡ c → ltb 0 (length c) ≡ true → (getD ix j 0 - 1 + n ≤ length d) × (take n (drop (getD ix j 0 - 1) d) ≡ c)
+part-there : (d ix : List ℕ) (j n : ℕ) {c : List ℕ} → partAt d ix j n ≡ c → ltb 0 (length c) ≡ true → (getD ix j 0 - 1 + n ≤ length d)
+    × (take n (drop (getD ix j 0 - 1) d) ≡ c)
 unfolding partAt placeAt partBytes
 part-there d ix j n {c} e t = go (eqb (getD ix j 0) 0 || ltb (length d) (getD ix j 0 - 1 + n)) refl e
   where
@@ -70,12 +72,14 @@ module _ {d ix : List ℕ} (h : Indexed d ix) (roomy : narrow ≤ length ix) whe
   uncharged-slot n a b {j} q e = uncharged n j 1 a b (one-empty ix j e) (omega arith) (omega arith)
 
   -- one whose slot is not has its record where the slot says
-  pub charged : (n : ℕ) → 1 ≤ n → n ≤ 2016 → {j : ℕ} → j ≡ slot CH n → (getD ix j 0 ≡ 0 → ⊥) → (getD ix j 0 - 1 + 16 ≤ length d) × (take 16 (drop (getD ix j 0 - 1) d) ≡ current CH n (records d))
+  pub charged : (n : ℕ) → 1 ≤ n → n ≤ 2016 → {j : ℕ} → j ≡ slot CH n → (getD ix j 0 ≡ 0 → ⊥) → (getD ix j 0 - 1 + 16 ≤ length d)
+      × (take 16 (drop (getD ix j 0 - 1) d) ≡ current CH n (records d))
   unfolding size widths rowOf table
   charged n a b {j} p e =
       let i = interval-key n a b in
       let w : slot CH n < length ix = omega (arith, roomy, slot-narrow CH n i refl) in
-      part-there d ix j 16 (part-current d ix h CH n i w p refl) (slot-tells d ix h CH n i w ∙ ap (λ (k : ℕ). not (eqb (getD ix k 0) 0)) (sym p) ∙ ap not (ne-eqb (getD ix j 0) 0 e))
+      part-there d ix j 16 (part-current d ix h CH n i w p refl) (slot-tells d ix h CH n i w ∙ ap (λ (k : ℕ). not (eqb (getD ix k 0) 0)) (sym p)
+      ∙ ap not (ne-eqb (getD ix j 0) 0 e))
 
   module _ (n m : ℕ) {j : ℕ} (first : j ≡ slot CH (n + 1)) (last : n + m ≤ 2016) (empty : slotsEmpty ix j m ≡ true) where
     block-uncharged : (i : ℕ) → i < m → chargeEnergy (parametersIn d) (suc (n + i)) ≡ 0
@@ -86,7 +90,9 @@ module _ {d ix : List ℕ} (h : Indexed d ix) (roomy : narrow ≤ length ix) whe
     pub summed-past : {c e : ℕ} → Summed d n c e → Summed d (n + m) c e
     summed-past s =
         record {
-          cost-sum = s .cost-sum ∙ sym (sumTo-zeros (λ k. chargePrice (amountsIn d) k * chargeEnergy (parametersIn d) k) n m (λ i p. rw (block-uncharged i p) (omega arith)));
+          cost-sum =
+              s .cost-sum ∙ sym (sumTo-zeros (λ k. chargePrice (amountsIn d) k * chargeEnergy (parametersIn d) k) n m
+              (λ i p. rw (block-uncharged i p) (omega arith)));
           energy-sum = s .energy-sum ∙ sym (sumTo-zeros (λ k. chargeEnergy (parametersIn d) k) n m block-uncharged);
           cost-high = s .cost-high;
           energy-high = omega (arith, s .energy-high);
@@ -103,4 +109,6 @@ module _ (d ix : List ℕ) (h : Indexed d ix) (e : true ≡ fitsShort d) where
 
   pub short-uncharged : 0 ≡ microDollars (chargingCost (parametersIn d) (amountsIn d))
   unfolding microDollars chargingCost
-  short-uncharged = rw (eq-eqb (totalEnergy (parametersIn d)) 0 none-charged) (sym (lastCost-at (records d) ∙ ap (number 6 4) (short-none d ix h e LC 0 refl) ∙ number-nil 6 4))
+  short-uncharged =
+      rw (eq-eqb (totalEnergy (parametersIn d)) 0 none-charged)
+      (sym (lastCost-at (records d) ∙ ap (number 6 4) (short-none d ix h e LC 0 refl) ∙ number-nil 6 4))

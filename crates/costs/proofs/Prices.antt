@@ -47,7 +47,8 @@ unfolding listTo
 prices-none c f l h = drop-of-length-le l {i = c - 0} (omega arith)
 
 -- one more price, in the place before
-pub prices-more : (c : ℕ) (f : ℕ → ℕ) (l : List ℕ) (n i x : ℕ) → length l ≡ c → n < c → i ≡ c - (n + 1) → drop (c - n) l ≡ listTo n f → x ≡ f (n + 1) → drop (c - (n + 1)) (set l i x) ≡ listTo (n + 1) f
+pub prices-more : (c : ℕ) (f : ℕ → ℕ) (l : List ℕ) (n i x : ℕ) → length l ≡ c → n < c → i ≡ c - (n + 1) → drop (c - n) l ≡ listTo n f → x ≡ f (n + 1)
+    → drop (c - (n + 1)) (set l i x) ≡ listTo (n + 1) f
 unfolding listTo
 prices-more c f l n i x w h p e g =
     let q : c - n ≡ suc i = omega (arith, p) in
@@ -85,7 +86,8 @@ module _ (k : ℕ) (is-price : fieldOf k 1 ≡ price) (two : 1 < length (rowOf k
   -- a price that is there or not is in its range
   pub price-in : {l : List (List ℕ)} → Each (λ r. fault r ≡ 0) l → (n : ℕ) → PriceIn (amounts l .of k n 1)
   unfolding amounts
-  price-in {l} e n = record { low = rw is-price (price-low e n); high = subst (λ (f : Field). amounts l .of k n 1 ≤ f .highest) is-price (amount-high e k n 1) }
+  price-in {l} e n =
+      record { low = rw is-price (price-low e n); high = subst (λ (f : Field). amounts l .of k n 1 ≤ f .highest) is-price (amount-high e k n 1) }
 
 pub hour-in : {l : List (List ℕ)} → Each (λ r. fault r ≡ 0) l → (n : ℕ) → PriceIn (hourPrice (amounts l) n)
 unfolding fieldOf rowOf table

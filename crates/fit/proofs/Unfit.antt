@@ -55,7 +55,9 @@ rule-take t k s = go (eqb k AD) refl (eqb k TH) refl
     at j i e = rw e (value-take j i s)
 
     go : (a : Bool) → eqb k AD ≡ a → (b : Bool) → eqb k TH ≡ b
-        → cond a (holds t (value AD 2 (take (size k) s)) && (not (eqb (value AD 1 (take (size k) s)) 5) || (eqb t nuclear && eqb (value AD 2 (take (size k) s)) 1))) (cond b (holds t (value TH 1 (take (size k) s))) true)
+        → cond a (holds t (value AD 2 (take (size k) s))
+        && (not (eqb (value AD 1 (take (size k) s)) 5) || (eqb t nuclear && eqb (value AD 2 (take (size k) s)) 1)))
+        (cond b (holds t (value TH 1 (take (size k) s))) true)
         ≡ cond a (holds t (value AD 2 s) && (not (eqb (value AD 1 s) 5) || (eqb t nuclear && eqb (value AD 2 s) 1))) (cond b (holds t (value TH 1 s)) true)
     go true e b f = rw (at AD 1 (eqb-true k AD e), at AD 2 (eqb-true k AD e)) refl
     go false e true f = rw (at TH 1 (eqb-true k TH f)) refl
@@ -64,7 +66,11 @@ rule-take t k s = go (eqb k AD) refl (eqb k TH) refl
 fits-take : (t k : ℕ) (s : List ℕ) → fits t k (take (size k) s) ≡ fits t k s
 unfolding fits
 fits-take t k s =
-    rw (below-same (length (rowOf k .fields)) (λ i. fieldFits t (fieldOf k i) (value k i (take (size k) s))) (λ i. fieldFits t (fieldOf k i) (value k i s)) (λ i. ap (fieldFits t (fieldOf k i)) (value-take k i s)), rule-take t k s)
+    rw (
+      below-same (length (rowOf k .fields)) (λ i. fieldFits t (fieldOf k i) (value k i (take (size k) s))) (λ i. fieldFits t (fieldOf k i) (value k i s))
+          (λ i. ap (fieldFits t (fieldOf k i)) (value-take k i s)),
+      rule-take t k s,
+    )
     refl
 
 -- ---- where no two records are twins, one that has the current one's issue is the current one
@@ -119,7 +125,8 @@ module _ (t : ℕ) (d ix rs : List ℕ) (top : ℕ) where
   -- the current record of the mark and key fits, if it has a slot that is not empty and not above the highest
   abbrev Fit : ℕ → ℕ → Type 0
   Fit k n =
-      (s : List ℕ) → rangesHold k s ≡ true → number 6 (keyWidth k) s ≡ n → current k n (records d) ≡ s → slot k n ≤ top → eqb (getD ix (slot k n) 0) 0 ≡ false → fits t k s ≡ true
+      (s : List ℕ) → rangesHold k s ≡ true → number 6 (keyWidth k) s ≡ n → current k n (records d) ≡ s → slot k n ≤ top → eqb (getD ix (slot k n) 0) 0 ≡ false
+      → fits t k s ≡ true
 
   -- there is none
   empty-fit : (k n : ℕ) → eqb (getD ix (slot k n) 0) 0 ≡ true → Fit k n
@@ -141,14 +148,16 @@ module _ (t : ℕ) (d ix rs : List ℕ) (top : ℕ) where
     unfolding Spans shapeOf shape rowOf table
     fit-rs n q s _ _ c _ _ =
         let z : n ≡ 0 = omega (arith, q .spans) in
-        subst (λ (r : List ℕ). fits t RS r ≡ true) (same ∙ ap (λ (i : ℕ). current RS i (records d)) (sym z) ∙ c) (and-left (fits t RS rs) (pointsFit t ix) (first-parts .0))
+        subst (λ (r : List ℕ). fits t RS r ≡ true) (same ∙ ap (λ (i : ℕ). current RS i (records d)) (sym z) ∙ c)
+        (and-left (fits t RS rs) (pointsFit t ix) (first-parts .0))
 
     fit-hp : (n : ℕ) → InKey HP n → Fit HP n
     unfolding low high
     fit-hp n q =
         split (eqb t thermal)
         (λ w s _ _ _ _ _. sym (fits-hp t s known) ∙ w)
-        (λ w. empty-fit HP n (in-empty ix 1 21 (slot HP n) (or-right (eqb t thermal) _ w (and-right (fits t RS rs) (pointsFit t ix) (first-parts .0))) (omega (arith, limits HP n q)) (omega (arith, limits HP n q))))
+        (λ w. empty-fit HP n (in-empty ix 1 21 (slot HP n) (or-right (eqb t thermal) _ w (and-right (fits t RS rs) (pointsFit t ix) (first-parts .0)))
+        (omega (arith, limits HP n q)) (omega (arith, limits HP n q))))
 
     -- FU and MM of a profile, of a station that is not thermal
     profile-parts : eqb t thermal ≡ false → (p : ℕ) → 1 ≤ p → p ≤ 4 → (fits t FU (current FU p (records d)) ≡ true) × (itemsFit t d p ≡ true)
@@ -172,7 +181,8 @@ module _ (t : ℕ) (d ix rs : List ℕ) (top : ℕ) where
         (λ w s _ _ c _ _.
         let z = profile-parts w (n / 256) (omega (arith, q .spans)) (omega (arith, q .spans)) .1 in
         let k : n / 256 * 256 + n % 256 ≡ n = omega arith in
-        subst (λ (r : List ℕ). fits t MM r ≡ true) (ap (λ (i : ℕ). current MM i (records d)) k ∙ c) (to-at 8 (λ j. fits t MM (current MM (n / 256 * 256 + j) (records d))) z (n % 256) (omega (arith, q .spans)) (omega (arith, q .spans))))
+        subst (λ (r : List ℕ). fits t MM r ≡ true) (ap (λ (i : ℕ). current MM i (records d)) k ∙ c)
+        (to-at 8 (λ j. fits t MM (current MM (n / 256 * 256 + j) (records d))) z (n % 256) (omega (arith, q .spans)) (omega (arith, q .spans))))
 
     -- a level that is not held has no slot of AD and none of TH
     unheld : (v : ℕ) → holds t v ≡ false → 1 ≤ v → v ≤ 4 → (fourthsEmpty ix (25 + v) 20 ≡ true) × (fourthsEmpty ix (153 + v) 3 ≡ true)
@@ -186,14 +196,16 @@ module _ (t : ℕ) (d ix rs : List ℕ) (top : ℕ) where
     fit-th n q =
         split (holds t (n % 256))
         (λ w s g i _ _ _. held-th t s known g (rw (← i) at w))
-        (λ w. empty-fit TH n (in-fourths ix (153 + n % 256) 3 (n / 256 - 1) (slot TH n) (unheld (n % 256) w (omega (arith, q .spans)) (omega (arith, q .spans)) .1) (omega (arith, q .spans)) (omega (arith, q .spans))))
+        (λ w. empty-fit TH n (in-fourths ix (153 + n % 256) 3 (n / 256 - 1) (slot TH n)
+        (unheld (n % 256) w (omega (arith, q .spans)) (omega (arith, q .spans)) .1) (omega (arith, q .spans)) (omega (arith, q .spans))))
 
     -- an AD of cost 5 would stand in one of four slots of its profile
     prorated : eqb t nuclear ≡ false → (n : ℕ) → InKey AD n → n / 256 % 256 ≡ 5 → eqb (getD ix (slot AD n) 0) 0 ≡ true
     unfolding slot Spans shapeOf shape rowOf table
     prorated w n q five =
         let p = n / 65536 - 1 in
-        in-empty ix (42 + 20 * p) 4 (slot AD n) (below-at 4 (λ p. slotsEmpty ix (42 + 20 * p) 4) (or-right (eqb t nuclear) _ w (parts .1)) p (omega (arith, q .spans))) (omega (arith, q .spans, five)) (omega (arith, q .spans, five))
+        in-empty ix (42 + 20 * p) 4 (slot AD n) (below-at 4 (λ p. slotsEmpty ix (42 + 20 * p) 4) (or-right (eqb t nuclear) _ w (parts .1)) p
+        (omega (arith, q .spans))) (omega (arith, q .spans, five)) (omega (arith, q .spans, five))
 
     fit-ad : (n : ℕ) → InKey AD n → Fit AD n
     unfolding slot keyWidth keyIn Spans shapeOf shape rowOf table
@@ -201,8 +213,10 @@ module _ (t : ℕ) (d ix rs : List ℕ) (top : ℕ) where
         split (holds t (n % 256))
         (λ w s g i _ _ z.
         held-ad t s known g (rw (← i) at w)
-        (λ five. split (eqb t nuclear) (eqb-true t nuclear) (λ x. absurd (false≢true (sym z ∙ prorated x n q (sym (ap (λ (m : ℕ). m / 256 % 256) i) ∙ five))))))
-        (λ w. empty-fit AD n (in-fourths ix (25 + n % 256) 20 (5 * (n / 65536 - 1) + (n / 256 % 256 - 1)) (slot AD n) (unheld (n % 256) w (omega (arith, q .spans)) (omega (arith, q .spans)) .0) (omega (arith, q .spans)) (omega (arith, q .spans))))
+        (λ five. split (eqb t nuclear) (eqb-true t nuclear) (λ x. absurd (false≢true (sym z ∙ prorated x n q (sym (ap (λ (m : ℕ). m / 256 % 256) i)
+        ∙ five))))))
+        (λ w. empty-fit AD n (in-fourths ix (25 + n % 256) 20 (5 * (n / 65536 - 1) + (n / 256 % 256 - 1)) (slot AD n)
+        (unheld (n % 256) w (omega (arith, q .spans)) (omega (arith, q .spans)) .0) (omega (arith, q .spans)) (omega (arith, q .spans))))
 
     -- HR, CH and LC: storage, or there is none
     fit-priced : (k n : ℕ) → ((s : List ℕ) → eqb t storage ≡ fits t k s) → 166 ≤ slot k n → slot k n < 2351 → Fit k n
@@ -250,7 +264,8 @@ module _ (t : ℕ) (d ix rs : List ℕ) (top : ℕ) where
           let same : current (mark r) (keyOf r) (records d) ≡ r = is-the-current distinct m c in
           fit (mark r) (keyOf r) k r (faultless r f .ranges) (unfold keyOf in refl) same (member-each m highest) (held r f k same (member-each m complete))
         where
-          held : (r : List ℕ) → fault r ≡ 0 → InKey (mark r) (keyOf r) → current (mark r) (keyOf r) (records d) ≡ r → slot (mark r) (keyOf r) < length ix → eqb (getD ix (slot (mark r) (keyOf r)) 0) 0 ≡ false
+          held : (r : List ℕ) → fault r ≡ 0 → InKey (mark r) (keyOf r) → current (mark r) (keyOf r) (records d) ≡ r → slot (mark r) (keyOf r) < length ix
+              → eqb (getD ix (slot (mark r) (keyOf r)) 0) 0 ≡ false
           held r f k same i =
               split (eqb (getD ix (slot (mark r) (keyOf r)) 0) 0)
               (λ w. absurd (faultless r f .known (ap mark (sym same ∙ current-none d ix h (mark r) (keyOf r) k i (eqb-true _ 0 w)) ∙ mark-nil)))
@@ -262,7 +277,8 @@ module _ (t : ℕ) (d ix rs : List ℕ) (top : ℕ) where
 -- ---- the tests of slots
 
 -- RS of a thermal station
-pub rs-thermal : (s : List ℕ) → ltb 0 (number 9 2 s) && eqb (number 19 4 s) 0 && eqb (number 23 4 s) 0 && eqb (number 27 2 s) 0 && eqb (number 29 2 s) 0 ≡ fits thermal RS s
+pub rs-thermal : (s : List ℕ) → ltb 0 (number 9 2 s) && eqb (number 19 4 s) 0 && eqb (number 23 4 s) 0 && eqb (number 27 2 s) 0
+    && eqb (number 29 2 s) 0 ≡ fits thermal RS s
 rs-thermal s =
     subst (λ (b : Bool). b && eqb (number 19 4 s) 0 && eqb (number 23 4 s) 0 && eqb (number 27 2 s) 0 && eqb (number 29 2 s) 0 ≡ fits thermal RS s)
     (and-true (ltb 0 (number 9 2 s) && true) ∙ and-true (ltb 0 (number 9 2 s)))
@@ -277,17 +293,20 @@ pub other-wide : (t : ℕ) (d ix rs : List ℕ) (top : ℕ) → not (eqb t hydro
 unfolding allFit
 other-wide t d ix rs top = go (eqb t hydro) (ltb narrow (length ix))
   where
-    go : (a b : Bool) → not a && b ≡ true → false ≡ (a || not b) && (fits t RS rs && pointsFit t ix && profilesFit t d && allTo 4 (levelFits t ix) && proratedFit t ix && pricedFit t ix top)
+    go : (a b : Bool) → not a && b ≡ true → false ≡ (a || not b)
+        && (fits t RS rs && pointsFit t ix && profilesFit t d && allTo 4 (levelFits t ix) && proratedFit t ix && pricedFit t ix top)
     go true b e = absurd (false≢true e)
     go false true e = refl
     go false false e = absurd (false≢true e)
 
 -- and any other
-pub by-slots : (t : ℕ) (d ix rs : List ℕ) (top : ℕ) → not (eqb t hydro) && ltb narrow (length ix) ≡ false → {x : Bool} → x ≡ fits t RS rs && pointsFit t ix && profilesFit t d && allTo 4 (levelFits t ix) && proratedFit t ix && pricedFit t ix top → x ≡ allFit t d ix rs top
+pub by-slots : (t : ℕ) (d ix rs : List ℕ) (top : ℕ) → not (eqb t hydro) && ltb narrow (length ix) ≡ false → {x : Bool} → x ≡ fits t RS rs && pointsFit t ix
+    && profilesFit t d && allTo 4 (levelFits t ix) && proratedFit t ix && pricedFit t ix top → x ≡ allFit t d ix rs top
 unfolding allFit
 by-slots t d ix rs top h {x = x} f = go (eqb t hydro) (ltb narrow (length ix)) h
   where
-    go : (a b : Bool) → not a && b ≡ false → x ≡ (a || not b) && (fits t RS rs && pointsFit t ix && profilesFit t d && allTo 4 (levelFits t ix) && proratedFit t ix && pricedFit t ix top)
+    go : (a b : Bool) → not a && b ≡ false → x ≡ (a || not b)
+        && (fits t RS rs && pointsFit t ix && profilesFit t d && allTo 4 (levelFits t ix) && proratedFit t ix && pricedFit t ix top)
     go true b e = f
     go false true e = absurd (false≢true (sym e))
     go false false e = f
@@ -302,14 +321,16 @@ item-none t known = sym (fits-mm t [] known) ∙ go (eqb t thermal)
     go false = refl
 
 -- a profile whose slots of MM are empty has no item
-pub no-items : (t : ℕ) (d ix : List ℕ) (p : ℕ) → Known t → Indexed d ix → 1 ≤ p → p ≤ 4 → {j : ℕ} → j ≡ slot MM (p * 256 + 1) → slotsEmpty ix j 8 ≡ true → true ≡ itemsFit t d p
+pub no-items : (t : ℕ) (d ix : List ℕ) (p : ℕ) → Known t → Indexed d ix → 1 ≤ p → p ≤ 4 → {j : ℕ} → j ≡ slot MM (p * 256 + 1) → slotsEmpty ix j 8 ≡ true
+    → true ≡ itemsFit t d p
 unfolding itemsFit slot
 no-items t d ix p known h a b {j} q e = sym (at-to 8 (λ i. fits t MM (current MM (p * 256 + i) (records d))) one)
   where
     one : (i : ℕ) → 1 ≤ i → i ≤ 8 → fits t MM (current MM (p * 256 + i) (records d)) ≡ true
     one i c z =
         let k = item-key p i a b c z in
-        rw (current-in-empty d ix h 5 (p * 256 + i) k (slot-fits d ix h 5 (p * 256 + i) refl k refl) j 8 e (omega (arith, q)) (omega (arith, q))) (item-none t known)
+        rw (current-in-empty d ix h 5 (p * 256 + i) k (slot-fits d ix h 5 (p * 256 + i) refl k refl) j 8 e (omega (arith, q)) (omega (arith, q)))
+        (item-none t known)
 
 -- ---- the loop over the records
 
@@ -339,9 +360,11 @@ unfolding slotAt
 slot-here s {k = k} {m = m} ek em en ej =
     ej ∙ ap (slot k) (en ∙ ap (λ (w : ℕ). number 6 w s) (shape-width k em)) ∙ ap (λ (x : ℕ). slot x (number 6 (keyWidth x) s)) ek
 
-pub unfit-current : (d ix s : List ℕ) (f : Bool) → f ≡ false → {a b j n : ℕ} {part : List ℕ} → j ≡ slotAt (mark s) s → n ≡ size (mark s) → part ≡ partAt d ix j n → a ≡ number 2 4 s → b ≡ number 2 4 part → eqb a b ≡ notFit d ix s f
+pub unfit-current : (d ix s : List ℕ) (f : Bool) → f ≡ false → {a b j n : ℕ} {part : List ℕ} → j ≡ slotAt (mark s) s → n ≡ size (mark s)
+    → part ≡ partAt d ix j n → a ≡ number 2 4 s → b ≡ number 2 4 part → eqb a b ≡ notFit d ix s f
 unfolding notFit
-unfit-current d ix s f e ej en p q r = rw (e, q, r, p, ej, en, and-true (eqb (number 2 4 s) (number 2 4 (partAt d ix (slotAt (mark s) s) (size (mark s)))))) refl
+unfit-current d ix s f e ej en p q r =
+    rw (e, q, r, p, ej, en, and-true (eqb (number 2 4 s) (number 2 4 (partAt d ix (slotAt (mark s) s) (size (mark s)))))) refl
 
 -- 6 from a place on; there is no state
 abbrev sought : ℕ → List (List ℕ) → ℕ → ℕ → List (List ℕ) → Answer
@@ -365,7 +388,8 @@ pub finish : (t : ℕ) (d ix : List ℕ) (p : ℕ) → length d ≤ p → Left t
 unfolding firstDrawn unfit
 finish t d ix p h left = ends h left
 
-module _ (t : ℕ) (d ix : List ℕ) (h : Indexed d ix) (p : ℕ) (inside : p < length d) (left : Left t d ix p) {n : ℕ} (en : n ≡ size (mark (take (length d - p) (drop p d)))) where
+module _ (t : ℕ) (d ix : List ℕ) (h : Indexed d ix) (p : ℕ) (inside : p < length d) (left : Left t d ix p) {n : ℕ}
+    (en : n ≡ size (mark (take (length d - p) (drop p d)))) where
   abbrev r : List ℕ
   r = take n (drop p d)
 
@@ -390,7 +414,8 @@ module _ (t : ℕ) (d ix : List ℕ) (h : Indexed d ix) (p : ℕ) (inside : p < 
   module _ {b f : Bool} (ef : f ≡ fits t (mark (take (length d - p) s)) (take (length d - p) s)) (eb : b ≡ notFit d ix (take (length d - p) s) f) where
     part-is : partAt d ix (slotAt (mark s) s) (size (mark s)) ≡ current (mark r) (keyOf r) (records d)
     part-is =
-        part-current d ix h (mark r) (keyOf r) (in-key r clean) (its-known (slotted-clean ix) inside left en .1) (sym its-slot) (ap size (sym (its-mark (slotted-clean ix) inside left en)))
+        part-current d ix h (mark r) (keyOf r) (in-key r clean) (its-known (slotted-clean ix) inside left en .1) (sym its-slot)
+        (ap size (sym (its-mark (slotted-clean ix) inside left en)))
 
     test : b ≡ isCurrent (records d) r && not (fits t (mark r) r)
     unfolding isCurrent issue notFit

@@ -182,20 +182,24 @@ unfolding computed
 equal-prices = refl
 
 -- and at each place from the top
-places : (fromTop 1 (5 ∷ 9 ∷ 9 ∷ 1 ∷ []) ≡ 9) × (fromTop 2 (5 ∷ 9 ∷ 9 ∷ 1 ∷ []) ≡ 9) × (fromTop 3 (5 ∷ 9 ∷ 9 ∷ 1 ∷ []) ≡ 5) × (fromTop 4 (5 ∷ 9 ∷ 9 ∷ 1 ∷ []) ≡ 1)
+places : (fromTop 1 (5 ∷ 9 ∷ 9 ∷ 1 ∷ []) ≡ 9) × (fromTop 2 (5 ∷ 9 ∷ 9 ∷ 1 ∷ []) ≡ 9) × (fromTop 3 (5 ∷ 9 ∷ 9 ∷ 1 ∷ []) ≡ 5)
+    × (fromTop 4 (5 ∷ 9 ∷ 9 ∷ 1 ∷ []) ≡ 1)
 unfolding computed
 places = (refl, refl, refl, refl)
 
 -- a window of 149, so place 2 from the top of 30.00, 35.00 and, at the window's end, 40.00; consumables 0.25
 hydro : List Entry
-hydro = says RS 0 8 149 ∷ says FP 3 1 (price 3000) ∷ says FP 7 1 (price 3500) ∷ says FP 149 1 (price 4000) ∷ says FP 150 1 (price 99999) ∷ says AD (adderKey 1 3 1) 3 250000 ∷ []
+hydro =
+    says RS 0 8 149 ∷ says FP 3 1 (price 3000) ∷ says FP 7 1 (price 3500) ∷ says FP 149 1 (price 4000) ∷ says FP 150 1 (price 99999) ∷ says AD
+    (adderKey 1 3 1) 3 250000 ∷ []
 
 hydro-sum : microDollars (hydroEnergy (asParameters hydro) (asAmounts hydro) 1) ≡ 35250000
 unfolding hydro find computed
 hydro-sum = refl
 
 -- place 3 of 40.00 twice and 30.00: each counts
-hydro-equal : microDollars (hydroEnergy (asParameters (says RS 0 8 150 ∷ hydro)) (asAmounts (says FP 7 1 (price 4000) ∷ says FP 150 1 (price 0) ∷ hydro)) 1) ≡ 30250000
+hydro-equal : microDollars (hydroEnergy (asParameters (says RS 0 8 150 ∷ hydro))
+    (asAmounts (says FP 7 1 (price 4000) ∷ says FP 150 1 (price 0) ∷ hydro)) 1) ≡ 30250000
 unfolding hydro find computed
 hydro-equal = refl
 
@@ -252,9 +256,12 @@ opportunity-thirds = refl
 -- ---- "with no division dropped and no cent rounded": one whole number over another
 
 -- opportunity 627,110,000 / 3, short-run (60,020,000 / 3 + 750,000) × 1,000 / 800 = 622,700,000 / 24
-exact-thirds : (exact (opportunityCost (asParameters thirds) (asAmounts thirds)) .num * 3 ≡ exact (opportunityCost (asParameters thirds) (asAmounts thirds)) .den * 627110000)
-    × (exact (shortRunCost (asParameters thirds) (asAmounts thirds) 1) .num * 24 ≡ exact (shortRunCost (asParameters thirds) (asAmounts thirds) 1) .den * 622700000)
-    × (exact (storageEnergy (asParameters thirds) (asAmounts thirds) 1) .num * 3 ≡ exact (storageEnergy (asParameters thirds) (asAmounts thirds) 1) .den * 627110000)
+exact-thirds : (exact (opportunityCost (asParameters thirds) (asAmounts thirds)) .num * 3 ≡ exact
+    (opportunityCost (asParameters thirds) (asAmounts thirds)) .den * 627110000)
+    × (exact (shortRunCost (asParameters thirds) (asAmounts thirds) 1) .num * 24 ≡ exact
+    (shortRunCost (asParameters thirds) (asAmounts thirds) 1) .den * 622700000)
+    × (exact (storageEnergy (asParameters thirds) (asAmounts thirds) 1) .num * 3 ≡ exact
+    (storageEnergy (asParameters thirds) (asAmounts thirds) 1) .den * 627110000)
 unfolding thirds storage find computed
 exact-thirds = (refl, refl, refl)
 
@@ -264,7 +271,8 @@ unfolding exact
 exact-none = (refl, refl)
 
 -- the unit of halves: fuel, emission and two items of half a micro-dollar are 2
-exact-halves : exact (thermalEnergy (asParameters halves) (asAmounts halves) 1 1) .num ≡ exact (thermalEnergy (asParameters halves) (asAmounts halves) 1 1) .den * 2
+exact-halves : exact (thermalEnergy (asParameters halves) (asAmounts halves) 1 1) .num ≡ exact
+    (thermalEnergy (asParameters halves) (asAmounts halves) 1 1) .den * 2
 unfolding halves find computed
 exact-halves = refl
 
@@ -322,7 +330,8 @@ requests =
     ∷ says RQ 9 0 9 ∷ says RQ 9 1 0 ∷ says RQ 9 2 100
     ∷ []
 
-profiles : (profile (asParameters requests) 4 ≡ 1) × (profile (asParameters requests) 5 ≡ 3) × (profile (asParameters requests) 9 ≡ 4) × (profile (asParameters requests) 12 ≡ 4) × (profile (asParameters requests) 13 ≡ 1)
+profiles : (profile (asParameters requests) 4 ≡ 1) × (profile (asParameters requests) 5 ≡ 3) × (profile (asParameters requests) 9 ≡ 4)
+    × (profile (asParameters requests) 12 ≡ 4) × (profile (asParameters requests) 13 ≡ 1)
 unfolding requests find computed
 profiles = (refl, refl, refl, refl, refl)
 

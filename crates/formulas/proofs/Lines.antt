@@ -61,7 +61,11 @@ module _ (s : Parameters) {m n : Amounts} (h : Higher m n) (p : ℕ) where
   chargingSum-le : chargingSum s m ≤ chargingSum s n
   unfolding chargingSum
   chargingSum-le =
-      omega (arith, sumTo-mono 2016 {f = λ k. chargePrice m k * chargeEnergy s k} {g = λ k. chargePrice n k * chargeEnergy s k} (λ k. mul-le-mul-right _ (h CH k 1)))
+      omega (
+        arith,
+        sumTo-mono 2016 {f =
+            λ k. chargePrice m k * chargeEnergy s k} {g = λ k. chargePrice n k * chargeEnergy s k} (λ k. mul-le-mul-right _ (h CH k 1)),
+      )
 
   highestSum-le : highestSum s m ≤ highestSum s n
   unfolding highestSum
@@ -102,7 +106,8 @@ module _ (s : Parameters) {m n : Amounts} (h : Higher m n) (p : ℕ) where
   unfolding linesOf oneLamination single
   linesOf-upper =
       cond-relates (Pairwise NoLower) (eqb (technology s) 1) _ _ _ _
-      (laminations-upper _ 1 (more (upper 2 0 0 0 (start-below s h p)) (more (upper 3 0 0 0 (noLoad-below s h p)) (more (upper 4 0 0 0 (adders-below s h p 4)) none))))
+      (laminations-upper _ 1 (more (upper 2 0 0 0 (start-below s h p))
+      (more (upper 3 0 0 0 (noLoad-below s h p)) (more (upper 4 0 0 0 (adders-below s h p 4)) none))))
       (cond-relates (Pairwise NoLower) (eqb (technology s) 2) _ _ _ _
       (more (upper 1 1 0 _ (nuclear-below s h p)) none)
       (cond-relates (Pairwise NoLower) (eqb (technology s) 3) _ _ _ _
@@ -142,7 +147,8 @@ module _ (s : Parameters) (m : Amounts) (p : ℕ) where
   charging-one : Efficient (chargingCost s m) × (divisions (chargingCost s m) ≤ 1)
   unfolding chargingCost divisions
   charging-one =
-      cond-holds (λ x. Efficient x × (divisions x ≤ 1)) (eqb (totalEnergy s) 0) (whole (lastCost m)) (share (chargingSum s m * 10000) (totalEnergy s)) (tt, lit≤ tt) (tt, lit≤ tt)
+      cond-holds (λ x. Efficient x × (divisions x ≤ 1)) (eqb (totalEnergy s) 0) (whole (lastCost m)) (share (chargingSum s m * 10000) (totalEnergy s))
+      (tt, lit≤ tt) (tt, lit≤ tt)
 
   storage-close : 500 ≤ efficiency s → CloseLine (oneLamination s (storageEnergy s m p))
   unfolding oneLamination storageEnergy shortRunCost opportunityCost additions adders maintenance divisions sumTo
@@ -166,7 +172,8 @@ module _ (s : Parameters) (m : Amounts) (p : ℕ) where
       (λ e. also (storage-close (g (eqb-true (technology s) 3 e))) (also reserve-close done))
       (also hydro-close (also reserve-close done))
     where
-      by-technology : {x y z i : List Line} (a b c d : Bool) → eqb (technology s) 3 ≡ c → Each CloseLine x → Each CloseLine y → (eqb (technology s) 3 ≡ true → Each CloseLine z) → Each CloseLine i → Each CloseLine (cond a x (cond b y (cond c z (cond d i []))))
+      by-technology : {x y z i : List Line} (a b c d : Bool) → eqb (technology s) 3 ≡ c → Each CloseLine x → Each CloseLine y
+          → (eqb (technology s) 3 ≡ true → Each CloseLine z) → Each CloseLine i → Each CloseLine (cond a x (cond b y (cond c z (cond d i []))))
       by-technology true b c d e u v w j = u
       by-technology false true c d e u v w j = v
       by-technology false false true d e u v w j = w e

@@ -25,8 +25,12 @@ module _ (w : Week) (before : List Week) (carried : lastCost (w .amounts) ≡ la
   unfolding lastNonZero memoCost
   memo-next = rw (carried, memo-charging) (go (eqb (totalEnergy (w .parameters)) 0) refl)
     where
-      go : (b : Bool) → eqb (totalEnergy (w .parameters)) 0 ≡ b → cond (eqb (calculated w) 0) (lastNonZero before) (calculated w) ≡ cond (eqb (cond b (lastNonZero before) (calculated w)) 0) (lastNonZero before) (cond b (lastNonZero before) (calculated w))
-      go true e = rw (nothing-calculated e) (cond-holds (λ x. lastNonZero before ≡ x) (eqb (lastNonZero before) 0) (lastNonZero before) (lastNonZero before) refl refl)
+      go : (b : Bool) → eqb (totalEnergy (w .parameters)) 0 ≡ b
+          → cond (eqb (calculated w) 0) (lastNonZero before) (calculated w) ≡ cond (eqb (cond b (lastNonZero before) (calculated w)) 0) (lastNonZero before)
+          (cond b (lastNonZero before) (calculated w))
+      go true e =
+          rw (nothing-calculated e) (cond-holds (λ x. lastNonZero before ≡ x) (eqb (lastNonZero before) 0) (lastNonZero before)
+          (lastNonZero before) refl refl)
       go false e = refl
 
 -- week after week, from the first on

@@ -22,6 +22,7 @@ unfolding chargingSum totalEnergy
 charging-signed s m paid received h = omega (arith, split-sum (chargePrice m) paid received (chargeEnergy s) h 2016)
 
 -- the forecast's price is the signed one, stopped at 0
-pub forecast-signed : (s : Parameters) (m : Amounts) (paid received : ℕ) → fromTop (forecastPlace s) (listTo (window s) (placePrice m)) + received ≡ bias + paid → forecastPrice s m ≡ paid - received
+pub forecast-signed : (s : Parameters) (m : Amounts) (paid received : ℕ)
+    → fromTop (forecastPlace s) (listTo (window s) (placePrice m)) + received ≡ bias + paid → forecastPrice s m ≡ paid - received
 unfolding forecastPrice
 forecast-signed s m paid received h = omega (arith, h)

@@ -230,7 +230,8 @@ least-count v (x ∷ l) = go (decLe x v) (decLe v x) (least-count v l)
     other : (x ≡ v → ⊥) → _≡_ {A = ℕ} (cond (eqb x v) 1 0) 0
     other e = rw (ne-eqb x v e) refl
 
-    go : Dec (x ≤ v) → Dec (v ≤ x) → atLeast v l ≡ above v l + count v l → cond (leb v x) 1 0 + atLeast v l ≡ cond (ltb v x) 1 0 + above v l + (cond (eqb x v) 1 0 + count v l)
+    go : Dec (x ≤ v) → Dec (v ≤ x) → atLeast v l ≡ above v l + count v l
+        → cond (leb v x) 1 0 + atLeast v l ≡ cond (ltb v x) 1 0 + above v l + (cond (eqb x v) 1 0 + count v l)
     go (yes h) (yes g) e = omega (arith, least-head v x g, above-not v x h, equal (omega arith), e)
     go (yes h) (no g) e = omega (arith, least-not v x (omega arith), above-not v x h, other (λ q. omega arith), e)
     go (no h) g e = omega (arith, least-head v x (omega arith), above-head v x (omega arith), other (λ q. omega arith), e)
@@ -272,7 +273,11 @@ pub fromTop-enough : (n : ℕ) (l : List ℕ) → 1 ≤ n → n ≤ length l →
 unfolding fromTop
 fromTop-enough zero l h g = absurd (omega arith)
 fromTop-enough (suc n) l h g =
-    omega (arith, falling-sum (λ x. cond (leb (getD (falling l) n 0) x) 1 0) l, enough-least (top l) n (falling l) (sorted l) (omega (arith, falling-length l)))
+    omega (
+      arith,
+      falling-sum (λ x. cond (leb (getD (falling l) n 0) x) 1 0) l,
+      enough-least (top l) n (falling l) (sorted l) (omega (arith, falling-length l)),
+    )
 
 pub fromTop-member : (n : ℕ) (l : List ℕ) → 1 ≤ n → n ≤ length l → Member (fromTop n l) l
 fromTop-member n l h g = count-member _ l (omega (arith, least-count (fromTop n l) l, fromTop-few n l h, fromTop-enough n l h g))

@@ -52,7 +52,8 @@ held-none d = refl
 held-there : (d c : List ℕ) (q : ℕ) → 6 ≤ length c → q + length c ≤ length d → take (length c) (drop q d) ≡ c → heldIssue d (q + 1) ≡ issue c + 1
 unfolding heldIssue issue
 held-there d c q z w g =
-    let e : number (q + 1 + 1) 4 d ≡ number 2 4 c = ap (λ (o : ℕ). number o 4 d) (omega arith) ∙ sym (number-drop q 2 4 d) ∙ sym (number-take (length c) 2 4 (drop q d) z) ∙ ap (number 2 4) g in
+    let e : number (q + 1 + 1) 4 d ≡ number 2 4 c = ap (λ (o : ℕ). number o 4 d) (omega arith) ∙ sym (number-drop q 2 4 d)
+    ∙ sym (number-take (length c) 2 4 (drop q d) z) ∙ ap (number 2 4) g in
     rw (ne-eqb (q + 1) 0 (λ x. omega (arith, x)), le-ltb (length d) (q + 1 + 5) (omega (arith, z, w)), e) refl
 
 leb-next : (a b : ℕ) → leb (a + 1) (b + 1) ≡ leb a b
@@ -62,7 +63,8 @@ leb-next a b =
     (λ e. lt-leb (a + 1) (b + 1) (omega (arith, leb-false a b e)) ∙ sym e)
 
 -- the later record counts if its issue is not lower
-takes : (len : ℕ) → 6 ≤ len → (d : List ℕ) (p v : ℕ) (c r : List ℕ) (q : ℕ) → p ≤ length d → Holds len d p v c q → leb (heldIssue d v) (issue r + 1) ≡ leb (issue c) (issue r)
+takes : (len : ℕ) → 6 ≤ len → (d : List ℕ) (p v : ℕ) (c r : List ℕ) (q : ℕ) → p ≤ length d → Holds len d p v c q
+    → leb (heldIssue d v) (issue r + 1) ≡ leb (issue c) (issue r)
 takes len z6 d p v c r q h (absent e z _) = rw (e, held-none d, z, issue-nil) (le-leb 0 (issue r + 1) (omega arith) ∙ sym (le-leb 0 (issue r) (omega arith)))
 takes len z6 d p v c r q h (there e w f g) = rw (e, held-there d c q (omega (arith, z6, f)) (omega (arith, w, h)) g) (leb-next (issue c) (issue r))
 
@@ -83,7 +85,8 @@ module _ (d : List ℕ) (k n : ℕ) (i : InKey k n) (w : ℕ) (fit : slot k n < 
 
   step-holds : (front r rest : List ℕ) (x : Kept) (c : List ℕ) (q : ℕ) → front ++ (r ++ rest) ≡ d → length (x .slots) ≡ w → Good r
       → Held (length front) (getD (x .slots) (slot k n) 0) c q
-      → Held (length front + length r) (getD (keepStep d x (length front) r .slots) (slot k n) 0) (better k n c r) (cond (matches k n r && leb (issue c) (issue r)) (length front) q)
+      → Held (length front + length r) (getD (keepStep d x (length front) r .slots) (slot k n) 0) (better k n c r)
+      (cond (matches k n r && leb (issue c) (issue r)) (length front) q)
   unfolding keepStep better
   step-holds front r rest x c q whole len good old = go (matches k n r) refl
     where
@@ -111,9 +114,15 @@ module _ (d : List ℕ) (k n : ℕ) (i : InKey k n) (w : ℕ) (fit : slot k n < 
       within = omega (arith, ends front r rest, ap length whole)
 
       go : (m : Bool) → matches k n r ≡ m
-          → Held (p + length r) (getD (set ix (slot (mark r) (keyOf r)) (next (slot (mark r) (keyOf r)))) (slot k n) 0) (cond (m && leb (issue c) (issue r)) r c) (cond (m && leb (issue c) (issue r)) p q)
+          → Held (p + length r) (getD (set ix (slot (mark r) (keyOf r)) (next (slot (mark r) (keyOf r)))) (slot k n) 0)
+          (cond (m && leb (issue c) (issue r)) r c) (cond (m && leb (issue c) (issue r)) p q)
       go true e =
-          rw (matches-mark k n r e, matches-key k n r e, getD-set-same ix (slot k n) (next (slot k n)) 0 (omega (arith, len, fit)), takes (size k) (size-ge k) d p (getD ix (slot k n) 0) c r q within old)
+          rw (
+            matches-mark k n r e,
+            matches-key k n r e,
+            getD-set-same ix (slot k n) (next (slot k n)) 0 (omega (arith, len, fit)),
+            takes (size k) (size-ge k) d p (getD ix (slot k n) 0) c r q within old,
+          )
           (pick (matches-mark k n r e) (leb (issue c) (issue r)))
       go false e =
           rw (getD-set-other ix (slot (mark r) (keyOf r)) (slot k n) (next (slot (mark r) (keyOf r))) 0 apart)
@@ -126,7 +135,8 @@ module _ (d : List ℕ) (k n : ℕ) (i : InKey k n) (w : ℕ) (fit : slot k n < 
 
   slots-from : (front : List ℕ) (l : List (List ℕ)) (x : Kept) (c : List ℕ) (q : ℕ) → front ++ joined l ≡ d → Each Good l → length (x .slots) ≡ w
       → Held (length front) (getD (x .slots) (slot k n) 0) c q
-      → Held (length front + length (joined l)) (getD (folded (keepStep d) (length front) x l .slots) (slot k n) 0) (currentFrom k n c l) (startFrom k n c q (length front) l)
+      → Held (length front + length (joined l)) (getD (folded (keepStep d) (length front) x l .slots) (slot k n) 0) (currentFrom k n c l)
+      (startFrom k n c q (length front) l)
   unfolding folded currentFrom startFrom joined
   slots-from front [] x c q whole g len old = subst (λ (p : ℕ). Held p (getD (x .slots) (slot k n) 0) c q) (sym (omega arith)) old
   slots-from front (r ∷ l) x c q whole (also g e) len old =
@@ -136,7 +146,8 @@ module _ (d : List ℕ) (k n : ℕ) (i : InKey k n) (w : ℕ) (fit : slot k n < 
       let y = keepStep d x (length front) r in
       let z = slots-from (front ++ r) l y (better k n c r) at (append-assoc front r (joined l) ∙ whole) e (kept-length d x (length front) r ∙ len)
       (rw b (step-holds front r (joined l) x c q whole len g old)) in
-      subst (λ (p : ℕ). Held p (getD (folded (keepStep d) (length front + length r) y l .slots) (slot k n) 0) (currentFrom k n (better k n c r) l) (startFrom k n (better k n c r) at (length front + length r) l)) (omega (arith, a))
+      subst (λ (p : ℕ). Held p (getD (folded (keepStep d) (length front + length r) y l .slots) (slot k n) 0) (currentFrom k n (better k n c r) l)
+      (startFrom k n (better k n c r) at (length front + length r) l)) (omega (arith, a))
       (rw b at z)
 
 pub good-records : (d : List ℕ) → scan 0 (records d) ≡ Accepted → Each Good (records d)
@@ -151,13 +162,16 @@ pub index-holds : (d : List ℕ) (w : ℕ) → scan 0 (records d) ≡ Accepted �
     → Holds (size k) d (length d) (getD (folded (keepStep d) 0 (fresh w) (records d) .slots) (slot k n) 0) (current k n (records d)) (startOf k n (records d))
 unfolding current startOf
 index-holds d w s k n i fit =
-    let a = slots-from d k n i w fit [] (records d) (fresh w) [] 0 (joined-records d) (good-records d s) (length-replicate {A = ℕ} w 0) (absent (getD-replicate w (slot k n) 0 0 fit) refl refl) in
-    subst (λ (p : ℕ). Holds (size k) d p (getD (folded (keepStep d) 0 (fresh w) (records d) .slots) (slot k n) 0) (currentFrom k n [] (records d)) (startFrom k n [] 0 0 (records d))) (zero-add (length (joined (records d))) ∙ ap length (joined-records d)) a
+    let a = slots-from d k n i w fit [] (records d) (fresh w) [] 0 (joined-records d) (good-records d s) (length-replicate {A = ℕ} w 0)
+    (absent (getD-replicate w (slot k n) 0 0 fit) refl refl) in
+    subst (λ (p : ℕ). Holds (size k) d p (getD (folded (keepStep d) 0 (fresh w) (records d) .slots) (slot k n) 0) (currentFrom k n [] (records d))
+    (startFrom k n [] 0 0 (records d))) (zero-add (length (joined (records d))) ∙ ap length (joined-records d)) a
 
 -- ---- where every issue rose
 
 -- the issues that are held only grow
-grows : (d ix : List ℕ) (j i p : ℕ) {a : ℕ} → j < length ix → heldIssue d (p + 1) ≡ a → heldIssue d (getD ix i 0) ≤ heldIssue d (getD (set ix j (newer (heldIssue d (getD ix j 0)) a (getD ix j 0) (p + 1))) i 0)
+grows : (d ix : List ℕ) (j i p : ℕ) {a : ℕ} → j < length ix → heldIssue d (p + 1) ≡ a
+    → heldIssue d (getD ix i 0) ≤ heldIssue d (getD (set ix j (newer (heldIssue d (getD ix j 0)) a (getD ix j 0) (p + 1))) i 0)
 grows d ix j i p {a} h e = go (ℕ-discrete i j)
   where
     next : ℕ
@@ -184,9 +198,16 @@ module _ (d : List ℕ) where
   no-twin r ix h (also {a = s} {l = seen} u e) =
       go (eqb (mark r) (mark s)) refl (eqb (keyOf r) (keyOf s)) refl (eqb (issue r) (issue s)) refl (no-twin r ix h e)
     where
-      go : (a : Bool) → eqb (mark r) (mark s) ≡ a → (b : Bool) → eqb (keyOf r) (keyOf s) ≡ b → (c : Bool) → eqb (issue r) (issue s) ≡ c → anyTwin r seen ≡ false → a && b && c || anyTwin r seen ≡ false
+      go : (a : Bool) → eqb (mark r) (mark s) ≡ a → (b : Bool) → eqb (keyOf r) (keyOf s) ≡ b → (c : Bool) → eqb (issue r) (issue s) ≡ c
+          → anyTwin r seen ≡ false → a && b && c || anyTwin r seen ≡ false
       go true x true y true z w =
-          absurd (omega (arith, h, u, ap₂ (λ (m n : ℕ). heldIssue d (getD ix (slot m n) 0)) (eqb-true (mark r) (mark s) x) (eqb-true (keyOf r) (keyOf s) y), eqb-true (issue r) (issue s) z))
+          absurd (omega (
+            arith,
+            h,
+            u,
+            ap₂ (λ (m n : ℕ). heldIssue d (getD ix (slot m n) 0)) (eqb-true (mark r) (mark s) x) (eqb-true (keyOf r) (keyOf s) y),
+            eqb-true (issue r) (issue s) z,
+          ))
       go true x true y false z w = w
       go true x false y c z w = w
       go false x b y c z w = w
@@ -201,7 +222,8 @@ module _ (d : List ℕ) where
   unfolding keepStep
   step-top p x r = go (ltb (x .top) (slot (mark r) (keyOf r))) refl
     where
-      go : (t : Bool) → ltb (x .top) (slot (mark r) (keyOf r)) ≡ t → (x .top ≤ cond t (slot (mark r) (keyOf r)) (x .top)) × (slot (mark r) (keyOf r) ≤ cond t (slot (mark r) (keyOf r)) (x .top))
+      go : (t : Bool) → ltb (x .top) (slot (mark r) (keyOf r)) ≡ t → (x .top ≤ cond t (slot (mark r) (keyOf r)) (x .top))
+          × (slot (mark r) (keyOf r) ≤ cond t (slot (mark r) (keyOf r)) (x .top))
       go true e = let h = ltb-true (x .top) (slot (mark r) (keyOf r)) e in (omega (arith, h), le-refl (slot (mark r) (keyOf r)))
       go false e = (le-refl (x .top), ltb-false (x .top) (slot (mark r) (keyOf r)) e)
 
@@ -220,7 +242,9 @@ module _ (d : List ℕ) where
   top-slots p x [] = done
   top-slots p x (r ∷ l) = also {a = r} (first-top p x r l) (top-slots (p + length r) (keepStep d x p r) l)
 
-  rising-from : (front : List ℕ) (x : Kept) (seen : List (List ℕ)) {l : List (List ℕ)} → front ++ joined l ≡ d → Each Good l → Each (Under (x .slots)) seen → folded (keepStep d) (length front) x l .top < length (x .slots) → folded (keepStep d) (length front) x l .rising ≡ true → twins (length front) seen l ≡ Accepted
+  rising-from : (front : List ℕ) (x : Kept) (seen : List (List ℕ)) {l : List (List ℕ)} → front ++ joined l ≡ d → Each Good l → Each (Under (x .slots)) seen
+      → folded (keepStep d) (length front) x l .top < length (x .slots) → folded (keepStep d) (length front) x l .rising ≡ true
+      → twins (length front) seen l ≡ Accepted
   unfolding folded twins joined
   rising-from front x seen whole done u w e = refl
   rising-from front x seen whole (also {a = r} {l = l} g m) u w e =
@@ -252,12 +276,17 @@ module _ (d : List ℕ) where
       mine : Under (keepStep d x p r .slots) r
       mine =
           unfold keepStep in
-          (rw (getD-set-same (x .slots) j (newer (held-at (x .slots) r) (issue r + 1) (getD (x .slots) j 0) (p + 1)) 0 j-lt, le-leb (held-at (x .slots) r) (issue r + 1) (omega (arith, below)), here) (le-refl (issue r + 1)))
+          (rw (
+            getD-set-same (x .slots) j (newer (held-at (x .slots) r) (issue r + 1) (getD (x .slots) j 0) (p + 1)) 0 j-lt,
+            le-leb (held-at (x .slots) r) (issue r + 1) (omega (arith, below)),
+            here,
+          ) (le-refl (issue r + 1)))
 
       more : (s : List ℕ) → Under (x .slots) s → Under (keepStep d x p r .slots) s
       more s h = unfold keepStep in (omega (arith, h, grows d (x .slots) j (slot (mark s) (keyOf s)) p j-lt here))
 
-pub rising-twins : (d ix : List ℕ) → scan 0 (records d) ≡ Accepted → folded (keepStep d) 0 (kept ix true 0) (records d) .top < length ix → folded (keepStep d) 0 (kept ix true 0) (records d) .rising ≡ true → twins 0 [] (records d) ≡ Accepted
+pub rising-twins : (d ix : List ℕ) → scan 0 (records d) ≡ Accepted → folded (keepStep d) 0 (kept ix true 0) (records d) .top < length ix
+    → folded (keepStep d) 0 (kept ix true 0) (records d) .rising ≡ true → twins 0 [] (records d) ≡ Accepted
 rising-twins d ix s w e = rising-from d [] (kept ix true 0) [] (joined-records d) (good-records d s) done w e
 
 pub folded-length : (d : List ℕ) (p : ℕ) (x : Kept) (l : List (List ℕ)) → length (folded (keepStep d) p x l .slots) ≡ length (x .slots)

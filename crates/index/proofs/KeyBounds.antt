@@ -51,23 +51,38 @@ to-span m i x e = span-of e
 pub test-key : (k n : ℕ) → k < kinds → keyTest k n ≡ true → InKey k n
 unfolding keyTest keyFits
 test-key k n h e =
-    record { known = ltb-true 0 k (and-left (ltb 0 k) (keyFits (shapeOf k) n) e); low = h; spans = go (shapeOf k) (none (shapeOf k) 1) (none (shapeOf k) 2) (and-right (ltb 0 k) (keyFits (shapeOf k) n) e) }
+    record {
+      known =
+          ltb-true 0 k (and-left (ltb 0 k) (keyFits (shapeOf k) n) e);
+      low = h;
+      spans = go (shapeOf k) (none (shapeOf k) 1) (none (shapeOf k) 2) (and-right (ltb 0 k) (keyFits (shapeOf k) n) e);
+    }
   where
-    go : (m : MarkShape) (a b : Bool) → cond a (keyField m 0 n) (cond b (keyField m 0 (n / 256) && keyField m 1 (n % 256)) (keyField m 0 (n / 65536) && keyField m 1 (n / 256 % 256) && keyField m 2 (n % 256))) ≡ true → Spans a b m n
+    go : (m : MarkShape) (a b : Bool) → cond a (keyField m 0 n)
+        (cond b (keyField m 0 (n / 256) && keyField m 1 (n % 256))
+        (keyField m 0 (n / 65536) && keyField m 1 (n / 256 % 256) && keyField m 2 (n % 256))) ≡ true → Spans a b m n
     go m true b e = unfold Spans in to-span m 0 n e
     go m false true e =
-        unfold Spans in
-        (to-span m 0 (n / 256) (and-left (keyField m 0 (n / 256)) (keyField m 1 (n % 256)) e), to-span m 1 (n % 256) (and-right (keyField m 0 (n / 256)) (keyField m 1 (n % 256)) e))
+        unfold Spans in (
+          to-span m 0 (n / 256) (and-left (keyField m 0 (n / 256)) (keyField m 1 (n % 256)) e),
+          to-span m 1 (n % 256) (and-right (keyField m 0 (n / 256)) (keyField m 1 (n % 256)) e),
+        )
     go m false false e =
         let f = and-left (keyField m 0 (n / 65536) && keyField m 1 (n / 256 % 256)) (keyField m 2 (n % 256)) e in
-        unfold Spans in
-        (to-span m 0 (n / 65536) (and-left (keyField m 0 (n / 65536)) (keyField m 1 (n / 256 % 256)) f), to-span m 1 (n / 256 % 256) (and-right (keyField m 0 (n / 65536)) (keyField m 1 (n / 256 % 256)) f), to-span m 2 (n % 256) (and-right (keyField m 0 (n / 65536) && keyField m 1 (n / 256 % 256)) (keyField m 2 (n % 256)) e))
+        unfold Spans in (
+          to-span m 0 (n / 65536) (and-left (keyField m 0 (n / 65536)) (keyField m 1 (n / 256 % 256)) f),
+          to-span m 1 (n / 256 % 256) (and-right (keyField m 0 (n / 65536)) (keyField m 1 (n / 256 % 256)) f),
+          to-span m 2 (n % 256) (and-right (keyField m 0 (n / 65536) && keyField m 1 (n / 256 % 256)) (keyField m 2 (n % 256)) e),
+        )
 
 pub key-test : (k n : ℕ) → InKey k n → keyTest k n ≡ true
 unfolding keyTest keyFits
-key-test k n p = and-both (ltb 0 k) (keyFits (shapeOf k) n) (lt-ltb 0 k (omega (arith, p .known))) (go (shapeOf k) (none (shapeOf k) 1) (none (shapeOf k) 2) (p .spans))
+key-test k n p =
+    and-both (ltb 0 k) (keyFits (shapeOf k) n) (lt-ltb 0 k (omega (arith, p .known))) (go (shapeOf k) (none (shapeOf k) 1) (none (shapeOf k) 2) (p .spans))
   where
-    go : (m : MarkShape) (a b : Bool) → Spans a b m n → cond a (keyField m 0 n) (cond b (keyField m 0 (n / 256) && keyField m 1 (n % 256)) (keyField m 0 (n / 65536) && keyField m 1 (n / 256 % 256) && keyField m 2 (n % 256))) ≡ true
+    go : (m : MarkShape) (a b : Bool) → Spans a b m n → cond a (keyField m 0 n)
+        (cond b (keyField m 0 (n / 256) && keyField m 1 (n % 256))
+        (keyField m 0 (n / 65536) && keyField m 1 (n / 256 % 256) && keyField m 2 (n % 256))) ≡ true
     go m true b q = unfold Spans in of-span m 0 n q
     go m false true q = unfold Spans in rw (of-span m 0 (n / 256) (q .0), of-span m 1 (n % 256) (q .1)) refl
     go m false false q = unfold Spans in rw (of-span m 0 (n / 65536) (q .0), of-span m 1 (n / 256 % 256) (q .1), of-span m 2 (n % 256) (q .2)) refl
@@ -139,7 +154,9 @@ in-key r e =
     record {
       known = omega (arith, f .known);
       low = mark-lt r;
-      spans = by-mark (Keyed r) (keyed-rs r) (keyed-hp r) (keyed-fu r) (keyed-ad r) (keyed-mm r) (keyed-rq r) (keyed-hr r) (keyed-ch r) (keyed-th r) (keyed-fp r) (keyed-lc r) (mark r) (f .known) (mark-lt r) (f .ranges);
+      spans =
+          by-mark (Keyed r) (keyed-rs r) (keyed-hp r) (keyed-fu r) (keyed-ad r) (keyed-mm r) (keyed-rq r) (keyed-hr r) (keyed-ch r) (keyed-th r) (keyed-fp r)
+          (keyed-lc r) (mark r) (f .known) (mark-lt r) (f .ranges);
     }
 
 -- what holds of every mark holds of a key's

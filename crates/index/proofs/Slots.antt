@@ -51,7 +51,8 @@ under : (a b : Bool) (m : MarkShape) (n : ℕ) → Spans a b m n → Under (base
 unfolding Spans digits bases
 under true b m n p = more (below-base m 0 n p) no-more
 under false true m n p = more (below-base m 0 (n / 256) (p .0)) (more (below-base m 1 (n % 256) (p .1)) no-more)
-under false false m n p = more (below-base m 0 (n / 65536) (p .0)) (more (below-base m 1 (n / 256 % 256) (p .1)) (more (below-base m 2 (n % 256) (p .2)) no-more))
+under false false m n p =
+    more (below-base m 0 (n / 65536) (p .0)) (more (below-base m 1 (n / 256 % 256) (p .1)) (more (below-base m 2 (n % 256) (p .2)) no-more))
 
 same-field : (m : MarkShape) (i x y : ℕ) → Span m i x → Span m i y → digit m i x ≡ digit m i y → x ≡ y
 same-field m i x y p q e = omega (arith, p, q, e)

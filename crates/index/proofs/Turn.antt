@@ -55,12 +55,15 @@ module _ (s : List ℕ) (k n : ℕ) (e : found s ≡ Record k n) where
   pub its-slot : slot (mark (take n s)) (keyOf (take n s)) ≡ slotAt k s
   unfolding keyOf slotAt
   its-slot =
-      ap₂ slot its-mark (ap (λ (x : ℕ). number 6 (keyWidth x) (take n s)) its-mark ∙ number-take n 6 (keyWidth k) s (omega (arith, key-ends k, ap size (found-record s k n e .0), found-record s k n e .1)))
+      ap₂ slot its-mark (ap (λ (x : ℕ). number 6 (keyWidth x) (take n s)) its-mark
+      ∙ number-take n 6 (keyWidth k) s (omega (arith, key-ends k, ap size (found-record s k n e .0), found-record s k n e .1)))
 
   slot-below : slotAt k s < wide
   slot-below = rw (← its-slot) (slot-lt (mark (take n s)) (keyOf (take n s)) (in-key (take n s) its-fault))
 
-  step-is : (d ix : List ℕ) (b : Bool) (c p : ℕ) → keepStep d (kept ix b c) p (take n s) ≡ kept (set ix (slotAt k s) (newer (heldIssue d (getD ix (slotAt k s) 0)) (number 2 4 s + 1) (getD ix (slotAt k s) 0) (p + 1))) (b && ltb (heldIssue d (getD ix (slotAt k s) 0)) (number 2 4 s + 1)) (higher c (slotAt k s))
+  step-is : (d ix : List ℕ) (b : Bool) (c p : ℕ) → keepStep d (kept ix b c) p (take n s) ≡ kept
+      (set ix (slotAt k s) (newer (heldIssue d (getD ix (slotAt k s) 0)) (number 2 4 s + 1) (getD ix (slotAt k s) 0) (p + 1)))
+      (b && ltb (heldIssue d (getD ix (slotAt k s) 0)) (number 2 4 s + 1)) (higher c (slotAt k s))
   unfolding keepStep
   step-is d ix b c p = rw (its-slot, its-issue) refl
 
@@ -70,15 +73,22 @@ set-beyond [] i x h = refl
 set-beyond (y ∷ l) zero x h = absurd (omega arith)
 set-beyond (y ∷ l) (suc i) x h = ap (λ (m : List ℕ). y ∷ m) (set-beyond l i x (omega arith))
 
-module _ (d ix₀ ix : List ℕ) (at k n : ℕ) (b : Bool) (c : ℕ) (h : at < length d) (r : Rest (keepStep d) (kept ix₀ true 0) d at (kept ix b c)) (e : found (drop at d) ≡ Record k n) {j : ℕ} (ej : j ≡ slotAt k (take (length d - at) (drop at d))) where
-  after : Rest (keepStep d) (kept ix₀ true 0) d (at + n) (kept (set ix (slotAt k (drop at d)) (newer (heldIssue d (getD ix (slotAt k (drop at d)) 0)) (number 2 4 (drop at d) + 1) (getD ix (slotAt k (drop at d)) 0) (at + 1))) (b && ltb (heldIssue d (getD ix (slotAt k (drop at d)) 0)) (number 2 4 (drop at d) + 1)) (higher c (slotAt k (drop at d))))
-  after = subst (Rest (keepStep d) (kept ix₀ true 0) d (at + n)) (step-is (drop at d) k n e d ix b c at) (next (keepStep d) (kept ix₀ true 0) d at (kept ix b c) k n h r e)
+module _ (d ix₀ ix : List ℕ) (at k n : ℕ) (b : Bool) (c : ℕ) (h : at < length d) (r : Rest (keepStep d) (kept ix₀ true 0) d at (kept ix b c))
+    (e : found (drop at d) ≡ Record k n) {j : ℕ} (ej : j ≡ slotAt k (take (length d - at) (drop at d))) where
+  after : Rest (keepStep d) (kept ix₀ true 0) d (at + n)
+      (kept (set ix (slotAt k (drop at d)) (newer (heldIssue d (getD ix (slotAt k (drop at d)) 0)) (number 2 4 (drop at d) + 1)
+      (getD ix (slotAt k (drop at d)) 0) (at + 1))) (b && ltb (heldIssue d (getD ix (slotAt k (drop at d)) 0)) (number 2 4 (drop at d) + 1))
+      (higher c (slotAt k (drop at d))))
+  after =
+      subst (Rest (keepStep d) (kept ix₀ true 0) d (at + n)) (step-is (drop at d) k n e d ix b c at)
+      (next (keepStep d) (kept ix₀ true 0) d at (kept ix b c) k n h r e)
 
   ej′ : j ≡ slotAt k (drop at d)
   ej′ = ej ∙ ap (slotAt k) (tail d at)
 
   -- a record with a slot in the index
-  pub turn : {w a g m : ℕ} → w ≡ number 2 4 (take (length d - at) (drop at d)) → a ≡ heldIssue d (getD ix j 0) → g ≡ newer a (w + 1) (getD ix j 0) (at + 1) → m ≡ higher c j
+  pub turn : {w a g m : ℕ} → w ≡ number 2 4 (take (length d - at) (drop at d)) → a ≡ heldIssue d (getD ix j 0) → g ≡ newer a (w + 1) (getD ix j 0) (at + 1)
+      → m ≡ higher c j
       → Rest (keepStep d) (kept ix₀ true 0) d (at + n) (kept (set ix j g) (b && ltb a (w + 1)) m)
   turn ew ea eg em =
       let ew′ = ew ∙ ap (number 2 4) (tail d at) in
@@ -91,7 +101,8 @@ module _ (d ix₀ ix : List ℕ) (at k n : ℕ) (b : Bool) (c : ℕ) (h : at < l
       let q : ℕ = slotAt k (drop at d) in
       let m : length ix ≤ q = rw ej′ at z in
       let v : getD ix q 0 ≡ 0 = List·getD-eq-default ix 0 {n = q} m in
-      let x : b && ltb (heldIssue d (getD ix q 0)) (number 2 4 (drop at d) + 1) ≡ b = rw (v, lt-ltb 0 (number 2 4 (drop at d) + 1) (omega arith)) (and-true b) in
+      let x : b && ltb (heldIssue d (getD ix q 0)) (number 2 4 (drop at d) + 1) ≡ b = rw (v, lt-ltb 0 (number 2 4 (drop at d) + 1) (omega arith))
+      (and-true b) in
       rw (em, ej′) (rw (set-beyond ix q (newer (heldIssue d (getD ix q 0)) (number 2 4 (drop at d) + 1) (getD ix q 0) (at + 1)) m, x) at after)
 
 pub below : (d : List ℕ) (at k n : ℕ) {j : ℕ} → found (drop at d) ≡ Record k n → j ≡ slotAt k (take (length d - at) (drop at d)) → j < wide

@@ -65,7 +65,8 @@ unfolding levelLine
 level-within x =
     either 98 (eqb (x .level) energy) (energyLine (x .lamination) (x .from) (x .to) (x .cents)) _ (energy-within (x .lamination) (x .from) (x .to) (x .cents))
     (either 98 (eqb (x .level) start) (amountLine startWord (x .cents)) _ (amount-within startWord (x .cents) (omega arith))
-    (either 98 (eqb (x .level) noLoad) (amountLine noLoadWord (x .cents)) (amountLine reserveWord (x .cents)) (amount-within noLoadWord (x .cents) (omega arith))
+    (either 98 (eqb (x .level) noLoad) (amountLine noLoadWord (x .cents)) (amountLine reserveWord (x .cents))
+    (amount-within noLoadWord (x .cents) (omega arith))
     (amount-within reserveWord (x .cents) (omega arith))))
 
 pub lines-within : (l : List Shown) → length (levelLines l) ≤ 98 * length l

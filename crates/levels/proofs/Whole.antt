@@ -18,8 +18,11 @@ module _ (s e : List ℕ) (room : 2283 ≤ length e) where
       → (n ≤ 2283) × ((i : List ℕ) → take 60005 i ≡ s → (n ≡ length (prints i)) × (b ≡ over (prints i) e))
   whole-text {n} {b} p q =
       let l : n ≡ length (prints s) = cc (rw (le-ltb (length e) 2283 room) at p) in
-      let t : b ≡ over (prints s) e = rw (le-ltb (length e) 2283 room) at q in
-      (omega (arith, l, prints-fits s), λ i r. let c : prints s ≡ prints i = ap prints (sym r) ∙ prints-cut i in (l ∙ ap length c, t ∙ ap (λ (x : List ℕ). over x e) c))
+      let t : b ≡ over (prints s) e = rw (le-ltb (length e) 2283 room) at q in (
+        omega (arith, l, prints-fits s),
+        λ i r. let c : prints s ≡ prints i = ap prints (sym r)
+            ∙ prints-cut i in (l ∙ ap length c, t ∙ ap (λ (x : List ℕ). over x e) c),
+      )
 
   pub never-refused : {k p : ℕ} → Refused k p ≡ printAnswer s e → ⊥
   never-refused {k} {p} h = let z : _≡_ {A = ℕ} 0 1 = cc (rw (le-ltb (length e) 2283 room) at h) in absurd (omega arith)

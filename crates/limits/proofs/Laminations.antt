@@ -33,14 +33,16 @@ module _ (v : ℕ) (meets : ℕ → ℕ → Bool) (test : ℕ → Bool) (k : ℕ
   failing-shown (x ∷ l) rest =
       ap (cond (eqb (x .level) v && meets (x .from) (x .to) && test (amount x)) (Fails k (x .lamination))) (failing-shown l rest)
 
-  failing-append : (a b : List Shown) (rest : Verdict) → failingShown v meets test k (a ++ b) rest ≡ failingShown v meets test k a (failingShown v meets test k b rest)
+  failing-append : (a b : List Shown) (rest : Verdict) → failingShown v meets test k (a ++ b) rest ≡ failingShown v meets test k a
+      (failingShown v meets test k b rest)
   unfolding failingShown
   failing-append [] b rest = refl
   failing-append (x ∷ a) b rest =
       ap (cond (eqb (x .level) v && meets (x .from) (x .to) && test (x .cents)) (Fails k (x .lamination))) (failing-append a b rest)
 
   -- a level without laminations
-  failing-single : (t u x : ℕ) (rest : Verdict) → failingShown v meets test k (singleOf t u x) rest ≡ cond (holds t u && (eqb u v && meets 0 0 && test x)) (Fails k 0) rest
+  failing-single : (t u x : ℕ) (rest : Verdict) → failingShown v meets test k (singleOf t u x) rest ≡ cond (holds t u && (eqb u v && meets 0 0 && test x))
+      (Fails k 0) rest
   unfolding failingShown singleOf
   failing-single t u x rest = go (holds t u)
     where
@@ -167,7 +169,8 @@ module _ (t : Threshold) (p : Pair) (from to cents : List ℕ) (n i : ℕ) (h : 
   unfolding firstFailing
   lamination-stop e = rw (one-less n i h, e) (add-one i)
 
-  pub lamination-next : failsIn t p (getD from i 0) (getD to i 0) (getD cents i 0) ≡ false → firstFailing t p from to cents (i + 1) (n - (i + 1)) ≡ firstFailing t p from to cents i (n - i)
+  pub lamination-next : failsIn t p (getD from i 0) (getD to i 0) (getD cents i 0) ≡ false
+      → firstFailing t p from to cents (i + 1) (n - (i + 1)) ≡ firstFailing t p from to cents i (n - i)
   unfolding firstFailing
   lamination-next e = rw (one-less n i h, e, add-one i) refl
 
@@ -176,7 +179,8 @@ unfolding firstFailing
 lamination-end t p from to cents n i h = let z : n - i ≡ 0 = omega arith in rw z refl
 
 -- one turn over the pairs, at pair k of n: what was read of it, and the lamination i that it fails in
-module _ (t : Threshold) (r : Arrays) (o : List ℕ) (n k : ℕ) (p : Pair) (i : ℕ) (h : k < n) (l : p .low ≡ before o k) (q : p .high ≡ quantity o k) (e : p .price ≡ priceAt o k) (f : i ≡ firstFailing t p (r .from) (r .to) (r .cents) 0 (r .count)) where
+module _ (t : Threshold) (r : Arrays) (o : List ℕ) (n k : ℕ) (p : Pair) (i : ℕ) (h : k < n) (l : p .low ≡ before o k) (q : p .high ≡ quantity o k)
+    (e : p .price ≡ priceAt o k) (f : i ≡ firstFailing t p (r .from) (r .to) (r .cents) 0 (r .count)) where
   turn : named (k + 1) i (offerShown t (laminationsFrom r 0 (r .count)) o (k + 1) (n - (k + 1))) ≡ offerShown t (laminationsFrom r 0 (r .count)) o k (n - k)
   unfolding offerShown
   turn =
@@ -207,18 +211,21 @@ module _ (t : Threshold) {p q : ℕ} (x : ℕ) (h : q ≤ p) where
       most = limit x (t .percent) (t .margin) + 2147483648
 
       go : (a b : Bool) → leb floor q ≡ a → ltb most q ≡ b → a && b ≡ false
-      go true true f g = absurd (false≢true (sym e ∙ rw (le-leb floor p (omega (arith, leb-true floor q f)), lt-ltb most p (omega (arith, ltb-true most q g))) refl))
+      go true true f g =
+          absurd (false≢true (sym e ∙ rw (le-leb floor p (omega (arith, leb-true floor q f)), lt-ltb most p (omega (arith, ltb-true most q g))) refl))
       go true false f g = refl
       go false b f g = refl
 
 -- where the highest price passes at the least level, all pairs pass
-module _ (t : Threshold) (r : Arrays) (o : List ℕ) (n : ℕ) (h : LastHighest o n) (e : failsAt t (priceAt o (n - 1)) (leastOf (r .cents) (r .count)) ≡ false) where
+module _ (t : Threshold) (r : Arrays) (o : List ℕ) (n : ℕ) (h : LastHighest o n)
+    (e : failsAt t (priceAt o (n - 1)) (leastOf (r .cents) (r .count)) ≡ false) where
   pass-from : (m k : ℕ) → k + m ≡ n → Passes ≡ offerShown t (laminationsFrom r 0 (r .count)) o k (n - k)
   pass-from zero k f = pair-end t (laminationsFrom r 0 (r .count)) o n k (omega arith)
   pass-from (suc m) k f =
       let p = pairAt o k in
       let z = lower-passes t (leastOf (r .cents) (r .count)) (h .at k (omega arith)) e in
-      pass-from m (k + 1) (omega arith) ∙ pair-next t r o n k p 0 (omega arith) refl refl refl (least-passes t p (r .from) (r .to) (r .cents) (leastOf (r .cents) (r .count)) z (r .count) refl) refl
+      pass-from m (k + 1) (omega arith) ∙ pair-next t r o n k p 0 (omega arith) refl refl refl
+      (least-passes t p (r .from) (r .to) (r .cents) (leastOf (r .cents) (r .count)) z (r .count) refl) refl
 
   pub all-pass : Passes ≡ offerShown t (laminationsFrom r 0 (r .count)) o 0 n
   all-pass = pass-from n 0 (omega arith) ∙ all-left (offerShown t (laminationsFrom r 0 (r .count)) o 0) n

@@ -78,7 +78,8 @@ single-line v x word t true e h = rw h (append-nil _ ∙ e)
 single-line v x word t false e h = rw h
 
 -- the other lines by their words
-pub others-are : (t x y z : ℕ) → otherLines t x y z ≡ heldLine (holds t start) startWord x ++ heldLine (holds t noLoad) noLoadWord y ++ heldLine (holds t reserve) reserveWord z
+pub others-are : (t x y z : ℕ) → otherLines t x y z ≡ heldLine (holds t start) startWord x ++ heldLine (holds t noLoad) noLoadWord y
+    ++ heldLine (holds t reserve) reserveWord z
 unfolding otherLines levelLine
 others-are t x y z =
     rw (
@@ -87,7 +88,8 @@ others-are t x y z =
       single-line reserve z reserveWord t (holds t reserve) refl refl,
     )
 
-pub others-length : (t x y z : ℕ) → length (otherLines t x y z) ≡ length (heldLine (holds t start) startWord x) + length (heldLine (holds t noLoad) noLoadWord y) + length (heldLine (holds t reserve) reserveWord z)
+pub others-length : (t x y z : ℕ) → length (otherLines t x y z) ≡ length (heldLine (holds t start) startWord x) + length
+    (heldLine (holds t noLoad) noLoadWord y) + length (heldLine (holds t reserve) reserveWord z)
 others-length t x y z = rw (others-are t x y z) (simp length-append)
 
 single-count : (t v x : ℕ) → length (singleOf t v x) ≤ 1
@@ -102,11 +104,13 @@ unfolding otherLines
 others-within t x y z = simp length-append (omega (arith, single-within t start x, single-within t noLoad y, single-within t reserve z))
 
 -- the report as profile line, energy lines and the others
-pub report-is : (r : HourLevels) → packedReport r ≡ profileLine (r .profile) ++ laminationLines (arraysOf r) (r .count) ++ otherLines (r .technology) (r .start) (r .noload) (r .reserve)
+pub report-is : (r : HourLevels) → packedReport r ≡ profileLine (r .profile) ++ laminationLines (arraysOf r) (r .count)
+    ++ otherLines (r .technology) (r .start) (r .noload) (r .reserve)
 unfolding packedReport reportText unpacked otherLines
 report-is r = simp (lines-append, append-assoc)
 
-pub report-length : (r : HourLevels) → length (packedReport r) ≡ length (profileLine (r .profile)) + length (laminationLines (arraysOf r) (r .count)) + length (otherLines (r .technology) (r .start) (r .noload) (r .reserve))
+pub report-length : (r : HourLevels) → length (packedReport r) ≡ length (profileLine (r .profile)) + length (laminationLines (arraysOf r) (r .count)) + length
+    (otherLines (r .technology) (r .start) (r .noload) (r .reserve))
 report-length r = rw (report-is r) (simp length-append)
 
 -- a report of at most 20 laminations has at most 2,283 bytes

@@ -46,7 +46,8 @@ module _ {d ix : List ℕ} (h : Indexed d ix) where
   unfolding held
   held-found k n b i = part-found d ix h k n b i
 
-  pub held-in-empty : (k n : ℕ) → early k ≡ true → InKey k n → (j m : ℕ) → slotsEmpty ix j m ≡ true → j ≤ slot k n → slot k n < j + m → current k n (held d ix) ≡ []
+  pub held-in-empty : (k n : ℕ) → early k ≡ true → InKey k n → (j m : ℕ) → slotsEmpty ix j m ≡ true → j ≤ slot k n → slot k n < j + m
+      → current k n (held d ix) ≡ []
   unfolding held
   held-in-empty k n b i = current-in-empty d ix h k n i (slot-fits d ix h k n b i refl)
 
@@ -57,7 +58,8 @@ module _ {d ix : List ℕ} (h : Indexed d ix) where
 
   pub parameters-held : parametersHeld d ix ≡ parameters (records d)
   unfolding parameters
-  parameters-held = λ j. record { has = λ k n. present (current-held k n j); says = λ k n i. cond (isMoney (fieldOf k i .role)) 0 (value k i (current-held k n j)) }
+  parameters-held =
+      λ j. record { has = λ k n. present (current-held k n j); says = λ k n i. cond (isMoney (fieldOf k i .role)) 0 (value k i (current-held k n j)) }
 
   pub amounts-held : amountsHeld d ix ≡ amounts (records d)
   unfolding amounts

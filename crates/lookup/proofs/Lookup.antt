@@ -46,7 +46,8 @@ width-le k = leb-true (keyWidth k) 3 (everyOf-at (λ (x : Row). leb (keyIn (x .f
 -- ---- the lookup by start and length
 
 module _ (d : List ℕ) (k n : ℕ) (b : k < kinds) where
-  by-answer : (P : Part → List ℕ → Type 0) → (Accepted ≡ readable d → P (currentPart k n (records d)) (current k n (records d))) → P (part 0 0) [] → P (lookupPart d k n) (lookup d k n)
+  by-answer : (P : Part → List ℕ → Type 0) → (Accepted ≡ readable d → P (currentPart k n (records d)) (current k n (records d))) → P (part 0 0) []
+      → P (lookupPart d k n) (lookup d k n)
   unfolding lookupPart lookup
   by-answer P p q = go (readable d) refl
     where
@@ -56,10 +57,14 @@ module _ (d : List ℕ) (k n : ℕ) (b : k < kinds) where
 
   -- its bytes are the part that the lookup hands back
   pub lookup-bytes : partBytes d (lookupPart d k n) ≡ lookup d k n
-  lookup-bytes = by-answer (λ p l. partBytes d p ≡ l) (λ e. let a = accepted-indexed d e in current-bytes d (indexOf wide d) (a .0) k n b (le-trans (slots-most k) (a .1))) (unfold partBytes in refl)
+  lookup-bytes =
+      by-answer (λ p l. partBytes d p ≡ l) (λ e. let a =
+      accepted-indexed d e in current-bytes d (indexOf wide d) (a .0) k n b (le-trans (slots-most k) (a .1))) (unfold partBytes in refl)
 
   pub lookup-ends : {p : Part} → p ≡ lookupPart d k n → p .start + p .length ≤ length d
-  lookup-ends q = rw q (by-answer (λ p l. p .start + p .length ≤ length d) (λ e. let a = accepted-indexed d e in current-ends d (indexOf wide d) (a .0) k n b (le-trans (slots-most k) (a .1)) refl) (omega arith))
+  lookup-ends q =
+      rw q (by-answer (λ p l. p .start + p .length ≤ length d) (λ e. let a = accepted-indexed d e in current-ends d (indexOf wide d) (a .0) k n b
+      (le-trans (slots-most k) (a .1)) refl) (omega arith))
 
 pub part-accepted : (d : List ℕ) (k n : ℕ) → Accepted ≡ readable d → currentPart k n (records d) ≡ lookupPart d k n
 unfolding lookupPart isAccepted
@@ -75,7 +80,8 @@ part-overlong d k n h = part-refused d k n 13 0 (too-long d h)
 
 -- ---- by the bytes of mark and key
 
-pub looked : (d m key : List ℕ) {k n : ℕ} {p : Part} {l : List ℕ} → k < kinds → l ≡ partBytes d p → p ≡ lookupPart d k n → k ≡ mark m → n ≡ number 0 (length key) key → length m ≡ 2 → length key ≡ keyWidth k → l ≡ lookupBytes d m key
+pub looked : (d m key : List ℕ) {k n : ℕ} {p : Part} {l : List ℕ} → k < kinds → l ≡ partBytes d p → p ≡ lookupPart d k n → k ≡ mark m
+    → n ≡ number 0 (length key) key → length m ≡ 2 → length key ≡ keyWidth k → l ≡ lookupBytes d m key
 unfolding lookupBytes
 looked d m key {k} {n} b e q g i t w =
     e ∙ ap (partBytes d) q ∙ lookup-bytes d k n b ∙ rw (eq-eqb (length m) 2 t, eq-eqb (length key) (keyWidth (mark m)) (w ∙ ap keyWidth g), g, i) refl

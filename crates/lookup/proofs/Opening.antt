@@ -57,7 +57,8 @@ module _ (d : List ℕ) (w : ℕ) where
   way a e = walk-is-fold (keepStep d) (fresh w) d ∙ ap (λ (x : Answer). outcome x (folded (keepStep d) 0 (fresh w) (records d))) e
 
   -- the pass ended: nothing was drawn
-  pass-ended : {b : Bool} {c : ℕ} → Ended b c ≡ passOf (walk (keepStep d) (fresh w) d) → (scan 0 (records d) ≡ Accepted) × (b ≡ fold .rising) × (c ≡ fold .top)
+  pass-ended : {b : Bool} {c : ℕ} → Ended b c ≡ passOf (walk (keepStep d) (fresh w) d) → (scan 0 (records d) ≡ Accepted) × (b ≡ fold .rising)
+      × (c ≡ fold .top)
   unfolding passOf outcome
   pass-ended {b} {c} e = go (scan 0 (records d)) refl
     where
@@ -65,7 +66,8 @@ module _ (d : List ℕ) (w : ℕ) where
       go Accepted s =
           let z = e ∙ ap passOf (way Accepted s) in
           (s, ap (λ x. elim x [ Ended u v ↦ u | Stopped i j ↦ b ]) z, ap (λ x. elim x [ Ended u v ↦ v | Stopped i j ↦ c ]) z)
-      go (Refused m q) s = absurd (let z : _≡_ {A = ℕ} 1 0 = ap (λ x. elim x [ Ended u v ↦ 1 | Stopped i j ↦ 0 ]) (e ∙ ap passOf (way (Refused m q) s)) in omega arith)
+      go (Refused m q) s =
+          absurd (let z : _≡_ {A = ℕ} 1 0 = ap (λ x. elim x [ Ended u v ↦ 1 | Stopped i j ↦ 0 ]) (e ∙ ap passOf (way (Refused m q) s)) in omega arith)
 
   -- the pass stopped: at what is drawn first
   pass-stopped : (n p : ℕ) → length d ≤ 60000 → Stopped n p ≡ passOf (walk (keepStep d) (fresh w) d) → Refused n p ≡ readable d
@@ -76,10 +78,12 @@ module _ (d : List ℕ) (w : ℕ) where
       go Accepted s = absurd (let z : _≡_ {A = ℕ} 0 1 = ap (λ x. elim x [ Ended u v ↦ 1 | Stopped i j ↦ 0 ]) (e ∙ ap passOf (way Accepted s)) in omega arith)
       go (Refused m q) s =
           let z : Stopped n p ≡ Stopped m q = e ∙ ap passOf (way (Refused m q) s) in
-          ap₂ (λ (x y : ℕ). Refused x y) (ap (λ x. elim x [ Ended u v ↦ n | Stopped i j ↦ i ]) z) (ap (λ x. elim x [ Ended u v ↦ p | Stopped i j ↦ j ]) z) ∙ sym (after d h ∙ rw s refl)
+          ap₂ (λ (x y : ℕ). Refused x y) (ap (λ x. elim x [ Ended u v ↦ n | Stopped i j ↦ i ]) z) (ap (λ x. elim x [ Ended u v ↦ p | Stopped i j ↦ j ]) z)
+          ∙ sym (after d h ∙ rw s refl)
 
   -- the index that the pass leaves, where nothing is drawn
-  pub pass-filled : {ix x : List ℕ} → ix ≡ replicate w 0 → short ≤ w → length d ≤ 60000 → scan 0 (records d) ≡ Accepted → x ≡ slotsOf x (walk (keepStep d) (kept ix true 0) d) → (Indexed d x) × (length x ≡ w)
+  pub pass-filled : {ix x : List ℕ} → ix ≡ replicate w 0 → short ≤ w → length d ≤ 60000 → scan 0 (records d) ≡ Accepted
+      → x ≡ slotsOf x (walk (keepStep d) (kept ix true 0) d) → (Indexed d x) × (length x ≡ w)
   unfolding slotsOf outcome indexOf fold
   pass-filled {x = x} z r h s i =
       let f : x ≡ fold .slots = (rw z at i) ∙ ap (slotsOf x) (way Accepted s) in
@@ -87,7 +91,8 @@ module _ (d : List ℕ) (w : ℕ) where
       (record { short = h; clean = s; roomy = omega (arith, r, n); here = f ∙ ap (λ (v : ℕ). folded (keepStep d) 0 (fresh v) (records d) .slots) (sym n) }, n)
 
   -- and what it says of the slots
-  pub pass-indexed : {ix x : List ℕ} {b : Bool} {c : ℕ} → ix ≡ replicate w 0 → short ≤ w → length d ≤ 60000 → Ended b c ≡ passOf (walk (keepStep d) (kept ix true 0) d) → x ≡ slotsOf x (walk (keepStep d) (kept ix true 0) d) → Indexed d x × UpTo d c
+  pub pass-indexed : {ix x : List ℕ} {b : Bool} {c : ℕ} → ix ≡ replicate w 0 → short ≤ w → length d ≤ 60000
+      → Ended b c ≡ passOf (walk (keepStep d) (kept ix true 0) d) → x ≡ slotsOf x (walk (keepStep d) (kept ix true 0) d) → Indexed d x × UpTo d c
   unfolding fold
   pass-indexed {c = c} z r h e i =
       let p = pass-ended (rw z at e) in
@@ -102,7 +107,8 @@ module _ (d : List ℕ) (w : ℕ) where
       split (ltb 60000 (length d))
       (λ t.
       let z : Stopped n p ≡ Stopped 13 0 = e ∙ rw t refl in
-      ap₂ (λ (x y : ℕ). Refused x y) (ap (λ x. elim x [ Ended u v ↦ n | Stopped i j ↦ i ]) z) (ap (λ x. elim x [ Ended u v ↦ p | Stopped i j ↦ j ]) z) ∙ too-long d (ltb-true 60000 (length d) t))
+      ap₂ (λ (x y : ℕ). Refused x y) (ap (λ x. elim x [ Ended u v ↦ n | Stopped i j ↦ i ]) z) (ap (λ x. elim x [ Ended u v ↦ p | Stopped i j ↦ j ]) z)
+      ∙ too-long d (ltb-true 60000 (length d) t))
       (λ f. pass-stopped n p (ltb-false 60000 (length d) f) (e ∙ rw f refl))
 
   pub scan-rising : {m : ℕ} → Ended true m ≡ scanned w d → m < w → {x : List ℕ} → Indexed d x → Accepted ≡ readable d
@@ -119,7 +125,8 @@ pub accepted-indexed : (d : List ℕ) → Accepted ≡ readable d → Indexed d 
 unfolding readable indexOf
 accepted-indexed d e =
     let a = orElse-parts (refuseIf (ltb 60000 (length d)) 13 0) (orElse (scan 0 (records d)) (twins 0 [] (records d))) (sym e) in
-    let n : length (folded (keepStep d) 0 (fresh wide) (records d) .slots) ≡ wide = folded-length d 0 (fresh wide) (records d) ∙ length-replicate {A = ℕ} wide 0 in (
+    let n : length (folded (keepStep d) 0 (fresh wide) (records d) .slots) ≡ wide = folded-length d 0 (fresh wide) (records d)
+    ∙ length-replicate {A = ℕ} wide 0 in (
       record {
         short = ltb-false 60000 (length d) (not-refuseIf (ltb 60000 (length d)) 13 0 (a .0));
         clean = orElse-parts (scan 0 (records d)) (twins 0 [] (records d)) (a .1) .0;

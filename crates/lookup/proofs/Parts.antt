@@ -52,7 +52,8 @@ pub place-ends : (e : ℕ) (ix : List ℕ) (j n : ℕ) {p : Part} → p ≡ plac
 unfolding placeAt
 place-ends e ix j n q = rw q (go (eqb (getD ix j 0) 0 || ltb e (getD ix j 0 - 1 + n)) refl)
   where
-    go : (b : Bool) → eqb (getD ix j 0) 0 || ltb e (getD ix j 0 - 1 + n) ≡ b → cond b (part 0 0) (part (getD ix j 0 - 1) n) .start + cond b (part 0 0) (part (getD ix j 0 - 1) n) .length ≤ e
+    go : (b : Bool) → eqb (getD ix j 0) 0 || ltb e (getD ix j 0 - 1 + n) ≡ b
+        → cond b (part 0 0) (part (getD ix j 0 - 1) n) .start + cond b (part 0 0) (part (getD ix j 0 - 1) n) .length ≤ e
     go true x = omega arith
     go false x = ltb-false e (getD ix j 0 - 1 + n) (or-false-right (eqb (getD ix j 0) 0) (ltb e (getD ix j 0 - 1 + n)) x)
 
@@ -97,7 +98,8 @@ module _ (d ix : List ℕ) (h : Indexed d ix) where
 
     pub part-current : {j len : ℕ} → j ≡ slot k n → len ≡ size k → partAt d ix j len ≡ current k n (records d)
     unfolding partAt currentPart
-    part-current a b = ap (partBytes d) (place-current a b) ∙ held-bytes (size k) d (getD ix (slot k n) 0) (current k n (records d)) (startOf k n (records d)) holds
+    part-current a b =
+        ap (partBytes d) (place-current a b) ∙ held-bytes (size k) d (getD ix (slot k n) 0) (current k n (records d)) (startOf k n (records d)) holds
 
     pub current-none : getD ix (slot k n) 0 ≡ 0 → current k n (records d) ≡ []
     current-none e = sym (part-current refl refl) ∙ part-none d ix (slot k n) (size k) e
@@ -154,7 +156,9 @@ module _ (d ix : List ℕ) (h : Indexed d ix) where
 
   module _ (k n : ℕ) (f : keyTest k n ≡ false) where
     unmatched : {l : List (List ℕ)} → Each Good l → Each (λ r. matches k n r ≡ false) l
-    unmatched = each-map (λ r g. split (matches k n r) (λ m. absurd (true≢false (sym (key-test k n (subst (λ (x : ℕ). InKey x n) (matches-mark k n r m) (subst (λ (x : ℕ). InKey (mark r) x) (matches-key k n r m) (in-key r (g .0))))) ∙ f))) (λ m. m))
+    unmatched =
+        each-map (λ r g. split (matches k n r) (λ m. absurd (true≢false (sym (key-test k n (subst (λ (x : ℕ). InKey x n) (matches-mark k n r m)
+        (subst (λ (x : ℕ). InKey (mark r) x) (matches-key k n r m) (in-key r (g .0))))) ∙ f))) (λ m. m))
 
     pub no-key : part 0 0 ≡ currentPart k n (records d)
     unfolding currentPart current startOf
@@ -206,11 +210,15 @@ wide-complete d ix h w = each-map (λ r g. omega (arith, w, g)) (wide-up-to d (h
 
 pub key-small : (k n : ℕ) → InKey k n → n < 16777216
 unfolding Spans shapeOf shape rowOf table
-key-small k n p = at-mark (λ j. InKey j n → n < 16777216) k n p (λ q. omega (arith, q .spans)) (λ q. omega (arith, q .spans)) (λ q. omega (arith, q .spans)) (λ q. omega (arith, q .spans)) (λ q. omega (arith, q .spans)) (λ q. omega (arith, q .spans)) (λ q. omega (arith, q .spans)) (λ q. omega (arith, q .spans)) (λ q. omega (arith, q .spans)) (λ q. omega (arith, q .spans)) (λ q. omega (arith, q .spans)) p
+key-small k n p =
+    at-mark (λ j. InKey j n → n < 16777216) k n p (λ q. omega (arith, q .spans)) (λ q. omega (arith, q .spans)) (λ q. omega (arith, q .spans))
+    (λ q. omega (arith, q .spans)) (λ q. omega (arith, q .spans)) (λ q. omega (arith, q .spans)) (λ q. omega (arith, q .spans)) (λ q. omega (arith, q .spans))
+    (λ q. omega (arith, q .spans)) (λ q. omega (arith, q .spans)) (λ q. omega (arith, q .spans)) p
 
 pub size-small : (k n : ℕ) → InKey k n → size k < 65536
 unfolding size widths rowOf table
-size-small k n p = at-mark (λ j. size j < 65536) k n p (lit< tt) (lit< tt) (lit< tt) (lit< tt) (lit< tt) (lit< tt) (lit< tt) (lit< tt) (lit< tt) (lit< tt) (lit< tt)
+size-small k n p =
+    at-mark (λ j. size j < 65536) k n p (lit< tt) (lit< tt) (lit< tt) (lit< tt) (lit< tt) (lit< tt) (lit< tt) (lit< tt) (lit< tt) (lit< tt) (lit< tt)
 
 -- ---- keys by their fields
 
@@ -225,7 +233,8 @@ module _ (k : ℕ) where
   unfolding Spans
   one-field n a b e p q = record { known = a; low = b; spans = rw e (p, q) }
 
-  pub two-field : (x y : ℕ) → 1 ≤ k → k < kinds → eqb (high 1) 0 ≡ false → eqb (high 2) 0 ≡ true → low 0 ≤ x → x ≤ high 0 → low 1 ≤ y → y ≤ high 1 → high 1 < 256 → InKey k (x * 256 + y)
+  pub two-field : (x y : ℕ) → 1 ≤ k → k < kinds → eqb (high 1) 0 ≡ false → eqb (high 2) 0 ≡ true → low 0 ≤ x → x ≤ high 0 → low 1 ≤ y → y ≤ high 1
+      → high 1 < 256 → InKey k (x * 256 + y)
   unfolding Spans
   two-field x y a b e f p q r s t =
       let i : (x * 256 + y) / 256 ≡ x = omega arith in
@@ -262,9 +271,11 @@ place-key n a b = one-field FP n (lit≤ tt) (lit< tt) refl a b
 pub slot-kind : {k j n m r : ℕ} → r ≡ slot k m → m ≡ n → j ≡ k → r ≡ slot j n
 slot-kind e f g = e ∙ ap₂ slot (sym g) f
 
-pub slot-none : (k n : ℕ) → k < kinds → (k ≡ 2 → ⊥) → (k ≡ 3 → ⊥) → (k ≡ 4 → ⊥) → (k ≡ 5 → ⊥) → (k ≡ 6 → ⊥) → (k ≡ 7 → ⊥) → (k ≡ 8 → ⊥) → (k ≡ 9 → ⊥) → (k ≡ 10 → ⊥) → (k ≡ 11 → ⊥) → 0 ≡ slot k n
+pub slot-none : (k n : ℕ) → k < kinds → (k ≡ 2 → ⊥) → (k ≡ 3 → ⊥) → (k ≡ 4 → ⊥) → (k ≡ 5 → ⊥) → (k ≡ 6 → ⊥) → (k ≡ 7 → ⊥) → (k ≡ 8 → ⊥) → (k ≡ 9 → ⊥)
+    → (k ≡ 10 → ⊥) → (k ≡ 11 → ⊥) → 0 ≡ slot k n
 unfolding slot
 slot-none k n l a b c d e f g h i j =
     split (eqb k 0)
     (λ z. rw (eqb-true k 0 z) refl)
-    (λ z. by-mark (λ m. k ≡ m → 0 ≡ slot m n) (λ w. refl) (λ w. absurd (a w)) (λ w. absurd (b w)) (λ w. absurd (c w)) (λ w. absurd (d w)) (λ w. absurd (e w)) (λ w. absurd (f w)) (λ w. absurd (g w)) (λ w. absurd (h w)) (λ w. absurd (i w)) (λ w. absurd (j w)) k (eqb-false k 0 z) l refl)
+    (λ z. by-mark (λ m. k ≡ m → 0 ≡ slot m n) (λ w. refl) (λ w. absurd (a w)) (λ w. absurd (b w)) (λ w. absurd (c w)) (λ w. absurd (d w)) (λ w. absurd (e w))
+    (λ w. absurd (f w)) (λ w. absurd (g w)) (λ w. absurd (h w)) (λ w. absurd (i w)) (λ w. absurd (j w)) k (eqb-false k 0 z) l refl)

@@ -34,7 +34,9 @@ overlong-room d e t = ltb-true longest (length d) (sym e ∙ ap isTooLong t)
 
 -- where a look at the first bytes ends
 pub look-ends : {n e : ℕ} → e ≡ cond (leb n 600) n 600 → (e ≤ n) × (e ≤ 600)
-look-ends {n} {e} q = split (leb n 600) (λ t. (omega (arith, rw t at q), omega (arith, rw t at q, leb-true n 600 t))) (λ f. (omega (arith, rw f at q, leb-false n 600 f), omega (arith, rw f at q)))
+look-ends {n} {e} q =
+    split (leb n 600) (λ t. (omega (arith, rw t at q), omega (arith, rw t at q, leb-true n 600 t)))
+    (λ f. (omega (arith, rw f at q, leb-false n 600 f), omega (arith, rw f at q)))
 
 -- a mark whose slots come last
 abbrev Late : ℕ → Bool
@@ -60,7 +62,8 @@ module _ (d : List ℕ) (p : ℕ) (h : p < length d) (left : Left d p) {k : ℕ}
   step : not (Late k) && everyOf (λ r. not (Late (mark r))) (records (restOf (drop p d))) ≡ fitsShort d
   unfolding everyOf
   step =
-      rw (q, tail d p, ← first-mark (drop p d)) (subst (λ (l : List (List ℕ)). everyOf (λ r. not (Late (mark r))) l ≡ fitsShort d) (records-step (drop p d) (omega (arith, length-drop p d))) left)
+      rw (q, tail d p, ← first-mark (drop p d)) (subst (λ (l : List (List ℕ)). everyOf (λ r. not (Late (mark r))) l ≡ fitsShort d)
+      (records-step (drop p d) (omega (arith, length-drop p d))) left)
 
   pub at-late : Late k ≡ true → false ≡ fitsShort d
   at-late e = rw e at step

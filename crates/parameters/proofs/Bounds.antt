@@ -15,18 +15,22 @@ use Rattle.lookup.specs.Parts.{Indexed}
 
 -- of any faultless records
 module _ {l : List (List ℕ)} (faultless : Each (λ r. fault r ≡ 0) l) {r : ℕ} {x : List ℕ} (k n i o w : ℕ) where
-  pub says-read : parameters l .says k n i ≡ number o w (current k n l) → r ≡ number o w x → x ≡ current k n l → (r ≡ parameters l .says k n i) × (r ≤ fieldOf k i .highest)
+  pub says-read : parameters l .says k n i ≡ number o w (current k n l) → r ≡ number o w x → x ≡ current k n l → (r ≡ parameters l .says k n i)
+      × (r ≤ fieldOf k i .highest)
   says-read e p q =
       let z : r ≡ parameters l .says k n i = p ∙ ap (number o w) q ∙ sym e in
       (z, rw z (says-high faultless k n i))
 
-  pub amount-read : amounts l .of k n i ≡ number o w (current k n l) → r ≡ number o w x → x ≡ current k n l → (r ≡ amounts l .of k n i) × (r ≤ fieldOf k i .highest)
+  pub amount-read : amounts l .of k n i ≡ number o w (current k n l) → r ≡ number o w x → x ≡ current k n l → (r ≡ amounts l .of k n i)
+      × (r ≤ fieldOf k i .highest)
   amount-read e p q =
       let z : r ≡ amounts l .of k n i = p ∙ ap (number o w) q ∙ sym e in
       (z, rw z (amount-high faultless k n i))
 
 -- a price, plus 2^31
-pub price-read : {l : List (List ℕ)} → Each (λ r. fault r ≡ 0) l → {r v : ℕ} {x : List ℕ} (k n i o : ℕ) → amounts l .of k n i ≡ biased (number o 4 (current k n l)) → r ≡ biased v → v ≡ number o 4 x → x ≡ current k n l → (r ≡ amounts l .of k n i) × (r ≤ fieldOf k i .highest)
+pub price-read : {l : List (List ℕ)} → Each (λ r. fault r ≡ 0) l → {r v : ℕ} {x : List ℕ} (k n i o : ℕ)
+    → amounts l .of k n i ≡ biased (number o 4 (current k n l)) → r ≡ biased v → v ≡ number o 4 x → x ≡ current k n l → (r ≡ amounts l .of k n i)
+    × (r ≤ fieldOf k i .highest)
 price-read {l} faultless {r} k n i o e b p q =
     let z : r ≡ amounts l .of k n i = b ∙ ap biased (p ∙ ap (number o 4) q) ∙ sym e in
     (z, rw z (amount-high faultless k n i))

@@ -33,10 +33,12 @@ unfolding countTo
 count-next i f p q = rw (p, q, add-one i) refl
 
 -- a point is counted by its slot
-pub point-counted : (d ix : List ℕ) → Indexed d ix → (n : ℕ) → 1 ≤ n → n ≤ 21 → {j a : ℕ} → j ≡ slot HP n → a ≡ cond (eqb (getD ix j 0) 0) 0 1 → a ≡ cond (parameters (records d) .has HP n) 1 0
+pub point-counted : (d ix : List ℕ) → Indexed d ix → (n : ℕ) → 1 ≤ n → n ≤ 21 → {j a : ℕ} → j ≡ slot HP n → a ≡ cond (eqb (getD ix j 0) 0) 0 1
+    → a ≡ cond (parameters (records d) .has HP n) 1 0
 point-counted d ix h n p q {j} ej ea =
     let i = point-key n p q in
-    let e : parameters (records d) .has HP n ≡ not (eqb (getD ix j 0) 0) = sym (there-is (records d) HP n refl) ∙ slot-tells d ix h HP n i (fits d ix h HP n i refl) ∙ ap (λ (k : ℕ). not (eqb (getD ix k 0) 0)) (sym ej) in
+    let e : parameters (records d) .has HP n ≡ not (eqb (getD ix j 0) 0) = sym (there-is (records d) HP n refl)
+    ∙ slot-tells d ix h HP n i (fits d ix h HP n i refl) ∙ ap (λ (k : ℕ). not (eqb (getD ix k 0) 0)) (sym ej) in
     ea ∙ rw e (go (eqb (getD ix j 0) 0))
   where
     go : (b : Bool) → _≡_ {A = ℕ} (cond b 0 1) (cond (not b) 1 0)

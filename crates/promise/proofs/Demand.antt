@@ -49,11 +49,14 @@ module _ {d e : List ℕ} (q : Raise d e) (h : IsAccepted d) where
 
   offers-stay : (t c : ℕ) (o : List ℕ) → onOffer d t c o ≡ Passes → onOffer e t c o ≡ Passes
   unfolding onOffer settle
-  offers-stay t c o = rw (hour-accepted d t h, hour-accepted e t accepted-stays, ← same-parameters pairs) (offer-stays (parameters (records d)) c (levels-upper t) o)
+  offers-stay t c o =
+      rw (hour-accepted d t h, hour-accepted e t accepted-stays, ← same-parameters pairs) (offer-stays (parameters (records d)) c (levels-upper t) o)
 
   prices-stay : (t v c : ℕ) (price : ℤ) → onPrice d t v c price ≡ Passes → onPrice e t v c price ≡ Passes
   unfolding onPrice settle
-  prices-stay t v c price = rw (hour-accepted d t h, hour-accepted e t accepted-stays, ← same-parameters pairs) (price-stays (parameters (records d)) c (levels-upper t) v (biasedOf price))
+  prices-stay t v c price =
+      rw (hour-accepted d t h, hour-accepted e t accepted-stays, ← same-parameters pairs)
+      (price-stays (parameters (records d)) c (levels-upper t) v (biasedOf price))
 
 pub demand3 : Demand3
 unfolding levels

@@ -75,7 +75,8 @@ river-keeps = demand3 .raise (joined river) (joined (riverWith 1 50)) river-acce
 
 pub river-turned : SameMeaning (joined river) (joined (turned river))
 unfolding forecast computed
-river-turned = arrival-order (joined river) (joined (turned river)) river-accepted (record { order = turned river; same = turned-permuted river; made = refl })
+river-turned =
+    arrival-order (joined river) (joined (turned river)) river-accepted (record { order = turned river; same = turned-permuted river; made = refl })
 
 -- ---- an idle battery
 

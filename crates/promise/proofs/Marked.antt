@@ -6,4 +6,6 @@ use Rattle.promise.specs.Marked.{MarkedHold, marked}
 
 pub marked-hold : MarkedHold
 unfolding marked computed
-marked-hold = also refl (also refl (also refl (also refl (also refl (also refl (also refl (also refl (also refl (also refl (also refl (also refl (also refl (also refl done)))))))))))))
+marked-hold =
+    also refl (also refl (also refl (also refl (also refl
+    (also refl (also refl (also refl (also refl (also refl (also refl (also refl (also refl (also refl done)))))))))))))

@@ -12,7 +12,8 @@ use Rattle.verdicts.specs.Verdict.{onOffer, onPrice}
 use Rattle.layout.specs.Report.{report, reportAnswer, bufferAfter}
 use Rattle.promise.specs.Order.{SameMeaning}
 
-module _ {d e : List ℕ} (h : IsAccepted d) (g : IsAccepted e) (parameters-same : parameters (records d) ≡ parameters (records e)) (amounts-same : amounts (records d) ≡ amounts (records e)) where
+module _ {d e : List ℕ} (h : IsAccepted d) (g : IsAccepted e) (parameters-same : parameters (records d) ≡ parameters (records e))
+    (amounts-same : amounts (records d) ≡ amounts (records e)) where
   same-answer : (t : ℕ) → hourAnswer d t ≡ hourAnswer e t
   same-answer t = hour-same d t e (h .clean ∙ sym (g .clean))
 

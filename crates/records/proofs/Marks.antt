@@ -18,7 +18,8 @@ in-lt : (k : ℕ) (l : List Row) (a b : ℕ) → 0 < k → markIn k l a b < k + 
 unfolding markIn
 in-lt k [] a b h = omega arith
 in-lt k (x ∷ l) a b h =
-    cond-holds (λ m. m < k + suc (length l)) (eqb a (x .first) && eqb b (x .second)) k (markIn (suc k) l a b) (omega arith) (omega (arith, in-lt (suc k) l a b (omega arith)))
+    cond-holds (λ m. m < k + suc (length l)) (eqb a (x .first) && eqb b (x .second)) k (markIn (suc k) l a b) (omega arith)
+    (omega (arith, in-lt (suc k) l a b (omega arith)))
 
 pub mark-lt : (s : List ℕ) → mark s < kinds
 unfolding mark table
@@ -49,7 +50,8 @@ size-most = by-mark (λ k. size k ≤ 31) (lit≤ tt) (lit≤ tt) (lit≤ tt) (l
 
 -- ---- its letters
 
-in-letters : (k : ℕ) (l : List Row) (a b m : ℕ) → markIn k l a b ≡ m → (m ≡ 0 → ⊥) → (k ≤ m) × (eqb a (getD l (m - k) noRow .first) && eqb b (getD l (m - k) noRow .second) ≡ true)
+in-letters : (k : ℕ) (l : List Row) (a b m : ℕ) → markIn k l a b ≡ m → (m ≡ 0 → ⊥) → (k ≤ m)
+    × (eqb a (getD l (m - k) noRow .first) && eqb b (getD l (m - k) noRow .second) ≡ true)
 unfolding markIn
 in-letters k [] a b m e z = absurd (z (sym e))
 in-letters k (x ∷ l) a b m e z = go (eqb a (x .first) && eqb b (x .second)) refl e (λ f. in-letters (suc k) l a b m f z)
@@ -76,12 +78,14 @@ not-mark (suc k) s z h e =
 -- ---- its key
 
 -- a kind that is none of the marks with a key has no key
-pub no-key : (k : ℕ) → k < kinds → (k ≡ 2 → ⊥) → (k ≡ 3 → ⊥) → (k ≡ 4 → ⊥) → (k ≡ 5 → ⊥) → (k ≡ 6 → ⊥) → (k ≡ 7 → ⊥) → (k ≡ 8 → ⊥) → (k ≡ 9 → ⊥) → (k ≡ 10 → ⊥) → keyWidth k ≡ 0
+pub no-key : (k : ℕ) → k < kinds → (k ≡ 2 → ⊥) → (k ≡ 3 → ⊥) → (k ≡ 4 → ⊥) → (k ≡ 5 → ⊥) → (k ≡ 6 → ⊥) → (k ≡ 7 → ⊥) → (k ≡ 8 → ⊥) → (k ≡ 9 → ⊥)
+    → (k ≡ 10 → ⊥) → keyWidth k ≡ 0
 unfolding keyWidth keyIn rowOf table
 no-key k l a b c d e f g h i =
     split (eqb k 0)
     (λ z. rw (eqb-true k 0 z) refl)
-    (λ z. by-mark (λ j. k ≡ j → keyWidth j ≡ 0) (λ w. refl) (λ w. absurd (a w)) (λ w. absurd (b w)) (λ w. absurd (c w)) (λ w. absurd (d w)) (λ w. absurd (e w)) (λ w. absurd (f w)) (λ w. absurd (g w)) (λ w. absurd (h w)) (λ w. absurd (i w)) (λ w. refl) k (eqb-false k 0 z) l refl)
+    (λ z. by-mark (λ j. k ≡ j → keyWidth j ≡ 0) (λ w. refl) (λ w. absurd (a w)) (λ w. absurd (b w)) (λ w. absurd (c w)) (λ w. absurd (d w))
+    (λ w. absurd (e w)) (λ w. absurd (f w)) (λ w. absurd (g w)) (λ w. absurd (h w)) (λ w. absurd (i w)) (λ w. refl) k (eqb-false k 0 z) l refl)
 
 -- one without a key that is not RS and not LC is none
 pub keyless : (k : ℕ) → k < kinds → keyWidth k ≡ 0 → (k ≡ 1 → ⊥) → (k ≡ 11 → ⊥) → k ≡ 0
@@ -89,13 +93,17 @@ unfolding keyWidth keyIn rowOf table
 keyless k l w a b =
     split (eqb k 0)
     (λ z. eqb-true k 0 z)
-    (λ z. absurd (by-mark (λ j. k ≡ j → keyWidth j ≡ 0 → ⊥) (λ e x. a e) (λ e x. omega (arith, x)) (λ e x. omega (arith, x)) (λ e x. omega (arith, x)) (λ e x. omega (arith, x)) (λ e x. omega (arith, x)) (λ e x. omega (arith, x)) (λ e x. omega (arith, x)) (λ e x. omega (arith, x)) (λ e x. omega (arith, x)) (λ e x. b e) k (eqb-false k 0 z) l refl w))
+    (λ z. absurd (by-mark (λ j. k ≡ j → keyWidth j ≡ 0 → ⊥) (λ e x. a e) (λ e x. omega (arith, x)) (λ e x. omega (arith, x)) (λ e x. omega (arith, x))
+    (λ e x. omega (arith, x)) (λ e x. omega (arith, x)) (λ e x. omega (arith, x)) (λ e x. omega (arith, x)) (λ e x. omega (arith, x))
+    (λ e x. omega (arith, x)) (λ e x. b e) k (eqb-false k 0 z) l refl w))
 
 -- the same of a record's letters
-pub letters-no-key : (s : List ℕ) → begins s 72 80 ≡ false → begins s 70 85 ≡ false → begins s 65 68 ≡ false → begins s 77 77 ≡ false → begins s 82 81 ≡ false → begins s 72 82 ≡ false → begins s 67 72 ≡ false → begins s 84 72 ≡ false → begins s 70 80 ≡ false → keyWidth (mark s) ≡ 0
+pub letters-no-key : (s : List ℕ) → begins s 72 80 ≡ false → begins s 70 85 ≡ false → begins s 65 68 ≡ false → begins s 77 77 ≡ false → begins s 82 81 ≡ false
+    → begins s 72 82 ≡ false → begins s 67 72 ≡ false → begins s 84 72 ≡ false → begins s 70 80 ≡ false → keyWidth (mark s) ≡ 0
 unfolding rowOf table
 letters-no-key s a b c d e f g h i =
-    no-key (mark s) (mark-lt s) (not-mark 2 s refl a) (not-mark 3 s refl b) (not-mark 4 s refl c) (not-mark 5 s refl d) (not-mark 6 s refl e) (not-mark 7 s refl f) (not-mark 8 s refl g) (not-mark 9 s refl h) (not-mark 10 s refl i)
+    no-key (mark s) (mark-lt s) (not-mark 2 s refl a) (not-mark 3 s refl b) (not-mark 4 s refl c) (not-mark 5 s refl d) (not-mark 6 s refl e)
+    (not-mark 7 s refl f) (not-mark 8 s refl g) (not-mark 9 s refl h) (not-mark 10 s refl i)
 
 pub letters-keyless : (s : List ℕ) → keyWidth (mark s) ≡ 0 → begins s 82 83 ≡ false → begins s 76 67 ≡ false → mark s ≡ 0
 unfolding rowOf table

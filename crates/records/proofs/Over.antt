@@ -37,7 +37,8 @@ module _ {A B : Type 0} {P : List ℕ → Type 0} {f : A → ℕ → List (List 
   ends {p = p} h o = rw (drop-of-length-le d {i = p} h) at (o .rest)
 
   -- inside the dossier, where what is known of a record says that it has no fault; code has its length n by its mark
-  module _ (sane : (r : List ℕ) → P r → fault r ≡ 0) {p : ℕ} {a : A} (h : p < length d) (o : Over P f a₀ d p a) {n : ℕ} (en : n ≡ size (mark (take (length d - p) (drop p d)))) where
+  module _ (sane : (r : List ℕ) → P r → fault r ≡ 0) {p : ℕ} {a : A} (h : p < length d) (o : Over P f a₀ d p a) {n : ℕ}
+      (en : n ≡ size (mark (take (length d - p) (drop p d)))) where
     its-size : n ≡ size (mark (drop p d))
     its-size = en ∙ ap (λ (s : List ℕ). size (mark s)) (tail d p)
 

@@ -89,7 +89,8 @@ module _ {t : ℕ} {r s : List ℕ} (q : Raised t r s) where
       rw (← q .long, ← raised-mark)
       (go (ltb (length r) 2) (eqb (mark r) 0) (ltb (length r) (size (mark r))) (rangesHold (mark r) r) (rangesHold (mark r) s) ranges-stay)
     where
-      go : (a b c x y : Bool) → (x ≡ true → y ≡ true) → _≡_ {A = ℕ} (cond a 2 (cond b 1 (cond c 2 (cond x 0 3)))) 0 → _≡_ {A = ℕ} (cond a 2 (cond b 1 (cond c 2 (cond y 0 3)))) 0
+      go : (a b c x y : Bool) → (x ≡ true → y ≡ true) → _≡_ {A = ℕ} (cond a 2 (cond b 1 (cond c 2 (cond x 0 3)))) 0
+          → _≡_ {A = ℕ} (cond a 2 (cond b 1 (cond c 2 (cond y 0 3)))) 0
       go true b c x y f h = h
       go false true c x y f h = h
       go false false true x y f h = h
@@ -105,7 +106,8 @@ raised-self t r = record { long = refl; alike = λ i h. refl; rising = λ i h. s
 
 -- ---- a dossier and the one that it was raised to: their records are raised one by one
 
-head-alike : (n : ℕ) (x y : List ℕ) → ((i : ℕ) → i < n → moneyByte (mark x) i ≡ false → getD x i 0 ≡ getD y i 0) → 2 ≤ n → (i : ℕ) → moneyByte (mark (take n x)) i ≡ false → getD (take n x) i 0 ≡ getD (take n y) i 0
+head-alike : (n : ℕ) (x y : List ℕ) → ((i : ℕ) → i < n → moneyByte (mark x) i ≡ false → getD x i 0 ≡ getD y i 0) → 2 ≤ n → (i : ℕ)
+    → moneyByte (mark (take n x)) i ≡ false → getD (take n x) i 0 ≡ getD (take n y) i 0
 head-alike n x y h g i q = go (decLt i n)
   where
     go : Dec (i < n) → getD (take n x) i 0 ≡ getD (take n y) i 0
@@ -114,10 +116,12 @@ head-alike n x y h g i q = go (decLt i n)
         List·getD-eq-default (take n x) 0 (omega (arith, length-take n x))
         ∙ sym (List·getD-eq-default (take n y) 0 (omega (arith, length-take n y)))
 
-join : {R Q : List ℕ → List ℕ → Type 0} {r s : List ℕ} {l m : List (List ℕ)} → (R r s → Q r s) → (Pairwise R l m → Pairwise Q l m) → Pairwise R (r ∷ l) (s ∷ m) → Pairwise Q (r ∷ l) (s ∷ m)
+join : {R Q : List ℕ → List ℕ → Type 0} {r s : List ℕ} {l m : List (List ℕ)} → (R r s → Q r s) → (Pairwise R l m → Pairwise Q l m)
+    → Pairwise R (r ∷ l) (s ∷ m) → Pairwise Q (r ∷ l) (s ∷ m)
 join f g (more x y) = more (f x) (g y)
 
-aligned : (t f : ℕ) (d e : List ℕ) → length d ≡ length e → ((i : ℕ) → moneyAtIn f d i ≡ false → getD d i 0 ≡ getD e i 0) → Pairwise (Rising t) (recordsIn f d) (recordsIn f e) → Pairwise (Raised t) (recordsIn f d) (recordsIn f e)
+aligned : (t f : ℕ) (d e : List ℕ) → length d ≡ length e → ((i : ℕ) → moneyAtIn f d i ≡ false → getD d i 0 ≡ getD e i 0)
+    → Pairwise (Rising t) (recordsIn f d) (recordsIn f e) → Pairwise (Raised t) (recordsIn f d) (recordsIn f e)
 unfolding recordsIn moneyAtIn firstOf restOf
 aligned t zero d e l h a = none
 aligned t (suc f) [] [] l h a = none

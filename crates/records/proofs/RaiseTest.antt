@@ -74,10 +74,13 @@ raise-by t d e h =
     let b : rest ≡ true = and-right (eqb (length d) (length e)) rest h in
     record {
       long = long;
-      alike = λ i z. alike long i z (decLt i (length d)) (λ p. below-at (length d) f (and-left (allBelow (length d) f) (recordsTest t (records d) (records e)) b) i p);
+      alike =
+          λ i z. alike long i z (decLt i (length d)) (λ p. below-at (length d) f
+          (and-left (allBelow (length d) f) (recordsTest t (records d) (records e)) b) i p);
       rising = records-by t (records d) (records e) (and-right (allBelow (length d) f) (recordsTest t (records d) (records e)) b);
     }
   where
-    alike : length d ≡ length e → (i : ℕ) → moneyAt d i ≡ false → Dec (i < length d) → (i < length d → moneyAt d i || eqb (getD d i 0) (getD e i 0) ≡ true) → getD d i 0 ≡ getD e i 0
+    alike : length d ≡ length e → (i : ℕ) → moneyAt d i ≡ false → Dec (i < length d) → (i < length d → moneyAt d i || eqb (getD d i 0) (getD e i 0) ≡ true)
+        → getD d i 0 ≡ getD e i 0
     alike l i z (yes p) g = eqb-true (getD d i 0) (getD e i 0) (rw z at (g p))
     alike l i z (no p) g = List·getD-eq-default d 0 (omega arith) ∙ sym (List·getD-eq-default e 0 (omega (arith, l)))

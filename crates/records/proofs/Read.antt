@@ -31,7 +31,8 @@ ranges-take : (k : ℕ) (s : List ℕ) → rangesHold k (take (size k) s) ≡ ra
 unfolding rangesHold
 ranges-take k s =
     ap₂ (λ (a b : Bool). a && b)
-    (below-same (length (rowOf k .fields)) (λ i. inRange (fieldOf k i) (value k i (take (size k) s))) (λ i. inRange (fieldOf k i) (value k i s)) (λ i. ap (inRange (fieldOf k i)) (value-take k i s)))
+    (below-same (length (rowOf k .fields)) (λ i. inRange (fieldOf k i) (value k i (take (size k) s))) (λ i. inRange (fieldOf k i) (value k i s))
+    (λ i. ap (inRange (fieldOf k i)) (value-take k i s)))
     (agrees-alike k (take (size k) s) s (λ j e. value-take k j s))
 
 short : (n m : ℕ) (s : List ℕ) → m ≤ n → ltb (length (take n s)) m ≡ ltb (length s) m
@@ -41,14 +42,22 @@ short n m s h = go (ltb (length s) m) refl
     go true e = lt-ltb (length (take n s)) m (omega (arith, length-take n s, ltb-true (length s) m e))
     go false e = le-ltb (length (take n s)) m (omega (arith, length-take n s, ltb-false (length s) m e))
 
-pub fault-first : (s : List ℕ) → fault (firstOf s) ≡ cond (ltb (length s) 2) 2 (cond (eqb (mark s) 0) 1 (cond (ltb (length s) (size (mark s))) 2 (cond (rangesHold (mark s) s) 0 3)))
+pub fault-first : (s : List ℕ) → fault (firstOf s) ≡ cond (ltb (length s) 2) 2
+    (cond (eqb (mark s) 0) 1 (cond (ltb (length s) (size (mark s))) 2 (cond (rangesHold (mark s) s) 0 3)))
 unfolding fault firstOf
 fault-first s =
-    rw (mark-take (size (mark s)) s (omega (arith, size-ge (mark s))), short (size (mark s)) 2 s (omega (arith, size-ge (mark s))), short (size (mark s)) (size (mark s)) s (omega arith), ranges-take (mark s) s) refl
+    rw (
+      mark-take (size (mark s)) s (omega (arith, size-ge (mark s))),
+      short (size (mark s)) 2 s (omega (arith, size-ge (mark s))),
+      short (size (mark s)) (size (mark s)) s (omega arith),
+      ranges-take (mark s) s,
+    ) refl
 
 -- ---- what is found
 
-shown : (s : List ℕ) → found s ≡ cond (eqb (cond (ltb (length s) 2) 2 (cond (eqb (mark s) 0) 1 (cond (ltb (length s) (size (mark s))) 2 (cond (rangesHold (mark s) s) 0 3)))) 0) (Record (mark s) (size (mark s))) (Faulty (cond (ltb (length s) 2) 2 (cond (eqb (mark s) 0) 1 (cond (ltb (length s) (size (mark s))) 2 (cond (rangesHold (mark s) s) 0 3)))))
+shown : (s : List ℕ) → found s ≡ cond (eqb (cond (ltb (length s) 2) 2
+    (cond (eqb (mark s) 0) 1 (cond (ltb (length s) (size (mark s))) 2 (cond (rangesHold (mark s) s) 0 3)))) 0) (Record (mark s) (size (mark s)))
+    (Faulty (cond (ltb (length s) 2) 2 (cond (eqb (mark s) 0) 1 (cond (ltb (length s) (size (mark s))) 2 (cond (rangesHold (mark s) s) 0 3)))))
 unfolding found
 shown s = rw (fault-first s) refl
 
@@ -59,10 +68,12 @@ pub found-unknown : (s : List ℕ) → 2 ≤ length s → mark s ≡ 0 → Fault
 found-unknown s h e = sym (shown s ∙ rw (le-ltb (length s) 2 h, e) refl)
 
 -- of a known mark: what its length and its ranges say
-pub found-known : (k : ℕ) (s : List ℕ) → 2 ≤ length s → mark s ≡ k → eqb k 0 ≡ false → found s ≡ cond (ltb (length s) (size k)) (Faulty 2) (cond (rangesHold k s) (Record k (size k)) (Faulty 3))
+pub found-known : (k : ℕ) (s : List ℕ) → 2 ≤ length s → mark s ≡ k → eqb k 0 ≡ false
+    → found s ≡ cond (ltb (length s) (size k)) (Faulty 2) (cond (rangesHold k s) (Record k (size k)) (Faulty 3))
 found-known k s h e z = shown s ∙ rw (le-ltb (length s) 2 h, e, z) (go (ltb (length s) (size k)) (rangesHold k s))
   where
-    go : (a b : Bool) → cond (eqb (cond a 2 (cond b 0 3)) 0) (Record k (size k)) (Faulty (cond a 2 (cond b 0 3))) ≡ cond a (Faulty 2) (cond b (Record k (size k)) (Faulty 3))
+    go : (a b : Bool) → cond (eqb (cond a 2 (cond b 0 3)) 0) (Record k (size k)) (Faulty (cond a 2 (cond b 0 3))) ≡ cond a (Faulty 2)
+        (cond b (Record k (size k)) (Faulty 3))
     go true b = refl
     go false true = refl
     go false false = refl

@@ -25,9 +25,13 @@ pub found-record : (s : List ℕ) (k n : ℕ) → found s ≡ Record k n → (k 
 unfolding found
 found-record s k n = go (eqb (fault (firstOf s)) 0) refl
   where
-    go : (b : Bool) → eqb (fault (firstOf s)) 0 ≡ b → cond b (Record (mark s) (size (mark s))) (Faulty (fault (firstOf s))) ≡ Record k n → (k ≡ mark s) × (n ≡ size (mark s)) × (fault (firstOf s) ≡ 0)
-    go true e h =
-        (sym (ap (λ x. elim x [ Record i j ↦ i | Faulty m ↦ k ]) h), sym (ap (λ x. elim x [ Record i j ↦ j | Faulty m ↦ n ]) h), eqb-true (fault (firstOf s)) 0 e)
+    go : (b : Bool) → eqb (fault (firstOf s)) 0 ≡ b → cond b (Record (mark s) (size (mark s))) (Faulty (fault (firstOf s))) ≡ Record k n → (k ≡ mark s)
+        × (n ≡ size (mark s)) × (fault (firstOf s) ≡ 0)
+    go true e h = (
+      sym (ap (λ x. elim x [ Record i j ↦ i | Faulty m ↦ k ]) h),
+      sym (ap (λ x. elim x [ Record i j ↦ j | Faulty m ↦ n ]) h),
+      eqb-true (fault (firstOf s)) 0 e,
+    )
     go false e h = absurd (let z : _≡_ {A = ℕ} 0 1 = ap (λ x. elim x [ Record i j ↦ 1 | Faulty m ↦ 0 ]) h in omega arith)
 
 pub found-within : (s : List ℕ) (k n : ℕ) → found s ≡ Record k n → (1 ≤ n) × (n ≤ length s)
@@ -40,14 +44,16 @@ pub found-fault : (s : List ℕ) (m : ℕ) → found s ≡ Faulty m → (m ≡ f
 unfolding found
 found-fault s m = go (eqb (fault (firstOf s)) 0) refl
   where
-    go : (b : Bool) → eqb (fault (firstOf s)) 0 ≡ b → cond b (Record (mark s) (size (mark s))) (Faulty (fault (firstOf s))) ≡ Faulty m → (m ≡ fault (firstOf s)) × (fault (firstOf s) ≡ 0 → ⊥)
+    go : (b : Bool) → eqb (fault (firstOf s)) 0 ≡ b → cond b (Record (mark s) (size (mark s))) (Faulty (fault (firstOf s))) ≡ Faulty m
+        → (m ≡ fault (firstOf s)) × (fault (firstOf s) ≡ 0 → ⊥)
     go true e h = absurd (let z : _≡_ {A = ℕ} 1 0 = ap (λ x. elim x [ Record i j ↦ 1 | Faulty i ↦ 0 ]) h in omega arith)
     go false e h = (sym (ap (λ x. elim x [ Record i j ↦ m | Faulty i ↦ i ]) h), eqb-false (fault (firstOf s)) 0 e)
 
 -- ---- the fold
 
 -- a loop that keeps the first answer that refuses
-pub first-fold : (test : ℕ → List ℕ → Answer) (p : ℕ) (a : Answer) (l : List (List ℕ)) → folded (λ b q r. orElse b (test q r)) p a l ≡ orElse a (firstDrawn test p l)
+pub first-fold : (test : ℕ → List ℕ → Answer) (p : ℕ) (a : Answer) (l : List (List ℕ))
+    → folded (λ b q r. orElse b (test q r)) p a l ≡ orElse a (firstDrawn test p l)
 unfolding folded firstDrawn
 first-fold test p a [] = sym (orElse-none a)
 first-fold test p a (r ∷ l) = first-fold test (p + length r) (orElse a (test p r)) l ∙ orElse-assoc a (test p r) (firstDrawn test (p + length r) l)
@@ -70,9 +76,11 @@ module _ {A : Type 0} (step : Step A) where
       x = b ∷ s
 
       go : (t : Bool) → eqb (fault (firstOf x)) 0 ≡ t
-          → walkFrom step f (p + size (mark x)) (step a p (firstOf x)) (restOf x) ≡ outcome (scan (p + size (mark x)) (recordsIn f (restOf x))) (folded step (p + size (mark x)) (step a p (firstOf x)) (recordsIn f (restOf x)))
+          → walkFrom step f (p + size (mark x)) (step a p (firstOf x)) (restOf x) ≡ outcome (scan (p + size (mark x)) (recordsIn f (restOf x)))
+          (folded step (p + size (mark x)) (step a p (firstOf x)) (recordsIn f (restOf x)))
           → cond t (walkFrom step f (p + size (mark x)) (step a p (firstOf x)) (restOf x)) (stopped (fault (firstOf x)) p)
-          ≡ outcome (orElse (cond t Accepted (Refused (fault (firstOf x)) p)) (scan (p + length (firstOf x)) (recordsIn f (restOf x)))) (folded step (p + length (firstOf x)) (step a p (firstOf x)) (recordsIn f (restOf x)))
+          ≡ outcome (orElse (cond t Accepted (Refused (fault (firstOf x)) p)) (scan (p + length (firstOf x)) (recordsIn f (restOf x))))
+          (folded step (p + length (firstOf x)) (step a p (firstOf x)) (recordsIn f (restOf x)))
       go true e i = rw (first-length x (eqb-true (fault (firstOf x)) 0 e)) i
       go false e i = refl
 
@@ -84,7 +92,8 @@ module _ {A : Type 0} (step : Step A) where
   abbrev pub Rest : A → List ℕ → ℕ → A → Type 0
   Rest a₀ d p a = (f : ℕ) × (length d ≤ p + f) × (walkFrom step f p a (drop p d) ≡ walk step a₀ d)
 
-  one : (f p : ℕ) (a : A) (s : List ℕ) → 0 < length s → fault (firstOf s) ≡ 0 → walkFrom step (suc f) p a s ≡ walkFrom step f (p + size (mark s)) (step a p (firstOf s)) (restOf s)
+  one : (f p : ℕ) (a : A) (s : List ℕ) → 0 < length s → fault (firstOf s) ≡ 0
+      → walkFrom step (suc f) p a s ≡ walkFrom step f (p + size (mark s)) (step a p (firstOf s)) (restOf s)
   unfolding walkFrom
   one f p a [] h e = absurd (omega arith)
   one f p a (b ∷ s) h e = rw (eq-eqb (fault (firstOf (b ∷ s))) 0 e) refl
@@ -114,8 +123,12 @@ module _ {A : Type 0} (step : Step A) where
     next p a k n h (suc f, b, e) r =
         let z = found-record (drop p d) k n r in
         let w = found-within (drop p d) k n r in
-        rw (z .1)
-        (f, omega (arith, w .0, z .1), ap (walkFrom step f (p + size (mark (drop p d))) (step a p (firstOf (drop p d)))) (sym (drop-drop (size (mark (drop p d))) p d)) ∙ sym (one f p a (drop p d) (left p h) (z .2)) ∙ e)
+        rw (z .1) (
+          f,
+          omega (arith, w .0, z .1),
+          ap (walkFrom step f (p + size (mark (drop p d))) (step a p (firstOf (drop p d))))
+              (sym (drop-drop (size (mark (drop p d))) p d)) ∙ sym (one f p a (drop p d) (left p h) (z .2)) ∙ e,
+        )
 
     pub stop : (p : ℕ) (a : A) (m : ℕ) → p < length d → Rest a₀ d p a → found (drop p d) ≡ Faulty m → walk step a₀ d ≡ stopped m p
     stop p a m h (zero, b, e) r = absurd (omega arith)

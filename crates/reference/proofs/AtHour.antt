@@ -27,16 +27,21 @@ levels-packed i h {q} e r =
     rw (← e) (r ∙ ap₂ (λ (s : Parameters) (m : Amounts). packed (technology s) q (linesOf s m q)) (parameters-held i) (amounts-held i))
 
 -- one without laminations
-pub single-amount : {d ix : List ℕ} → Indexed d ix → (h v : ℕ) {q : ℕ} → q ≡ profile (parametersIn d) h → 2 ≤ v → v ≤ 4 → holds (technology (parametersIn d)) v ≡ true
+pub single-amount : {d ix : List ℕ} → Indexed d ix → (h v : ℕ) {q : ℕ} → q ≡ profile (parametersIn d) h → 2 ≤ v → v ≤ 4
+    → holds (technology (parametersIn d)) v ≡ true
     → cents (microDollars (singleSum (parametersHeld d ix) (amountsHeld d ix) q v)) ≡ amountOf v (levels d h)
 unfolding levels lines
-single-amount {d} i h v {q} e l u g = ap₂ (λ (s : Parameters) (m : Amounts). cents (microDollars (singleSum s m q v))) (parameters-held i) (amounts-held i) ∙ rw e (sum-amount (parametersIn d) (amountsIn d) (profile (parametersIn d) h) v l u g)
+single-amount {d} i h v {q} e l u g =
+    ap₂ (λ (s : Parameters) (m : Amounts). cents (microDollars (singleSum s m q v))) (parameters-held i) (amounts-held i)
+    ∙ rw e (sum-amount (parametersIn d) (amountsIn d) (profile (parametersIn d) h) v l u g)
 
 -- the answer with the levels
-pub levels-accepted : (d : List ℕ) (h : ℕ) {l : HourLevels} → answer d ≡ Accepted → l ≡ packedAt d h → record { answer = Accepted; levels = l } ≡ levelsAnswer d h
+pub levels-accepted : (d : List ℕ) (h : ℕ) {l : HourLevels} → answer d ≡ Accepted → l ≡ packedAt d h
+    → record { answer = Accepted; levels = l } ≡ levelsAnswer d h
 unfolding levelsAnswer isAccepted
 levels-accepted d h e f = rw (hour-accepted d h (record { clean = e }), f) refl
 
-pub levels-refused : (d : List ℕ) (h n p : ℕ) {l : HourLevels} → answer d ≡ Refused n p → l ≡ noLevels → record { answer = Refused n p; levels = l } ≡ levelsAnswer d h
+pub levels-refused : (d : List ℕ) (h n p : ℕ) {l : HourLevels} → answer d ≡ Refused n p → l ≡ noLevels
+    → record { answer = Refused n p; levels = l } ≡ levelsAnswer d h
 unfolding levelsAnswer isAccepted
 levels-refused d h n p e f = rw (hour-refused d h e, f) refl

@@ -22,8 +22,10 @@ use Rattle.parameters.proofs.Points.{there-is}
 use Rattle.formulas.specs.Levels.{covers, profileOf, profile}
 
 -- what one request asks for at an hour, read of its record
-pub asked-request : (l : List (List ℕ)) (h n : ℕ) {r : List ℕ} {asked first last : ℕ} → r ≡ current RQ n l → asked ≡ requested (parameters l) n → first ≡ firstHour (parameters l) n → last ≡ lastHour (parameters l) n
-    → (t : Bool) → ltb 0 (length r) && not (eqb asked 0) && leb first h && leb h last ≡ t → cond t asked 0 ≡ cond (covers (parameters l) h n) (requested (parameters l) n) 0
+pub asked-request : (l : List (List ℕ)) (h n : ℕ) {r : List ℕ} {asked first last : ℕ} → r ≡ current RQ n l → asked ≡ requested (parameters l) n
+    → first ≡ firstHour (parameters l) n → last ≡ lastHour (parameters l) n
+    → (t : Bool) → ltb 0 (length r) && not (eqb asked 0) && leb first h && leb h last ≡ t
+    → cond t asked 0 ≡ cond (covers (parameters l) h n) (requested (parameters l) n) 0
 unfolding covers
 asked-request l h n e a b c t f = rw (← f, a, b, c, there-is l RQ n e) refl
 
@@ -45,8 +47,13 @@ profile-range e h zero = (omega arith, omega arith)
 profile-range {l} e h (suc n) = go (covers (parameters l) h (suc n)) refl (profile-range e h n)
   where
     go : (t : Bool) → covers (parameters l) h (suc n) ≡ t → (1 ≤ profileOf (parameters l) h n) × (profileOf (parameters l) h n ≤ 4)
-        → (1 ≤ cond t (requested (parameters l) (suc n)) (profileOf (parameters l) h n)) × (cond t (requested (parameters l) (suc n)) (profileOf (parameters l) h n) ≤ 4)
-    go true p q = (covered (requested (parameters l) (suc n)) (parameters l .has RQ (suc n)) (leb (firstHour (parameters l) (suc n)) h) (leb h (lastHour (parameters l) (suc n))) p, asked-high e (suc n))
+        → (1 ≤ cond t (requested (parameters l) (suc n)) (profileOf (parameters l) h n))
+        × (cond t (requested (parameters l) (suc n)) (profileOf (parameters l) h n) ≤ 4)
+    go true p q = (
+      covered (requested (parameters l) (suc n)) (parameters l .has RQ (suc n)) (leb (firstHour (parameters l) (suc n)) h)
+          (leb h (lastHour (parameters l) (suc n))) p,
+      asked-high e (suc n),
+    )
     go false p q = q
 
 -- the highest of some requests decides if it asks for a profile at the hour, and else the others do
@@ -70,8 +77,16 @@ module _ (l : List (List ℕ)) (h : ℕ) where
       let w : suc n - 1 ≡ n = omega arith in
       rw w (go (covers (parameters l) h (suc n)) refl e)
     where
-      go : (t : Bool) → covers (parameters l) h (suc n) ≡ t → p ≡ cond t (requested (parameters l) (suc n)) 0 → profileOf (parameters l) h n ≡ cond t (requested (parameters l) (suc n)) (profileOf (parameters l) h n)
-      go true c q = absurd (omega (arith, q, f, covered (requested (parameters l) (suc n)) (parameters l .has RQ (suc n)) (leb (firstHour (parameters l) (suc n)) h) (leb h (lastHour (parameters l) (suc n))) c))
+      go : (t : Bool) → covers (parameters l) h (suc n) ≡ t → p ≡ cond t (requested (parameters l) (suc n)) 0
+          → profileOf (parameters l) h n ≡ cond t (requested (parameters l) (suc n)) (profileOf (parameters l) h n)
+      go true c q =
+          absurd (omega (
+            arith,
+            q,
+            f,
+            covered (requested (parameters l) (suc n)) (parameters l .has RQ (suc n)) (leb (firstHour (parameters l) (suc n)) h)
+                (leb h (lastHour (parameters l) (suc n))) c,
+          ))
       go false c q = refl
 
 -- where the slots of all requests are empty, there is none, and no hour has another profile than 1

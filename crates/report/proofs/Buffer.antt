@@ -19,7 +19,8 @@ use Rattle.lines.proofs.Fits.{Put}
 use Rattle.layout.specs.Report.{report, bufferWith, written, reportAnswer, bufferAfter}
 
 -- levels as code hands them over give the dossier's report
-pub packed-is : (d : List ℕ) (h : ℕ) (r : HourLevels) → unpacked r ≡ map shown (levels d h) → r .profile ≡ profile (parameters (records d)) h → packedReport r ≡ report d h
+pub packed-is : (d : List ℕ) (h : ℕ) (r : HourLevels) → unpacked r ≡ map shown (levels d h) → r .profile ≡ profile (parameters (records d)) h
+    → packedReport r ≡ report d h
 unfolding packedReport report
 packed-is d h r p q = rw (p, q)
 

@@ -55,7 +55,8 @@ lines-count : (s : Parameters) (m : Amounts) (p : ℕ) → length (linesOf s m p
 unfolding linesOf points
 lines-count s m p =
     either 23 (eqb (technology s) thermal) _ _ (laminations-within s m p (points s - 1) _ (omega (arith, count-within 21 (s .has HP))) (omega arith))
-    (either 23 (eqb (technology s) nuclear) _ _ (omega arith) (either 23 (eqb (technology s) storage) _ _ (omega arith) (either 23 (eqb (technology s) hydro) _ _ (omega arith) (omega arith))))
+    (either 23 (eqb (technology s) nuclear) _ _ (omega arith)
+    (either 23 (eqb (technology s) storage) _ _ (omega arith) (either 23 (eqb (technology s) hydro) _ _ (omega arith) (omega arith))))
 
 -- every report has at most 2,283 bytes
 pub report-fits : (d : List ℕ) (h : ℕ) → length (report d h) ≤ 2283
@@ -116,7 +117,8 @@ unfolding reportAnswer
 with-room d h e k = rw (long-enough (report d h) (length e) (omega (arith, report-fits d h))) (orElse-none (hourAnswer d h))
 
 -- the report that the function calls sees the input after the hour as a part
-pub after-hour : (i e : List ℕ) {h : ℕ} {w : Written} {b : List ℕ} → h ≡ number 0 4 i → Told (take (length i - 4) (drop 4 i)) h e w b → Told (drop 4 i) (number 0 4 i) e w b
+pub after-hour : (i e : List ℕ) {h : ℕ} {w : Written} {b : List ℕ} → h ≡ number 0 4 i → Told (take (length i - 4) (drop 4 i)) h e w b
+    → Told (drop 4 i) (number 0 4 i) e w b
 after-hour i e {h} {w} {b} q t =
     subst (λ (d : List ℕ). Told d (number 0 4 i) e w b) (tail i 4)
     (subst (λ (h : ℕ). Told (take (length i - 4) (drop 4 i)) h e w b) q t)

@@ -82,7 +82,8 @@ module _ (s : Parameters) where
           let k : i - 1 + 1 ≡ i = omega arith in
           subst (λ (j : ℕ). f j ≡ true) k (g (i - 1) (omega (arith, lt-of-le-ne h (λ z. e (sym z)))) (omega arith))
 
-  pub segments-curve : (n : ℕ) → 2 ≤ n → {a b c : Bool} → a ≡ s .has HP 1 → b ≡ allTo (n - 1) (segmentHolds s) → c ≡ eqb (output s n) (capacity s) → a && b && c ≡ curveHolds s n
+  pub segments-curve : (n : ℕ) → 2 ≤ n → {a b c : Bool} → a ≡ s .has HP 1 → b ≡ allTo (n - 1) (segmentHolds s) → c ≡ eqb (output s n) (capacity s) → a && b
+      && c ≡ curveHolds s n
   unfolding curveHolds
   segments-curve n h p q r = rw (p, q, r, le-leb 2 n h) (ap (λ (x : Bool). x && eqb (output s n) (capacity s)) (same-tests _ _ forth back))
     where
@@ -116,7 +117,8 @@ pub record Along (s : Parameters) (i : ℕ) (ok : Bool) (w h dw dh : ℕ) : Type
   pub segments : ok ≡ s .has HP 1 && allTo (i - 1) (segmentHolds s)
 
 module _ (l : List (List ℕ)) where
-  pub along-first : {part : List ℕ} {w h : ℕ} → part ≡ current HP 1 l → w ≡ output (parameters l) 1 → h ≡ heat (parameters l) 1 → Along (parameters l) 1 (ltb 0 (length part)) w h 0 0
+  pub along-first : {part : List ℕ} {w h : ℕ} → part ≡ current HP 1 l → w ≡ output (parameters l) 1 → h ≡ heat (parameters l) 1
+      → Along (parameters l) 1 (ltb 0 (length part)) w h 0 0
   unfolding lastRise allTo
   along-first p q r =
       record {
@@ -127,8 +129,10 @@ module _ (l : List (List ℕ)) where
         segments = there-is l HP 1 p ∙ sym (and-true (parameters l .has HP 1));
       }
 
-  pub along-next : (i : ℕ) {ok : Bool} {w h dw dh w1 h1 a b x y : ℕ} {part : List ℕ} → 1 ≤ i → Along (parameters l) i ok w h dw dh → part ≡ current HP (i + 1) l → w1 ≡ output (parameters l) (i + 1) → h1 ≡ heat (parameters l) (i + 1)
-      → a ≡ w1 - w → b ≡ h1 - h → x ≡ dh * a → y ≡ b * dw → Along (parameters l) (i + 1) (ok && (ltb 0 (length part) && ltb w w1 && leb h h1 && leb x y)) w1 h1 a b
+  pub along-next : (i : ℕ) {ok : Bool} {w h dw dh w1 h1 a b x y : ℕ} {part : List ℕ} → 1 ≤ i → Along (parameters l) i ok w h dw dh
+      → part ≡ current HP (i + 1) l → w1 ≡ output (parameters l) (i + 1) → h1 ≡ heat (parameters l) (i + 1)
+      → a ≡ w1 - w → b ≡ h1 - h → x ≡ dh * a → y ≡ b * dw
+      → Along (parameters l) (i + 1) (ok && (ltb 0 (length part) && ltb w w1 && leb h h1 && leb x y)) w1 h1 a b
   along-next i {ok} {w} {h} {dw} {dh} {w1} {h1} {a} {b} {x} {y} {part} g z p ew eh ea eb ex ey =
       record {
         output-is = ew;
@@ -138,7 +142,9 @@ module _ (l : List (List ℕ)) where
         segments =
             ap (λ (c : Bool). c && (ltb 0 (length part) && ltb w w1 && leb h h1 && leb x y)) (z .segments)
             ∙ and-assoc (parameters l .has HP 1) (allTo (i - 1) (segmentHolds (parameters l))) _
-            ∙ ap (λ (c : Bool). parameters l .has HP 1 && c) (to-next (i - 1) (segmentHolds (parameters l)) refl (segment ∙ ap (segmentHolds (parameters l)) (sym low)) ∙ ap (λ (j : ℕ). allTo j (segmentHolds (parameters l))) (low ∙ sym high));
+            ∙ ap (λ (c : Bool). parameters l .has HP 1 && c)
+            (to-next (i - 1) (segmentHolds (parameters l)) refl (segment ∙ ap (segmentHolds (parameters l)) (sym low)) ∙ ap (λ (j : ℕ). allTo j
+            (segmentHolds (parameters l))) (low ∙ sym high));
       }
     where
       low : i - 1 + 1 ≡ i
@@ -156,7 +162,8 @@ module _ (l : List (List ℕ)) where
       segment : ltb 0 (length part) && ltb w w1 && leb h h1 && leb x y ≡ segmentHolds (parameters l) i
       segment = unfold segmentHolds in (rw (ex, ey, there-is l HP (i + 1) p, z .output-is, z .heat-is, ew, eh, fa, fb, z .output-rise, z .heat-rise) refl)
 
-  pub along-last : (n i : ℕ) {ok : Bool} {w h dw dh c : ℕ} → 2 ≤ n → n ≤ i → i ≤ n → Along (parameters l) i ok w h dw dh → c ≡ capacity (parameters l) → ok && eqb w c ≡ curveHolds (parameters l) n
+  pub along-last : (n i : ℕ) {ok : Bool} {w h dw dh c : ℕ} → 2 ≤ n → n ≤ i → i ≤ n → Along (parameters l) i ok w h dw dh → c ≡ capacity (parameters l) → ok
+      && eqb w c ≡ curveHolds (parameters l) n
   along-last n i a b d z e =
       let m : i ≡ n = omega arith in
       rw (z .segments, z .output-is, e, m) (segments-curve (parameters l) n a refl refl refl)

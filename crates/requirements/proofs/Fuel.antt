@@ -61,7 +61,8 @@ module _ (d ix : List ℕ) (h : Indexed d ix) {j : ℕ} (first : j ≡ slot RQ 1
   unfolding allTo
   fuelled-to zero p = refl
   fuelled-to (suc n) p =
-      let none : requested (parameters (held d ix)) (n + 1) ≡ 0 = requested-at (held d ix) (n + 1) ∙ ap (number 15 1) (held-always h RQ _ refl ∙ unrequested n (omega arith)) ∙ number-nil 15 1 in
+      let none : requested (parameters (held d ix)) (n + 1) ≡ 0 = requested-at (held d ix) (n + 1)
+      ∙ ap (number 15 1) (held-always h RQ _ refl ∙ unrequested n (omega arith)) ∙ number-nil 15 1 in
       let k : fuelled (parameters (held d ix)) (n + 1) ≡ true = sym (request-none (held d ix) (n + 1) (sym none) refl) in
       rw (← fuelled-to n (omega arith), ← add-one n, k) refl
 

@@ -28,7 +28,8 @@ by-technology P a b c d (suc (suc (suc (suc (suc t))))) k = absurd (omega (arith
 
 -- ---- the levels that are held
 
-pub holds-tests : (t v : ℕ) → eqb t 1 && (eqb v 1 || eqb v 2 || eqb v 3 || eqb v 4) || eqb t 2 && eqb v 1 || (eqb t 3 || eqb t 4) && (eqb v 1 || eqb v 4) ≡ holds t v
+pub holds-tests : (t v : ℕ) → eqb t 1 && (eqb v 1 || eqb v 2 || eqb v 3 || eqb v 4) || eqb t 2 && eqb v 1 || (eqb t 3 || eqb t 4)
+    && (eqb v 1 || eqb v 4) ≡ holds t v
 unfolding holds levelsOf among
 holds-tests t v =
     split (eqb t 1)
@@ -83,7 +84,9 @@ module _ (t : ℕ) (s : List ℕ) (known : Known t) where
 
   pub fits-fu : (not (eqb t 4) || eqb (number 7 4 s) 0) && (eqb t 1 || eqb (number 11 4 s) 0) ≡ fits t 3 s
   unfolding fits ruleFits fieldFits allBelow among value read offset offsetIn fieldOf rowOf table
-  fits-fu = by-technology (λ t. (not (eqb t 4) || eqb (number 7 4 s) 0) && (eqb t 1 || eqb (number 11 4 s) 0) ≡ fits t 3 s) refl (sym (and-true _)) (sym (and-true _)) (sym (and-true _)) t known
+  fits-fu =
+      by-technology (λ t. (not (eqb t 4) || eqb (number 7 4 s) 0) && (eqb t 1 || eqb (number 11 4 s) 0) ≡ fits t 3 s) refl (sym (and-true _))
+      (sym (and-true _)) (sym (and-true _)) t known
 
   pub fits-ad : holds t (number 8 1 s) && (not (eqb (number 7 1 s) 5) || (eqb t 2 && eqb (number 8 1 s) 1)) ≡ fits t 4 s
   unfolding fits ruleFits fieldFits allBelow among value read offset offsetIn fieldOf rowOf table
@@ -141,7 +144,8 @@ module _ (t : ℕ) (s : List ℕ) (known : Known t) where
       let g : holds t (number 8 1 s) ≡ true = subst (λ (n : ℕ). holds t n ≡ true) (omega (arith, low)) e in
       sym (fits-ad t s known)
       ∙ split (eqb (number 7 1 s) 5)
-      (λ w. let two : t ≡ 2 = f (omega (arith, eqb-true (number 7 1 s) 5 w, low)) in rw (g, w, two, nuclear-level (number 8 1 s) (subst (λ (x : ℕ). holds x (number 8 1 s) ≡ true) two g)) refl)
+      (λ w. let two : t ≡ 2 = f (omega (arith, eqb-true (number 7 1 s) 5 w, low))
+      in rw (g, w, two, nuclear-level (number 8 1 s) (subst (λ (x : ℕ). holds x (number 8 1 s) ≡ true) two g)) refl)
       (λ w. rw (g, w) refl)
 
   -- TH fits if its level is held

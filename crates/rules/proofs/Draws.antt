@@ -78,6 +78,7 @@ module _ (d : List ℕ) where
       unfolding orElse refuseIf
       draws-6 n p g = rw (answer-parts d, e, f, ← g) refl
 
-      pub the-rest : {a : Answer} → Accepted ≡ unfit (technology (parameters (records d))) (records d) → a ≡ unsupported (parameters (records d)) (length d) → a ≡ answer d
+      pub the-rest : {a : Answer} → Accepted ≡ unfit (technology (parameters (records d))) (records d) → a ≡ unsupported (parameters (records d)) (length d)
+          → a ≡ answer d
       unfolding orElse refuseIf
       the-rest g h = rw (answer-parts d, e, f, ← g) h

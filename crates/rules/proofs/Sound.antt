@@ -37,7 +37,8 @@ unfit-each : (l : List (List ℕ)) → unfit (technology (parameters l)) l ≡ A
 unfolding unfit
 unfit-each l h =
     first-each
-    (λ p r e. go (isCurrent l r) (fits (technology (parameters l)) (mark r) r) (not-refuseIf (isCurrent l r && not (fits (technology (parameters l)) (mark r) r)) 6 p e))
+    (λ p r e. go (isCurrent l r) (fits (technology (parameters l)) (mark r) r)
+    (not-refuseIf (isCurrent l r && not (fits (technology (parameters l)) (mark r) r)) 6 p e))
     0 l h
   where
     go : (b c : Bool) → b && not c ≡ false → b ≡ true → c ≡ true
@@ -49,7 +50,8 @@ pub each-unfit : {l : List (List ℕ)} → Each (FitsIn l) l → unfit (technolo
 unfolding unfit
 each-unfit {l} e =
     each-first
-    (λ p r f. refuseIf-not (isCurrent l r && not (fits (technology (parameters l)) (mark r) r)) 6 p (go (isCurrent l r) (fits (technology (parameters l)) (mark r) r) f))
+    (λ p r f. refuseIf-not (isCurrent l r && not (fits (technology (parameters l)) (mark r) r)) 6 p
+    (go (isCurrent l r) (fits (technology (parameters l)) (mark r) r) f))
     0 e
   where
     go : (b c : Bool) → (b ≡ true → c ≡ true) → b && not c ≡ false
@@ -65,7 +67,8 @@ held b n p h = not-false b (not-refuseIf (not b) n p h)
 holding : (b : Bool) (n p : ℕ) → b ≡ true → refuseIf (not b) n p ≡ Accepted
 holding b n p h = refuseIf-not (not b) n p (ap not h)
 
-supported : (s : Parameters) (n : ℕ) → unsupported s n ≡ Accepted → (curveFits s ≡ true) × (fuelHolds s ≡ true) × (windowFits s ≡ true) × (forecastFits s ≡ true)
+supported : (s : Parameters) (n : ℕ) → unsupported s n ≡ Accepted → (curveFits s ≡ true) × (fuelHolds s ≡ true) × (windowFits s ≡ true)
+    × (forecastFits s ≡ true)
 unfolding unsupported
 supported s n h =
     let a = orElse-parts (refuseIf (not (curveFits s)) 7 n) _ h in
@@ -76,11 +79,13 @@ supported s n h =
 supporting : (s : Parameters) (n : ℕ) → curveFits s ≡ true → fuelHolds s ≡ true → windowFits s ≡ true → forecastFits s ≡ true → unsupported s n ≡ Accepted
 unfolding unsupported
 supporting s n p q r t =
-    parts-orElse (refuseIf (not (curveFits s)) 7 n) (orElse (refuseIf (not (fuelHolds s)) 8 n) (orElse (refuseIf (not (windowFits s)) 9 n) (refuseIf (not (forecastFits s)) 17 n)))
+    parts-orElse (refuseIf (not (curveFits s)) 7 n) (orElse (refuseIf (not (fuelHolds s)) 8 n)
+    (orElse (refuseIf (not (windowFits s)) 9 n) (refuseIf (not (forecastFits s)) 17 n)))
     (holding (curveFits s) 7 n p)
     (parts-orElse (refuseIf (not (fuelHolds s)) 8 n) (orElse (refuseIf (not (windowFits s)) 9 n) (refuseIf (not (forecastFits s)) 17 n))
     (holding (fuelHolds s) 8 n q)
-    (parts-orElse (refuseIf (not (windowFits s)) 9 n) (refuseIf (not (forecastFits s)) 17 n) (holding (windowFits s) 9 n r) (holding (forecastFits s) 17 n t)))
+    (parts-orElse (refuseIf (not (windowFits s)) 9 n) (refuseIf (not (forecastFits s)) 17 n) (holding (windowFits s) 9 n r)
+    (holding (forecastFits s) 17 n t)))
 
 -- ---- accepted is: not too long, and of sound records
 
@@ -156,7 +161,8 @@ module _ {t : ℕ} where
   current-same {r} {s} q b =
       rw (← raised-mark q, ← raised-key q, ← raised-issue q, ← raised-issue (current-raised (mark r) (keyOf r) b)) refl
 
-  fit-stays : {x y : List (List ℕ)} → Pairwise (Raised t) x y → technology (parameters x) ≡ t → {l m : List (List ℕ)} → Pairwise (Raised t) l m → Each (FitsIn x) l → Each (FitsIn y) m
+  fit-stays : {x y : List (List ℕ)} → Pairwise (Raised t) x y → technology (parameters x) ≡ t → {l m : List (List ℕ)} → Pairwise (Raised t) l m
+      → Each (FitsIn x) l → Each (FitsIn y) m
   fit-stays b w none e = done
   fit-stays {x} {y} b w (more {a = r} {b = s} q a) (also h e) =
       also {a = s}
@@ -200,7 +206,8 @@ module _ {l : List (List ℕ)} (e : Each (λ r. fault r ≡ 0) l) (k n : ℕ) (t
       go : (r : List ℕ) → IsCurrent k n l r → agrees k r ≡ true
       go r q =
           rw (← q .marked)
-          (and-right (allBelow (length (rowOf (mark r) .fields)) (λ i. inRange (fieldOf (mark r) i) (value (mark r) i r))) (agrees (mark r) r) (faultless r (member-each (q .member) e) .ranges))
+          (and-right (allBelow (length (rowOf (mark r) .fields)) (λ i. inRange (fieldOf (mark r) i) (value (mark r) i r))) (agrees (mark r) r)
+          (faultless r (member-each (q .member) e) .ranges))
 
 module _ {l : List (List ℕ)} (h : Sound l) (k n : ℕ) (there : parameters l .has k n ≡ true) where
   pub its-range : (i : ℕ) → i < length (rowOf k .fields) → inRange (fieldOf k i) (value k i (current k n l)) ≡ true

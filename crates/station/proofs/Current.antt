@@ -42,19 +42,38 @@ unfolding currentFrom better
 best-from k n b [] = kept refl done
 best-from k n b (r ∷ l) = go (matches k n r) refl (leb (issue b) (issue r)) refl (best-from k n r l) (best-from k n b l)
   where
-    go : (x : Bool) → matches k n r ≡ x → (y : Bool) → leb (issue b) (issue r) ≡ y → Best k n r l (currentFrom k n r l) → Best k n b l (currentFrom k n b l) → Best k n b (r ∷ l) (currentFrom k n (cond (x && y) r b) l)
+    go : (x : Bool) → matches k n r ≡ x → (y : Bool) → leb (issue b) (issue r) ≡ y → Best k n r l (currentFrom k n r l) → Best k n b l (currentFrom k n b l)
+        → Best k n b (r ∷ l) (currentFrom k n (cond (x && y) r b) l)
     go true e true g (kept p q) z =
         taken (rw p (leb-true (issue b) (issue r) g))
-        (rw p (record { member = here; marked = matches-mark k n r e; keyed = matches-key k n r e; highest = also (λ h. le-refl _) (each-map (λ s w h. omega (arith, w h)) q) }))
+        (rw p (record {
+          member = here;
+          marked = matches-mark k n r e;
+          keyed = matches-key k n r e;
+          highest = also (λ h. le-refl _) (each-map (λ s w h. omega (arith, w h)) q);
+        }))
     go true e true g (taken p q) z =
         taken (le-trans (leb-true (issue b) (issue r) g) p)
         (record { member = there (q .member); marked = q .marked; keyed = q .keyed; highest = also (λ h. p) (q .highest) })
     go true e false g w (kept p q) = kept p (also (λ h. leb-false (issue b) (issue r) g) q)
     go true e false g w (taken p q) =
-        taken p (record { member = there (q .member); marked = q .marked; keyed = q .keyed; highest = also {a = r} (λ h. omega (arith, leb-false (issue b) (issue r) g, p)) (q .highest) })
+        taken p (record {
+          member =
+              there (q .member);
+          marked =
+              q .marked;
+          keyed = q .keyed;
+          highest = also {a = r} (λ h. omega (arith, leb-false (issue b) (issue r) g, p)) (q .highest);
+        })
     go false e y g w (kept p q) = kept p (also (λ h. absurd (true≢false (sym h ∙ e))) q)
     go false e y g w (taken p q) =
-        taken p (record { member = there (q .member); marked = q .marked; keyed = q .keyed; highest = also (λ h. absurd (true≢false (sym h ∙ e))) (q .highest) })
+        taken p (record {
+          member =
+              there (q .member);
+          marked = q .marked;
+          keyed = q .keyed;
+          highest = also (λ h. absurd (true≢false (sym h ∙ e))) (q .highest);
+        })
 
 not-true : (b : Bool) → (b ≡ true → ⊥) → b ≡ false
 not-true true h = absurd (h refl)
@@ -88,7 +107,8 @@ module _ {t : ℕ} where
   unfolding matches
   raised-matches k n q = rw (raised-mark q, raised-key q) refl
 
-  from-raised : (k n : ℕ) {l m : List (List ℕ)} → Pairwise (Raised t) l m → {b c : List ℕ} → Raised t b c → Raised t (currentFrom k n b l) (currentFrom k n c m)
+  from-raised : (k n : ℕ) {l m : List (List ℕ)} → Pairwise (Raised t) l m → {b c : List ℕ} → Raised t b c
+      → Raised t (currentFrom k n b l) (currentFrom k n c m)
   unfolding currentFrom better
   from-raised k n none q = q
   from-raised k n (more {a = r} {b = s} p a) {b} {c} q =

@@ -30,7 +30,11 @@ use Rattle.station.proofs.Twins.{current-permuted}
 pub parameters-permuted : {l m : List (List ℕ)} → Permutation l m → Distinct l → parameters l ≡ parameters m
 unfolding parameters
 parameters-permuted p d =
-    λ i. record { has = λ k n. present (current-permuted k n p d i); says = λ k n j. cond (isMoney (fieldOf k j .role)) 0 (value k j (current-permuted k n p d i)) }
+    λ i. record {
+      has =
+          λ k n. present (current-permuted k n p d i);
+      says = λ k n j. cond (isMoney (fieldOf k j .role)) 0 (value k j (current-permuted k n p d i));
+    }
 
 pub amounts-permuted : {l m : List (List ℕ)} → Permutation l m → Distinct l → amounts l ≡ amounts m
 unfolding amounts
@@ -44,7 +48,8 @@ nil-of-length (x ∷ s) h = absurd (omega (arith, h))
 
 module _ {t : ℕ} {l m : List (List ℕ)} (a : Pairwise (Raised t) l m) where
   -- a law of two records that holds of none and none, and of each raised pair of the mark, holds of the current ones
-  pub by-current : (k n : ℕ) (P : List ℕ → List ℕ → Type 0) → P [] [] → ((r s : List ℕ) → Raised t r s → mark r ≡ k → P r s) → P (current k n l) (current k n m)
+  pub by-current : (k n : ℕ) (P : List ℕ → List ℕ → Type 0) → P [] [] → ((r s : List ℕ) → Raised t r s → mark r ≡ k → P r s)
+      → P (current k n l) (current k n m)
   by-current k n P z f = go (current k n l) (current k n m) (current-raised k n a) (current-found k n l)
     where
       go : (r s : List ℕ) → Raised t r s → CurrentOf k n l r → P r s
@@ -52,7 +57,8 @@ module _ {t : ℕ} {l m : List (List ℕ)} (a : Pairwise (Raised t) l m) where
       go r s q (absent e w) = rw (e, nil-of-length s (sym (ap length e) ∙ q .long)) z
 
   field-same : (k n i : ℕ) → isMoney (fieldOf k i .role) ≡ false → value k i (current k n l) ≡ value k i (current k n m)
-  field-same k n i e = by-current k n (λ r s. value k i r ≡ value k i s) refl (λ r s q w. subst (λ (j : ℕ). value j i r ≡ value j i s) w (raised-same q i (rw w e)))
+  field-same k n i e =
+      by-current k n (λ r s. value k i r ≡ value k i s) refl (λ r s q w. subst (λ (j : ℕ). value j i r ≡ value j i s) w (raised-same q i (rw w e)))
 
   field-le : (k n i : ℕ) → value k i (current k n l) ≤ value k i (current k n m)
   field-le k n i = by-current k n (λ r s. value k i r ≤ value k i s) (le-refl _) (λ r s q w. subst (λ (j : ℕ). value j i r ≤ value j i s) w (raised-le q i))
@@ -61,10 +67,12 @@ module _ {t : ℕ} {l m : List (List ℕ)} (a : Pairwise (Raised t) l m) where
   unfolding present
   present-same k n = ap (λ (x : ℕ). ltb 0 x) (current-raised k n a .long)
 
-  says-same : (k n i : ℕ) → cond (isMoney (fieldOf k i .role)) 0 (value k i (current k n l)) ≡ cond (isMoney (fieldOf k i .role)) 0 (value k i (current k n m))
+  says-same : (k n i : ℕ) → cond (isMoney (fieldOf k i .role)) 0 (value k i (current k n l)) ≡ cond (isMoney (fieldOf k i .role)) 0
+      (value k i (current k n m))
   says-same k n i = go (isMoney (fieldOf k i .role)) (field-same k n i)
     where
-      go : (b : Bool) → (b ≡ false → value k i (current k n l) ≡ value k i (current k n m)) → cond b 0 (value k i (current k n l)) ≡ cond b 0 (value k i (current k n m))
+      go : (b : Bool) → (b ≡ false → value k i (current k n l) ≡ value k i (current k n m))
+          → cond b 0 (value k i (current k n l)) ≡ cond b 0 (value k i (current k n m))
       go true f = refl
       go false f = f refl
 

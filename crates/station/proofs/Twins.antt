@@ -40,7 +40,8 @@ free r seen (also {a = s} h e) =
     let z = free r seen e in
     (also (twin-sym r s ∙ or-false-left (twin s r) (anyTwin s seen) h) (z .0), also (or-false-right (twin s r) (anyTwin s seen) h) (z .1))
 
-taken : (r : List ℕ) (seen : List (List ℕ)) {l : List (List ℕ)} → Apart r l → Each (λ s. anyTwin s seen ≡ false) l → Each (λ s. anyTwin s (r ∷ seen) ≡ false) l
+taken : (r : List ℕ) (seen : List (List ℕ)) {l : List (List ℕ)} → Apart r l → Each (λ s. anyTwin s seen ≡ false) l
+    → Each (λ s. anyTwin s (r ∷ seen) ≡ false) l
 unfolding anyTwin
 taken r seen done done = done
 taken r seen (also {a = s} p a) (also h e) = also {a = s} (rw (twin-sym s r, p) h) (taken r seen a e)
@@ -89,24 +90,37 @@ better-swap k n b x y t = go (matches k n x) refl (matches k n y) refl
     other p q e =
         false≢true
         (sym t
-        ∙ rw (matches-mark k n x p, matches-mark k n y q, matches-key k n x p, matches-key k n y q, e, eq-eqb k k refl, eq-eqb n n refl, eq-eqb (issue y) (issue y) refl) refl)
+        ∙ rw (
+          matches-mark k n x p,
+          matches-mark k n y q,
+          matches-key k n x p,
+          matches-key k n y q,
+          e,
+          eq-eqb k k refl,
+          eq-eqb n n refl,
+          eq-eqb (issue y) (issue y) refl,
+        ) refl)
 
-    both : (issue x ≡ issue y → ⊥) → (p q u v : Bool) → leb (issue b) (issue x) ≡ p → leb (issue b) (issue y) ≡ q → leb (issue x) (issue y) ≡ u → leb (issue y) (issue x) ≡ v
+    both : (issue x ≡ issue y → ⊥) → (p q u v : Bool) → leb (issue b) (issue x) ≡ p → leb (issue b) (issue y) ≡ q → leb (issue x) (issue y) ≡ u
+        → leb (issue y) (issue x) ≡ v
         → cond (leb (issue (cond p x b)) (issue y)) y (cond p x b) ≡ cond (leb (issue (cond q y b)) (issue x)) x (cond q y b)
     both z true true true true ep eq eu ev = absurd (z (omega (arith, leb-true (issue x) (issue y) eu, leb-true (issue y) (issue x) ev)))
     both z true true true false ep eq eu ev = rw (eu, ev) refl
     both z true true false true ep eq eu ev = rw (eu, ev) refl
     both z true true false false ep eq eu ev = absurd (omega (arith, leb-false (issue x) (issue y) eu, leb-false (issue y) (issue x) ev))
-    both z true false true v ep eq eu ev = absurd (omega (arith, leb-true (issue b) (issue x) ep, leb-false (issue b) (issue y) eq, leb-true (issue x) (issue y) eu))
+    both z true false true v ep eq eu ev =
+        absurd (omega (arith, leb-true (issue b) (issue x) ep, leb-false (issue b) (issue y) eq, leb-true (issue x) (issue y) eu))
     both z true false false v ep eq eu ev = rw (eu, ep) refl
-    both z false true u true ep eq eu ev = absurd (omega (arith, leb-false (issue b) (issue x) ep, leb-true (issue b) (issue y) eq, leb-true (issue y) (issue x) ev))
+    both z false true u true ep eq eu ev =
+        absurd (omega (arith, leb-false (issue b) (issue x) ep, leb-true (issue b) (issue y) eq, leb-true (issue y) (issue x) ev))
     both z false true u false ep eq eu ev = rw (ev, eq) refl
     both z false false u v ep eq eu ev = rw (eq, ep) refl
 
     go : (p : Bool) → matches k n x ≡ p → (q : Bool) → matches k n y ≡ q
         → cond (q && leb (issue (cond (p && leb (issue b) (issue x)) x b)) (issue y)) y (cond (p && leb (issue b) (issue x)) x b)
         ≡ cond (p && leb (issue (cond (q && leb (issue b) (issue y)) y b)) (issue x)) x (cond (q && leb (issue b) (issue y)) y b)
-    go true p true q = both (other p q) (leb (issue b) (issue x)) (leb (issue b) (issue y)) (leb (issue x) (issue y)) (leb (issue y) (issue x)) refl refl refl refl
+    go true p true q =
+        both (other p q) (leb (issue b) (issue x)) (leb (issue b) (issue y)) (leb (issue x) (issue y)) (leb (issue y) (issue x)) refl refl refl refl
     go true p false q = refl
     go false p true q = refl
     go false p false q = refl
@@ -132,7 +146,8 @@ unfolding anyTwin twin
 twin-same q none = refl
 twin-same q (more p a) = rw (raised-mark q, raised-mark p, raised-key q, raised-key p, raised-issue q, raised-issue p, twin-same q a) refl
 
-pub twins-same : {t : ℕ} {l m : List (List ℕ)} → Pairwise (Raised t) l m → {x y : List (List ℕ)} → Pairwise (Raised t) x y → (p : ℕ) → twins p x l ≡ twins p y m
+pub twins-same : {t : ℕ} {l m : List (List ℕ)} → Pairwise (Raised t) l m → {x y : List (List ℕ)} → Pairwise (Raised t) x y → (p : ℕ)
+    → twins p x l ≡ twins p y m
 unfolding twins
 twins-same none b p = refl
 twins-same (more {a = r} {b = s} q a) b p = rw (twin-same q b, q .long, twins-same a (more q b) (p + length s)) refl

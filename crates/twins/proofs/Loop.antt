@@ -45,7 +45,8 @@ start n d l ids f h = record { before = []; over = begins (scan-each 0 (records 
 
 -- ---- the record at place p, of n bytes by its mark
 
-module _ (d : List ℕ) (p : ℕ) {n roots count : ℕ} {l ids : List ℕ} (h : p < length d) (kn : Known roots d l ids p count) (en : n ≡ size (mark (take (length d - p) (drop p d)))) where
+module _ (d : List ℕ) (p : ℕ) {n roots count : ℕ} {l ids : List ℕ} (h : p < length d) (kn : Known roots d l ids p count)
+    (en : n ≡ size (mark (take (length d - p) (drop p d)))) where
   abbrev r : List ℕ
   r = take n (drop p d)
 
@@ -110,7 +111,8 @@ module _ (d : List ℕ) (p : ℕ) {n roots count : ℕ} {l ids : List ℕ} (h : 
               })
 
 -- less than the shortest record is left at the end only
-pub finish : (d : List ℕ) (p : ℕ) {roots count : ℕ} {l ids : List ℕ} → length d - p < shortest → Known roots d l ids p count → Accepted ≡ twins 0 [] (records d)
+pub finish : (d : List ℕ) (p : ℕ) {roots count : ℕ} {l ids : List ℕ} → length d - p < shortest → Known roots d l ids p count
+    → Accepted ≡ twins 0 [] (records d)
 unfolding twins
 finish d p h kn =
     either (ltb p (length d))

@@ -56,7 +56,8 @@ twin-parts : (r s : List ℕ) → twin r s ≡ true → (mark r ≡ mark s) × (
 unfolding twin
 twin-parts r s e = go (eqb (mark r) (mark s)) refl (eqb (keyOf r) (keyOf s)) refl (eqb (issue r) (issue s)) refl e
   where
-    go : (a : Bool) → eqb (mark r) (mark s) ≡ a → (b : Bool) → eqb (keyOf r) (keyOf s) ≡ b → (c : Bool) → eqb (issue r) (issue s) ≡ c → a && b && c ≡ true → (mark r ≡ mark s) × (keyOf r ≡ keyOf s) × (issue r ≡ issue s)
+    go : (a : Bool) → eqb (mark r) (mark s) ≡ a → (b : Bool) → eqb (keyOf r) (keyOf s) ≡ b → (c : Bool) → eqb (issue r) (issue s) ≡ c → a && b && c ≡ true
+        → (mark r ≡ mark s) × (keyOf r ≡ keyOf s) × (issue r ≡ issue s)
     go true x true y true z h = (eqb-true (mark r) (mark s) x, eqb-true (keyOf r) (keyOf s) y, eqb-true (issue r) (issue s) z)
     go true x true y false z h = absurd (false≢true h)
     go true x false y c z h = absurd (false≢true h)
@@ -73,7 +74,8 @@ none-any r (also {a = t} {l = l} h e) = go (twin r t) refl (none-any r e)
     go false x w = w
 
 -- the way of a record's id ends at a node that has it: there is a twin
-pub yes-twin : {n : ℕ} {s : List (List ℕ)} {l ids : List ℕ} {count : ℕ} → Seen n s l ids count → Shape n l ids count → (r : List ℕ) → fault r ≡ 0 → issue r < 4294967296
+pub yes-twin : {n : ℕ} {s : List (List ℕ)} {l ids : List ℕ} {count : ℕ} → Seen n s l ids count → Shape n l ids count → (r : List ℕ) → fault r ≡ 0
+    → issue r < 4294967296
     → (m : ℕ) → 0 < node n l (id r) m → getD ids (node n l (id r) m) 0 ≡ id r → anyTwin r s ≡ true
 yes-twin {n} {s} {l} {ids} t sh r f i m p e =
     let k = t .known (node n l (id r) m) p (sh .small (place n l (id r) m)) in
@@ -89,7 +91,8 @@ no-twin {n} {s} {l} {ids} t r m o z = none-any r (each-map (λ w h e. no-hit n l
     moved w p h = rw (p .0, p .1, p .2) h
 
 -- and then the record joins those seen
-pub grown : {n : ℕ} {s : List (List ℕ)} {l ids : List ℕ} {count : ℕ} → Seen n s l ids count → Shape n l ids count → (r : List ℕ) → fault r ≡ 0 → issue r < 4294967296
+pub grown : {n : ℕ} {s : List (List ℕ)} {l ids : List ℕ} {count : ℕ} → Seen n s l ids count → Shape n l ids count → (r : List ℕ) → fault r ≡ 0
+    → issue r < 4294967296
     → (m : ℕ) → Open n l ids (id r) m → node n l (id r) m ≡ 0
     → Seen n (r ∷ s) (set l (place n l (id r) m) (count + 1)) (set ids (count + 1) (id r)) (count + 1)
 grown {n} {s} {l} {ids} {count} t sh r f i m o z =

@@ -60,7 +60,8 @@ module _ (n : ℕ) (l ids : List ℕ) (count : ℕ) (sh : Shape n l ids count) (
 
   open-same : (z m : ℕ) → Open n l ids z m → Open n l′ ids′ z m
   open-same z m o i h =
-      let p : node n l′ z i ≡ node n l z i = ap (λ (a : ℕ). getD l′ a 0) (place-same z i (λ j k. o j (omega arith) .0)) ∙ link-same (place n l z i) (o i h .0) in
+      let p : node n l′ z i ≡ node n l z i = ap (λ (a : ℕ). getD l′ a 0) (place-same z i (λ j k. o j (omega arith) .0))
+      ∙ link-same (place n l z i) (o i h .0) in
       (omega (arith, p, o i h .0), λ e. o i h .1 (sym (ap (λ (j : ℕ). getD ids′ j 0) p ∙ id-same (node n l z i) (sh .small (place n l z i))) ∙ e))
 
   pub hit-same : (z : ℕ) → Hit n l ids z → Hit n l′ ids′ z
@@ -139,5 +140,6 @@ bare {n} {bytes} {l} ids f =
     zero-at a = ap (λ (m : List ℕ). getD m a 0) (f .none) ∙ go a (ltb a size) refl
 
 -- two cleared arrays hold such a tree
-pub fresh : (n nodes : ℕ) {bytes : ℕ} → 0 < n → n ≤ 65536 → nodes ≤ 65535 → bytes + shortest < shortest * nodes → Fresh n (replicate (n + 2 * nodes) 0) (length (replicate {A = ℕ} nodes 0)) bytes
+pub fresh : (n nodes : ℕ) {bytes : ℕ} → 0 < n → n ≤ 65536 → nodes ≤ 65535 → bytes + shortest < shortest * nodes
+    → Fresh n (replicate (n + 2 * nodes) 0) (length (replicate {A = ℕ} nodes 0)) bytes
 fresh n nodes p q r s = rw length-replicate (record { some = p; few = q; none = refl; narrow = r; room = s })

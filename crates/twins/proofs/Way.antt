@@ -45,7 +45,8 @@ module _ (n : ℕ) (l ids : List ℕ) (count x at left m : ℕ) (w : Way n l ids
   gap h = new refl (w .0) (w .3) (sym its-node ∙ h) (ap (λ (a : ℕ). set l a (count + 1)) (w .1)) refl
 
 -- what the shape says in numbers
-pub sizes : {n : ℕ} {l ids : List ℕ} {count : ℕ} → Shape n l ids count → (n ≤ 65536) × (length l ≡ n + 2 * length ids) × (length ids ≤ 65535) × (count + 1 < length ids)
+pub sizes : {n : ℕ} {l ids : List ℕ} {count : ℕ} → Shape n l ids count → (n ≤ 65536) × (length l ≡ n + 2 * length ids) × (length ids ≤ 65535)
+    × (count + 1 < length ids)
 sizes sh = (sh .few, sh .links, sh .narrow, sh .room)
 
 -- the way begins among the roots

@@ -54,4 +54,5 @@ pub record Fresh (n : ℕ) (l : List ℕ) (nodes bytes : ℕ) : Type 0 where
 -- the way of an id ends at a node that has it, or at a gap, where a node is set for it
 pub data Entered (n : ℕ) (l ids : List ℕ) (count x : ℕ) (r : Bool) (l′ ids′ : List ℕ) : Type 0 where
   seen : r ≡ true → (m : ℕ) → 0 < node n l x m → getD ids (node n l x m) 0 ≡ x → Entered n l ids count x r l′ ids′
-  new : r ≡ false → (m : ℕ) → Open n l ids x m → node n l x m ≡ 0 → l′ ≡ set l (place n l x m) (count + 1) → ids′ ≡ set ids (count + 1) x → Entered n l ids count x r l′ ids′
+  new : r ≡ false → (m : ℕ) → Open n l ids x m → node n l x m ≡ 0 → l′ ≡ set l (place n l x m) (count + 1) → ids′ ≡ set ids (count + 1) x
+      → Entered n l ids count x r l′ ids′

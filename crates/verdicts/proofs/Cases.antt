@@ -187,7 +187,9 @@ malformedOffers =
 
 pub malformed-judged : Judges malformedOffers
 unfolding computed
-malformed-judged = also refl (also refl (also refl (also refl (also refl (also refl (also refl (also refl (also refl (also refl (also refl (also refl (also refl (also refl done)))))))))))))
+malformed-judged =
+    also refl (also refl (also refl (also refl (also refl
+    (also refl (also refl (also refl (also refl (also refl (also refl (also refl (also refl (also refl done)))))))))))))
 
 -- "12, 14, 10, 11"; "14 condition not 1 to 3 or no TH for it and the level"
 abbrev turns : List Offer
@@ -237,7 +239,8 @@ prices =
 pub prices-judged : Each (λ x. priceVerdict (station (x .technology)) (x .level) (x .condition) levels (x .price) ≡ x .wanted) prices
 unfolding computed
 prices-judged =
-    also refl (also refl (also refl (also refl (also refl (also refl (also refl (also refl (also refl (also refl (also refl (also refl (also refl (also refl done)))))))))))))
+    also refl (also refl (also refl (also refl (also refl
+    (also refl (also refl (also refl (also refl (also refl (also refl (also refl (also refl (also refl done)))))))))))))
 
 -- ---- whole dossiers
 
@@ -253,11 +256,13 @@ unit =
     ∷ [])
 
 -- at hour 4 the limit is 0.00, at hour 5 it is 1.50; a dossier that is refused comes first
-offers-of-unit : (onOffer unit 4 1 (pair 1000 1) ≡ Fails 1 1) × (onOffer unit 5 1 (pair 1000 150) ≡ Passes) × (onOffer unit 5 1 (pair 1000 151) ≡ Fails 1 1) × (onOffer [] 0 4 [] ≡ Refused 5 0)
+offers-of-unit : (onOffer unit 4 1 (pair 1000 1) ≡ Fails 1 1) × (onOffer unit 5 1 (pair 1000 150) ≡ Passes) × (onOffer unit 5 1 (pair 1000 151) ≡ Fails 1 1)
+    × (onOffer [] 0 4 [] ≡ Refused 5 0)
 unfolding computed
 offers-of-unit = (refl, refl, refl, refl)
 
 -- reserve's limit is 0.37 with its fraction dropped; a price is signed
-prices-of-unit : (onPrice unit 4 4 1 (pos 37) ≡ Passes) × (onPrice unit 4 4 1 (pos 38) ≡ Fails 0 0) × (onPrice unit 4 4 1 (negsuc 37) ≡ Passes) × (onPrice unit 5 4 1 (pos 1) ≡ Fails 0 0) × (onPrice [] 0 1 4 (pos 0) ≡ Refused 5 0)
+prices-of-unit : (onPrice unit 4 4 1 (pos 37) ≡ Passes) × (onPrice unit 4 4 1 (pos 38) ≡ Fails 0 0) × (onPrice unit 4 4 1 (negsuc 37) ≡ Passes)
+    × (onPrice unit 5 4 1 (pos 1) ≡ Fails 0 0) × (onPrice [] 0 1 4 (pos 0) ≡ Refused 5 0)
 unfolding computed
 prices-of-unit = (refl, refl, refl, refl, refl)

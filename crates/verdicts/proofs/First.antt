@@ -20,7 +20,8 @@ module _ (s : Parameters) (c : ℕ) (o : List ℕ) where
     at : (x : Line) → First (failsAtLine s c o k) l x → Tried k l rest (Fails (k + 1) (x .lamination))
     nowhere : Clear s c l o k → Tried k l rest rest
 
-  tried : (k : ℕ) (l : List Line) (rest : Verdict) → Tried k l rest (failing energy (overlap (before o k) (quantity o k)) (failsUnder s c energy (priceAt o k)) (k + 1) l rest)
+  tried : (k : ℕ) (l : List Line) (rest : Verdict) → Tried k l rest
+      (failing energy (overlap (before o k) (quantity o k)) (failsUnder s c energy (priceAt o k)) (k + 1) l rest)
   unfolding failing
   tried k [] rest = nowhere done
   tried k (x ∷ l) rest = go (failsAtLine s c o k x) refl (tried k l rest)

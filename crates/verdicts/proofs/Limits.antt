@@ -33,18 +33,21 @@ module _ (level percent margin : ℕ) where
       go false = omega arith
 
   -- as code takes it: by percent if there is no margin or it is the lesser, or else by margin
-  pub limit-percent : eqb margin 4294967295 || ltb (level + level * percent / 100) (level + margin) ≡ true → level + level * percent / 100 ≡ limit level percent margin
+  pub limit-percent : eqb margin 4294967295 || ltb (level + level * percent / 100) (level + margin) ≡ true
+      → level + level * percent / 100 ≡ limit level percent margin
   unfolding limit
   limit-percent = go (eqb margin 4294967295)
     where
-      go : (b : Bool) → b || ltb (level + level * percent / 100) (level + margin) ≡ true → level + level * percent / 100 ≡ cond b (level + level * percent / 100) (min (level + level * percent / 100) (level + margin))
+      go : (b : Bool) → b || ltb (level + level * percent / 100) (level + margin) ≡ true
+          → level + level * percent / 100 ≡ cond b (level + level * percent / 100) (min (level + level * percent / 100) (level + margin))
       go true e = refl
       go false e = omega (arith, ltb-true)
 
   pub limit-margin : eqb margin 4294967295 || ltb (level + level * percent / 100) (level + margin) ≡ false → level + margin ≡ limit level percent margin
   unfolding limit
   limit-margin e =
-      let low : level + margin ≤ level + level * percent / 100 = ltb-false (level + level * percent / 100) (level + margin) (or-false-right (eqb margin 4294967295) (ltb (level + level * percent / 100) (level + margin)) e) in
+      let low : level + margin ≤ level + level * percent / 100 = ltb-false (level + level * percent / 100) (level + margin)
+      (or-false-right (eqb margin 4294967295) (ltb (level + level * percent / 100) (level + margin)) e) in
       rw (or-false-left (eqb margin 4294967295) (ltb (level + level * percent / 100) (level + margin)) e) (omega arith)
 
 -- ---- a price against it
@@ -74,7 +77,8 @@ module _ (level percent margin floor price : ℕ) where
       go true = sym (le-ltb (limit level percent margin + 2147483648) price (omega (arith, limit-ge-level level percent margin)))
       go false = refl
 
-  pub in-cents : 2147483648 ≤ price → leb floor (price - 2147483648) && ltb (limit level percent margin) (price - 2147483648) ≡ fails level percent margin floor price
+  pub in-cents : 2147483648 ≤ price → leb floor (price - 2147483648)
+      && ltb (limit level percent margin) (price - 2147483648) ≡ fails level percent margin floor price
   unfolding fails
   in-cents h = rw (leb-shifted floor price 2147483648 h, ltb-shifted (limit level percent margin) price 2147483648 h) refl
 

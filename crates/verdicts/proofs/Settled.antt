@@ -103,7 +103,8 @@ price-accepted s v c e =
     let q = condition-accepted s v c (p .1) in
     (h .0, h .1, h .2, q .0, q .1)
 
-pub price-refused : (s : Parameters) (v c : ℕ) (l : List Line) (price : ℕ) {n p : ℕ} → priceRefusal s v c ≡ Turned n p → Refused n p ≡ priceVerdict s v c l price
+pub price-refused : (s : Parameters) (v c : ℕ) (l : List Line) (price : ℕ) {n p : ℕ} → priceRefusal s v c ≡ Turned n p
+    → Refused n p ≡ priceVerdict s v c l price
 unfolding priceVerdict
 price-refused s v c l price e = settle-refused _ e
 
@@ -122,6 +123,7 @@ module _ (d : List ℕ) (h : ℕ) where
   unfolding onPrice
   on-price-refused v c price e = settle-refused _ (hour-refused d h e)
 
-  pub on-price : (v c : ℕ) (price : ℤ) {w : Verdict} → IsAccepted d → w ≡ priceVerdict (parameters (records d)) v c (levels d h) (biasedOf price) → w ≡ onPrice d h v c price
+  pub on-price : (v c : ℕ) (price : ℤ) {w : Verdict} → IsAccepted d → w ≡ priceVerdict (parameters (records d)) v c (levels d h) (biasedOf price)
+      → w ≡ onPrice d h v c price
   unfolding onPrice
   on-price v c price e f = settle-accepted (hour-accepted d h e) f

@@ -27,7 +27,8 @@ limit-mono {x} {y} percent margin h = go (eqb margin 4294967295)
     one : x + x * percent / 100 ≤ y + y * percent / 100
     one = omega (arith, mul-le-mul-right percent h)
 
-    go : (b : Bool) → cond b (x + x * percent / 100) (min (x + x * percent / 100) (x + margin)) ≤ cond b (y + y * percent / 100) (min (y + y * percent / 100) (y + margin))
+    go : (b : Bool) → cond b (x + x * percent / 100) (min (x + x * percent / 100) (x + margin)) ≤ cond b (y + y * percent / 100)
+        (min (y + y * percent / 100) (y + margin))
     go true = one
     go false = min-mono one (add-le-add h (le-refl margin))
 
@@ -36,21 +37,26 @@ unfolding fails
 pass-stays {x} {y} percent margin floor price h = go (leb (floor + 2147483648) price)
   where
     go : (b : Bool) → b && ltb (limit x percent margin + 2147483648) price ≡ false → b && ltb (limit y percent margin + 2147483648) price ≡ false
-    go true e = le-ltb (limit y percent margin + 2147483648) price (omega (arith, ltb-false (limit x percent margin + 2147483648) price e, limit-mono percent margin h))
+    go true e =
+        le-ltb (limit y percent margin + 2147483648) price
+        (omega (arith, ltb-false (limit x percent margin + 2147483648) price e, limit-mono percent margin h))
     go false e = refl
 
 not-fails : {A : Type 0} (i j : ℕ) → Fails i j ≡ Passes → A
 not-fails i j e = absurd (let z : _≡_ {A = ℕ} 1 0 = ap (λ x. elim x [ Passes ↦ 0 | Fails a b ↦ 1 | Refused a b ↦ 2 ]) e in omega arith)
 
 module _ (v : ℕ) (meets : ℕ → ℕ → Bool) (test : ℕ → Bool) (keeps : (x y : ℕ) → x ≤ y → test x ≡ false → test y ≡ false) (k : ℕ) where
-  failing-stays : {l m : List Line} → Pairwise NoLower l m → (r q : Verdict) → (r ≡ Passes → q ≡ Passes) → failing v meets test k l r ≡ Passes → failing v meets test k m q ≡ Passes
+  failing-stays : {l m : List Line} → Pairwise NoLower l m → (r q : Verdict) → (r ≡ Passes → q ≡ Passes) → failing v meets test k l r ≡ Passes
+      → failing v meets test k m q ≡ Passes
   unfolding failing
   failing-stays none r q f = f
   failing-stays (more {a = x} {b = y} {l = l} {m = m} u a) r q f =
       rw (← u .level, ← u .from, ← u .to)
       (go (eqb (x .level) v && meets (x .from) (x .to)) (test (amount x)) (test (amount y)) (keeps _ _ (u .amount)) (failing-stays a r q f))
     where
-      go : (b c c′ : Bool) → (c ≡ false → c′ ≡ false) → (failing v meets test k l r ≡ Passes → failing v meets test k m q ≡ Passes) → cond (b && c) (Fails k (x .lamination)) (failing v meets test k l r) ≡ Passes → cond (b && c′) (Fails k (y .lamination)) (failing v meets test k m q) ≡ Passes
+      go : (b c c′ : Bool) → (c ≡ false → c′ ≡ false) → (failing v meets test k l r ≡ Passes → failing v meets test k m q ≡ Passes)
+          → cond (b && c) (Fails k (x .lamination)) (failing v meets test k l r) ≡ Passes
+          → cond (b && c′) (Fails k (y .lamination)) (failing v meets test k m q) ≡ Passes
       go true true c′ h g e = not-fails _ _ e
       go true false c′ h g e = rw (h refl) (g e)
       go false c c′ h g e = g e
@@ -64,7 +70,8 @@ module _ (s : Parameters) (c : ℕ) {l m : List Line} (a : Pairwise NoLower l m)
   unfolding offerFrom
   from-stays o k zero e = refl
   from-stays o k (suc n) e =
-      failing-stays 1 (overlap (before o k) (quantity o k)) (failsUnder s c 1 (priceAt o k)) (under-keeps s c 1 (priceAt o k)) (k + 1) a _ _ (from-stays o (k + 1) n) e
+      failing-stays 1 (overlap (before o k) (quantity o k)) (failsUnder s c 1 (priceAt o k)) (under-keeps s c 1 (priceAt o k)) (k + 1) a _ _
+      (from-stays o (k + 1) n) e
 
   test-stays : (v price : ℕ) → priceTest s c v price l ≡ Passes → priceTest s c v price m ≡ Passes
   unfolding priceTest

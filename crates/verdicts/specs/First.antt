@@ -29,4 +29,5 @@ Clear s c l o k = Each (λ x. failsAtLine s c o k x ≡ false) l
 -- n pairs from pair k on, and the verdict on them
 pub data Judged (s : Parameters) (c : ℕ) (l : List Line) (o : List ℕ) (k n : ℕ) : Verdict → Type 0 where
   passing : ((j : ℕ) → k ≤ j → j < k + n → Clear s c l o j) → Judged s c l o k n Passes
-  failed : (j : ℕ) (x : Line) → k ≤ j → j < k + n → ((i : ℕ) → k ≤ i → i < j → Clear s c l o i) → First (failsAtLine s c o j) l x → Judged s c l o k n (Fails (j + 1) (x .lamination))
+  failed : (j : ℕ) (x : Line) → k ≤ j → j < k + n → ((i : ℕ) → k ≤ i → i < j → Clear s c l o i) → First (failsAtLine s c o j) l x
+      → Judged s c l o k n (Fails (j + 1) (x .lamination))

@@ -55,7 +55,12 @@ unfolding packed
 packed-blank t p l h =
     record {
       few = h;
-      none = λ i g. rw (column-past (λ x. x .from) (energyLines l) i g, column-past (λ x. x .to) (energyLines l) i g, column-past (λ x. amount x) (energyLines l) i g) refl;
+      none =
+          λ i g. rw (
+            column-past (λ x. x .from) (energyLines l) i g,
+            column-past (λ x. x .to) (energyLines l) i g,
+            column-past (λ x. amount x) (energyLines l) i g,
+          ) refl;
     }
 
 pub handed-blank : (d : List ℕ) (h : ℕ) {r : HourLevels} → r ≡ packedAt d h → Blank (arraysOf r)

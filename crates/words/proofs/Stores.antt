@@ -83,7 +83,15 @@ module _ (q : ℕ) (r : Arrays) (h : Blank r) (e : List ℕ) (k : 62 ≤ length 
   three-left : (i : ℕ) → i < 20 → drop (3 * i + 2) e ≡ 0 ∷ 0 ∷ 0 ∷ drop (3 * (i + 1) + 2) e
   three-left i g =
       let a : suc (suc (suc (3 * i + 2))) ≡ 3 * (i + 1) + 2 = omega arith in
-      rw (drop-cons e (3 * i + 2) 0 (omega arith), drop-cons e (suc (3 * i + 2)) 0 (omega arith), drop-cons e (suc (suc (3 * i + 2))) 0 (omega arith), nothing (3 * i + 2) (omega arith), nothing (suc (3 * i + 2)) (omega arith), nothing (suc (suc (3 * i + 2))) (omega arith), a) refl
+      rw (
+        drop-cons e (3 * i + 2) 0 (omega arith),
+        drop-cons e (suc (3 * i + 2)) 0 (omega arith),
+        drop-cons e (suc (suc (3 * i + 2))) 0 (omega arith),
+        nothing (3 * i + 2) (omega arith),
+        nothing (suc (3 * i + 2)) (omega arith),
+        nothing (suc (suc (3 * i + 2))) (omega arith),
+        a,
+      ) refl
 
   blank-places : (m i : ℕ) → i + m ≡ 20 → r .count ≤ i → wordsTo q r i ++ drop (3 * i + 2) e ≡ wordsTo q r 20 ++ drop 62 e
   unfolding wordsTo
@@ -94,7 +102,8 @@ module _ (q : ℕ) (r : Arrays) (h : Blank r) (e : List ℕ) (k : 62 ≤ length 
       ∙ ap (λ (l : List ℕ). wordsTo q r i ++ l ++ drop (3 * (i + 1) + 2) e) (sym (h .none i g))
       ∙ one-more (blank-places m (i + 1) (omega arith) (omega arith))
     where
-      one-more : wordsTo q r (i + 1) ++ drop (3 * (i + 1) + 2) e ≡ wordsTo q r 20 ++ drop 62 e → wordsTo q r i ++ laminationWords r i ++ drop (3 * (i + 1) + 2) e ≡ wordsTo q r 20 ++ drop 62 e
+      one-more : wordsTo q r (i + 1) ++ drop (3 * (i + 1) + 2) e ≡ wordsTo q r 20 ++ drop 62 e → wordsTo q r i ++ laminationWords r i
+          ++ drop (3 * (i + 1) + 2) e ≡ wordsTo q r 20 ++ drop 62 e
       one-more u = ap (λ (n : ℕ). wordsTo q r n ++ drop (3 * (i + 1) + 2) e) (sym (add-one i)) ∙ u
 
   -- and what it ends with
@@ -104,7 +113,8 @@ module _ (q : ℕ) (r : Arrays) (h : Blank r) (e : List ℕ) (k : 62 ≤ length 
 
 -- those of one place more
 pub next-words : (q : ℕ) (r : Arrays) (e : List ℕ) (i : ℕ) {w : List ℕ} → i < 20 → 62 ≤ length e → Wrote (wordsTo q r i) (begun q r e) (3 * i + 2) w
-    → Wrote (wordsTo q r (i + 1)) (begun q r e) (3 * (i + 1) + 2) (set (set (set w (3 * i + 2) (getD (r .from) i 0)) (3 * i + 2 + 1) (getD (r .to) i 0)) (3 * i + 2 + 2) (getD (r .cents) i 0))
+    → Wrote (wordsTo q r (i + 1)) (begun q r e) (3 * (i + 1) + 2)
+    (set (set (set w (3 * i + 2) (getD (r .from) i 0)) (3 * i + 2 + 1) (getD (r .to) i 0)) (3 * i + 2 + 2) (getD (r .cents) i 0))
 unfolding wordsTo
 next-words q r e i h k p =
     let l : 3 * (i + 1) + 2 ≡ 3 * i + 2 + 3 = omega arith in
@@ -112,7 +122,8 @@ next-words q r e i h k p =
     rw (l, add-one i) (three (wordsTo q r i) (begun q r e) (getD (r .from) i 0) (getD (r .to) i 0) (getD (r .cents) i 0) b p)
 
 -- the list is as long as it was
-pub wrote-length : (q : ℕ) (r : Arrays) (e : List ℕ) (i : ℕ) {w : List ℕ} → i ≤ 20 → 62 ≤ length e → Wrote (wordsTo q r i) (begun q r e) (3 * i + 2) w → length w ≡ length e
+pub wrote-length : (q : ℕ) (r : Arrays) (e : List ℕ) (i : ℕ) {w : List ℕ} → i ≤ 20 → 62 ≤ length e → Wrote (wordsTo q r i) (begun q r e) (3 * i + 2) w
+    → length w ≡ length e
 wrote-length q r e i h k (p, u) =
     rw (u, length-append, length-drop, length-set, length-set) (omega (arith, wordsTo-length q r i))
 
@@ -125,7 +136,8 @@ pub placed-length : (r : HourLevels) (e : List ℕ) {w : List ℕ} → 62 ≤ le
 placed-length r e h q = rw (q, length-append, length-drop) (omega (arith, wordsTo-length (r .profile) (arraysOf r) 20))
 
 -- the last four
-pub last-words : (r : HourLevels) (e : List ℕ) {b : ℕ} {w : List ℕ} → 66 ≤ length e → b ≡ heldBits (r .technology) → w ≡ wordsTo (r .profile) (arraysOf r) 20 ++ drop 62 e
+pub last-words : (r : HourLevels) (e : List ℕ) {b : ℕ} {w : List ℕ} → 66 ≤ length e → b ≡ heldBits (r .technology) → w ≡ wordsTo (r .profile) (arraysOf r) 20
+    ++ drop 62 e
     → set (set (set (set w 62 b) 63 (r .start)) 64 (r .noload)) 65 (r .reserve) ≡ wordsOf r ++ drop 66 e
 unfolding wordsOf
 last-words r e {b} {w} h f q =

@@ -17,7 +17,9 @@ rules-after-reading-requires-2 c κs =
     (p .0, p .1, p .2, scan-twins _ (p .0) ∙ sym (c .before .before .first-twin .ensures) ∙ c .enum-told .given .1)
 
 returns-3 : tie.Need-returns-3
-returns-3 c = unreadable _ _ _ (sym (c .before .number .given .1) ∙ c .before .before .before .first-twin .ensures ∙ sym (scan-twins _ (c .before .before .before .before .before .before .before .pre .0)))
+returns-3 c =
+    unreadable _ _ _ (sym (c .before .number .given .1) ∙ c .before .before .before .first-twin .ensures
+    ∙ sym (scan-twins _ (c .before .before .before .before .before .before .before .pre .0)))
 
 pub indexed-answer-spec : {M : Type 1} → statement M
 indexed-answer-spec =

@@ -23,13 +23,24 @@ judge-with-wider-index-requires c κs =
     (i .0 .clean, i .1)
 
 returns : tie.Need-returns
-returns c = (c .indexed-answer .ensures, λ _. c .before .before .before .before .before .before .before .before .scan .ensures .1 _ _ (c .before .before .before .before .rising .given .1) .0)
+returns c = (
+  c .indexed-answer .ensures,
+  λ _. c .before .before .before .before .before .before .before .before .scan .ensures .1 _ _
+      (c .before .before .before .before .rising .given .1) .0,
+)
 
 returns-2 : tie.Need-returns-2
-returns-2 c = (c .judge-with-wider-index .ensures, λ _. c .before .before .before .before .before .before .before .scan .ensures .1 _ _ (c .before .before .before .rising .given .1) .0)
+returns-2 c = (
+  c .judge-with-wider-index .ensures,
+  λ _. c .before .before .before .before .before .before .before .scan .ensures .1 _ _
+      (c .before .before .before .rising .given .1) .0,
+)
 
 returns-3 : tie.Need-returns-3
-returns-3 c = (unreadable _ _ _ (scan-stopped _ _ (sym (c .before .number .given .1) ∙ c .before .before .before .before .before .scan .ensures .0)), λ e. absurd (not-refused _ _ e))
+returns-3 c = (
+  unreadable _ _ _ (scan-stopped _ _ (sym (c .before .number .given .1) ∙ c .before .before .before .before .before .scan .ensures .0)),
+  λ e. absurd (not-refused _ _ e),
+)
 
 pub judge-spec : {M : Type 1} → statement M
 judge-spec =

@@ -13,22 +13,43 @@ use Rattle.acceptance.proofs.rules_after_reading.Statement.{statement}
 use Rattle.acceptance.proofs.rules_after_reading.Tie as tie
 
 returns : tie.Need-returns
-returns c = no-station (c .before .before .before .before .args .d .now) (c .before .before .before .before .pre .3) (none-there (records (c .before .before .before .before .args .d .now)) RS 0 (c .before .rs .ensures) (c .if1 .taken))
+returns c =
+    let a = c .before .before .before .before in
+    no-station (a .args .d .now) (a .pre .3) (none-there (records (a .args .d .now)) RS 0 (c .before .rs .ensures) (c .if1 .taken))
 
 unfit-of-requires : tie.Need-unfit-of-requires
-unfit-of-requires c κs = (c .before .before .before .before .before .pre .0, c .before .before .before .before .before .pre .1, c .before .before .before .before .before .pre .3, subst Known (sym (c .u8-at .ensures ∙ ap (number 6 1) (c .before .before .rs .ensures) ∙ sym (technology-at (records (c .before .before .before .before .before .args .d .now))))) (technology-known _ _ (c .before .before .before .before .before .pre .0) (one-there (records (c .before .before .before .before .before .args .d .now)) RS 0 (c .before .before .rs .ensures) (c .before .if1 .left))), (c .u8-at .ensures ∙ ap (number 6 1) (c .before .before .rs .ensures) ∙ sym (technology-at (records (c .before .before .before .before .before .args .d .now)))), c .before .before .rs .ensures, c .before .before .before .before .before .pre .2)
+unfit-of-requires c κs =
+    let a = c .before .before .before .before .before in (
+      a .pre .0,
+      a .pre .1,
+      a .pre .3,
+      subst Known (sym (c .u8-at .ensures ∙ ap (number 6 1) (c .before .before .rs .ensures)
+          ∙ sym (technology-at (records (a .args .d .now))))) (technology-known _ _ (a .pre .0)
+          (one-there (records (a .args .d .now)) RS 0 (c .before .before .rs .ensures) (c .before .if1 .left))),
+      (c .u8-at .ensures ∙ ap (number 6 1) (c .before .before .rs .ensures) ∙ sym (technology-at (records (a .args .d .now)))),
+      c .before .before .rs .ensures,
+      a .pre .2,
+    )
 
 enum-told : tie.Need-enum-told
 enum-told c = search needs
 
 unsupported-of-requires : tie.Need-unsupported-of-requires
-unsupported-of-requires c κs = (c .before .before .before .before .before .before .before .before .pre .0, c .before .before .before .before .before .before .before .before .pre .1)
+unsupported-of-requires c κs =
+    let a = c .before .before .before .before .before .before .before .before in
+    (a .pre .0, a .pre .1)
 
 returns-2 : tie.Need-returns-2
-returns-2 c = the-rest (c .before .before .before .before .before .before .before .before .before .args .d .now) (c .before .before .before .before .before .before .before .before .before .pre .3) (one-there (records (c .before .before .before .before .before .before .before .before .before .args .d .now)) RS 0 (c .before .before .before .before .before .before .rs .ensures) (c .before .before .before .before .before .if1 .left)) (sym (c .before .enum-told .given .1) ∙ c .before .before .before .unfit-of .ensures ∙ ap (λ (t : ℕ). unfit t (records (c .before .before .before .before .before .before .before .before .before .args .d .now))) (c .before .before .before .before .u8-at .ensures ∙ ap (number 6 1) (c .before .before .before .before .before .before .rs .ensures) ∙ sym (technology-at (records (c .before .before .before .before .before .before .before .before .before .args .d .now))))) (c .unsupported-of .ensures)
+returns-2 c =
+    let a = c .before .before .before .before .before .before .before .before .before in
+    let p = c .before .before .before .before .before .before in
+    the-rest (a .args .d .now) (a .pre .3) (one-there (records (a .args .d .now)) RS 0 (p .rs .ensures) (c .before .before .before .before .before .if1 .left)) (sym (c .before .enum-told .given .1) ∙ c .before .before .before .unfit-of .ensures ∙ ap (λ (t : ℕ). unfit t (records (a .args .d .now))) (c .before .before .before .before .u8-at .ensures ∙ ap (number 6 1) (p .rs .ensures) ∙ sym (technology-at (records (a .args .d .now))))) (c .unsupported-of .ensures)
 
 returns-3 : tie.Need-returns-3
-returns-3 c = draws-6 (c .before .before .before .before .before .before .before .before .before .args .d .now) (c .before .before .before .before .before .before .before .before .before .pre .3) (one-there (records (c .before .before .before .before .before .before .before .before .before .args .d .now)) RS 0 (c .before .before .before .before .before .before .rs .ensures) (c .before .before .before .before .before .if1 .left)) _ _ (sym (c .before .number .given .1) ∙ c .before .before .before .unfit-of .ensures ∙ ap (λ (t : ℕ). unfit t (records (c .before .before .before .before .before .before .before .before .before .args .d .now))) (c .before .before .before .before .u8-at .ensures ∙ ap (number 6 1) (c .before .before .before .before .before .before .rs .ensures) ∙ sym (technology-at (records (c .before .before .before .before .before .before .before .before .before .args .d .now)))))
+returns-3 c =
+    let a = c .before .before .before .before .before .before .before .before .before in
+    let p = c .before .before .before .before .before .before in
+    draws-6 (a .args .d .now) (a .pre .3) (one-there (records (a .args .d .now)) RS 0 (p .rs .ensures) (c .before .before .before .before .before .if1 .left)) _ _ (sym (c .before .number .given .1) ∙ c .before .before .before .unfit-of .ensures ∙ ap (λ (t : ℕ). unfit t (records (a .args .d .now))) (c .before .before .before .before .u8-at .ensures ∙ ap (number 6 1) (p .rs .ensures) ∙ sym (technology-at (records (a .args .d .now)))))
 
 pub rules-after-reading-spec : {M : Type 1} → statement M
 rules-after-reading-spec =

@@ -8,10 +8,14 @@ enum-told : tie.Need-enum-told
 enum-told c = search needs
 
 returns : tie.Need-returns
-returns c = (words-code (sym (c .before .before .before .before .levels-words .ensures .0) ∙ c .enum-told .given .1), c .before .before .before .before .levels-words .ensures .1)
+returns c =
+    let a = c .before .before .before .before in
+    (words-code (sym (a .levels-words .ensures .0) ∙ c .enum-told .given .1), a .levels-words .ensures .1)
 
 returns-2 : tie.Need-returns-2
-returns-2 c = (wordless-code (c .code .ensures) (sym (c .before .before .before .before .before .before .levels-words .ensures .0) ∙ c .before .before .number .given .1), c .before .before .before .before .before .before .levels-words .ensures .1)
+returns-2 c =
+    let a = c .before .before .before .before .before .before in
+    (wordless-code (c .code .ensures) (sym (a .levels-words .ensures .0) ∙ c .before .before .number .given .1), a .levels-words .ensures .1)
 
 pub bench-levels-spec : {M : Type 1} → statement M
 bench-levels-spec =

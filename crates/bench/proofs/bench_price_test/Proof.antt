@@ -10,13 +10,19 @@ enum-told : tie.Need-enum-told
 enum-told c = search needs
 
 returns : tie.Need-returns
-returns c = passes-code (sym (c .before .before .price-test .ensures ∙ ap (onPrice _ _ _ _) (toZ-ofZ (c .before .before .before .before .fits .price))) ∙ c .enum-told .given .1)
+returns c =
+    passes-code (sym (c .before .before .price-test .ensures ∙ ap (onPrice _ _ _ _) (toZ-ofZ (c .before .before .before .before .fits .price)))
+    ∙ c .enum-told .given .1)
 
 returns-2 : tie.Need-returns-2
-returns-2 c = fails-code (c .code .ensures) (sym (c .before .before .before .before .price-test .ensures ∙ ap (onPrice _ _ _ _) (toZ-ofZ (c .before .before .before .before .before .before .fits .price))) ∙ c .before .before .pair .given .1)
+returns-2 c =
+    fails-code (c .code .ensures) (sym (c .before .before .before .before .price-test .ensures
+    ∙ ap (onPrice _ _ _ _) (toZ-ofZ (c .before .before .before .before .before .before .fits .price))) ∙ c .before .before .pair .given .1)
 
 returns-3 : tie.Need-returns-3
-returns-3 c = turned-code (c .code2 .ensures) (sym (c .before .before .before .before .price-test .ensures ∙ ap (onPrice _ _ _ _) (toZ-ofZ (c .before .before .before .before .before .before .fits .price))) ∙ c .before .before .number .given .1)
+returns-3 c =
+    turned-code (c .code2 .ensures) (sym (c .before .before .before .before .price-test .ensures
+    ∙ ap (onPrice _ _ _ _) (toZ-ofZ (c .before .before .before .before .before .before .fits .price))) ∙ c .before .before .number .given .1)
 
 pub bench-price-test-spec : {M : Type 1} → statement M
 bench-price-test-spec =

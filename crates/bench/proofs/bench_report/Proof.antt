@@ -5,10 +5,14 @@ use Rattle.bench.proofs.bench_report.Statement.{statement}
 use Rattle.bench.proofs.bench_report.Tie as tie
 
 returns : tie.Need-returns
-returns c = (bytes-code (c .code .ensures) (sym (c .before .before .before .before .before .before .report .ensures .0) ∙ c .before .before .n .given .1), c .before .before .before .before .before .before .report .ensures .1)
+returns c =
+    let a = c .before .before .before .before .before .before in
+    (bytes-code (c .code .ensures) (sym (a .report .ensures .0) ∙ c .before .before .n .given .1), a .report .ensures .1)
 
 returns-2 : tie.Need-returns-2
-returns-2 c = (unwritten-code (c .code2 .ensures) (sym (c .before .before .before .before .before .before .report .ensures .0) ∙ c .before .before .number .given .1), c .before .before .before .before .before .before .report .ensures .1)
+returns-2 c =
+    let a = c .before .before .before .before .before .before in
+    (unwritten-code (c .code2 .ensures) (sym (a .report .ensures .0) ∙ c .before .before .number .given .1), a .report .ensures .1)
 
 pub bench-report-spec : {M : Type 1} → statement M
 bench-report-spec =

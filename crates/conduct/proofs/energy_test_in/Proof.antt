@@ -17,7 +17,11 @@ returns : tie.Need-returns
 returns c = on-offer-refused _ _ _ _ (sym (c .before .before .before .before .before .judge .ensures .0) ∙ c .before .number .given .1)
 
 returns-2 : tie.Need-returns-2
-returns-2 c = on-offer _ _ _ _ (record { clean = sym (c .before .before .before .before .before .before .judge .ensures .0) ∙ c .before .before .enum-told .given .1 }) (c .offer-verdict .ensures)
+returns-2 c =
+    on-offer _ _ _ _ (record {
+      clean =
+          sym (c .before .before .before .before .before .before .judge .ensures .0) ∙ c .before .before .enum-told .given .1;
+    }) (c .offer-verdict .ensures)
 
 pub energy-test-in-spec : {M : Type 1} → statement M
 energy-test-in-spec =

@@ -14,7 +14,8 @@ use borrow.Author.Needs.{needs}
 use Rattle.conduct.proofs.offer_verdict.Statement.{statement}
 use Rattle.conduct.proofs.offer_verdict.Tie as tie
 
-no-refusal : (c : tie.After-enum-told) → offerRefusal (parameters (records (c .before .before .before .before .before .before .args .d .now))) (c .before .before .before .before .before .before .args .condition) (c .before .before .before .before .before .before .args .offer .now) ≡ Accepted
+no-refusal : (c : tie.After-enum-told) → offerRefusal (parameters (records (c .before .before .before .before .before .before .args .d .now)))
+    (c .before .before .before .before .before .before .args .condition) (c .before .before .before .before .before .before .args .offer .now) ≡ Accepted
 no-refusal c = sym (c .before .before .offer-refusal .ensures) ∙ c .enum-told .given .1
 
 enum-told : tie.Need-enum-told
@@ -22,26 +23,37 @@ enum-told c = search needs
 
 threshold-of-requires : tie.Need-threshold-of-requires
 threshold-of-requires c κs =
-    let q = offer-accepted _ _ _ (no-refusal (c .before .before .before .before .before .before .before)) in
-    (c .before .before .before .before .before .before .before .before .before .before .before .before .before .pre .0, q .0, q .1, search needs, search needs)
+    let q = offer-accepted _ _ _ (no-refusal (c .before .before .before .before .before .before .before)) in (
+      c .before .before .before .before .before .before .before .before .before .before .before .before .before .pre .0,
+      q .0,
+      q .1,
+      search needs,
+      search needs,
+    )
 
 rising-offer-test-requires : tie.Need-rising-offer-test-requires
 rising-offer-test-requires c κs =
     let a = c .before .before .before .before .before .before .before .before .before .before .before .before .before .before .before .before .before .args in
-    let z = no-refusal (c .before .before .before .before .before .before .before .before .before .before .before) in
-    (handed-count (a .d .now) (a .hour) _ (c .before .before .before .before .before .before .before .hour-levels .ensures), offer-accepted _ _ _ z .2, last-highest (a .offer .now) (length (a .offer .now) / 6) (offer-formed _ _ (a .offer .now) z))
+    let z = no-refusal (c .before .before .before .before .before .before .before .before .before .before .before) in (
+      handed-count (a .d .now) (a .hour) _ (c .before .before .before .before .before .before .before .hour-levels .ensures),
+      offer-accepted _ _ _ z .2,
+      last-highest (a .offer .now) (length (a .offer .now) / 6) (offer-formed _ _ (a .offer .now) z),
+    )
 
 returns : tie.Need-returns
 returns c =
     let a = c .before .before .before .before .before .before .before .args in
-    offer-refused (parameters (records (a .d .now))) (a .condition) (levels (a .d .now) (a .hour)) (a .offer .now) (sym (c .before .before .before .offer-refusal .ensures) ∙ c .before .number .given .1)
+    offer-refused (parameters (records (a .d .now))) (a .condition) (levels (a .d .now) (a .hour)) (a .offer .now)
+    (sym (c .before .before .before .offer-refusal .ensures) ∙ c .before .number .given .1)
 
 returns-2 : tie.Need-returns-2
 returns-2 c =
     let h = c .before .before .before .before .before .before .before .before in
     let a = h .before .before .before .before .before .before .before .before .before .before .args in
-    offer-tested (parameters (records (a .d .now))) (a .condition) (levels (a .d .now) (a .hour)) (a .offer .now) _ (c .before .before .before .before .threshold-of .result)
-    (no-refusal (h .before .before .before .before)) (handed-shown (a .d .now) (a .hour) _ (h .hour-levels .ensures)) (c .before .before .before .before .threshold-of .ensures) (c .rising-offer-test .ensures)
+    offer-tested (parameters (records (a .d .now))) (a .condition) (levels (a .d .now) (a .hour)) (a .offer .now) _
+    (c .before .before .before .before .threshold-of .result)
+    (no-refusal (h .before .before .before .before)) (handed-shown (a .d .now) (a .hour) _ (h .hour-levels .ensures))
+    (c .before .before .before .before .threshold-of .ensures) (c .rising-offer-test .ensures)
 
 pub offer-verdict-spec : {M : Type 1} → statement M
 offer-verdict-spec =

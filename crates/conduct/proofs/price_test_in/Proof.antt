@@ -20,7 +20,14 @@ returns : tie.Need-returns
 returns c = on-price-refused _ _ _ _ _ (sym (c .before .before .before .before .before .judge .ensures .0) ∙ c .before .number .given .1)
 
 returns-2 : tie.Need-returns-2
-returns-2 c = on-price _ _ _ _ _ (record { clean = sym (c .before .before .before .before .before .before .before .judge .ensures .0) ∙ c .before .before .before .enum-told .given .1 }) (c .price-verdict .ensures ∙ ap (priceVerdict _ _ _ _) (c .before .biased .ensures .0 ∙ ap biasedOf (toZ-ofZ (c .before .before .before .before .before .before .before .before .before .before .before .fits .price))))
+returns-2 c =
+    on-price _ _ _ _ _ (record {
+      clean =
+          sym (c .before .before .before .before .before .before .before .judge .ensures .0) ∙ c .before .before .before .enum-told .given .1;
+    })
+    (c .price-verdict .ensures ∙ ap (priceVerdict _ _ _ _)
+    (c .before .biased .ensures .0 ∙ ap biasedOf (toZ-ofZ
+    (c .before .before .before .before .before .before .before .before .before .before .before .fits .price))))
 
 pub price-test-in-spec : {M : Type 1} → statement M
 price-test-in-spec =

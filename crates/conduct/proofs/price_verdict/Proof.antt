@@ -11,7 +11,8 @@ use borrow.Author.Needs.{needs}
 use Rattle.conduct.proofs.price_verdict.Statement.{statement}
 use Rattle.conduct.proofs.price_verdict.Tie as tie
 
-no-refusal : (c : tie.After-enum-told) → priceRefusal (parameters (records (c .before .before .before .before .before .args .d .now))) (c .before .before .before .before .before .args .level) (c .before .before .before .before .before .args .condition) ≡ Accepted
+no-refusal : (c : tie.After-enum-told) → priceRefusal (parameters (records (c .before .before .before .before .before .args .d .now)))
+    (c .before .before .before .before .before .args .level) (c .before .before .before .before .before .args .condition) ≡ Accepted
 no-refusal c = sym (c .before .before .price-refusal .ensures) ∙ c .enum-told .given .1
 
 enum-told : tie.Need-enum-told
@@ -30,7 +31,8 @@ threshold-of-requires c κs =
 returns : tie.Need-returns
 returns c =
     let a = c .before .before .before .before .before .before .args in
-    price-refused (parameters (records (a .d .now))) (a .level) (a .condition) (levels (a .d .now) (a .hour)) (a .price) (sym (c .before .before .before .price-refusal .ensures) ∙ c .before .number .given .1)
+    price-refused (parameters (records (a .d .now))) (a .level) (a .condition) (levels (a .d .now) (a .hour)) (a .price)
+    (sym (c .before .before .before .price-refusal .ensures) ∙ c .before .number .given .1)
 
 returns-2 : tie.Need-returns-2
 returns-2 c =

@@ -8,7 +8,8 @@ use borrow.Author.Needs.{needs}
 use Rattle.conduct.proofs.threshold_of.Statement.{statement}
 use Rattle.conduct.proofs.threshold_of.Tie as tie
 
-threshold-is : {p m f q n g : ℕ} → p ≡ q → m ≡ n → f ≡ g → _≡_ {A = Threshold} (record { percent = p; margin = m; floor = f }) (record { percent = q; margin = n; floor = g })
+threshold-is : {p m f q n g : ℕ} → p ≡ q → m ≡ n → f ≡ g
+    → _≡_ {A = Threshold} (record { percent = p; margin = m; floor = f }) (record { percent = q; margin = n; floor = g })
 threshold-is x y z = rw (x, y, z) refl
 
 returns : tie.Need-returns

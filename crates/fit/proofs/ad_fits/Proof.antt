@@ -4,7 +4,8 @@ use Rattle.fit.proofs.ad_fits.Statement.{statement}
 use Rattle.fit.proofs.ad_fits.Tie as tie
 
 returns : tie.Need-returns
-returns c = simp (c .u8-at2 .ensures, c .before .level-held .ensures, c .before .before .u8-at .ensures) (fits-ad _ _ (c .before .before .before .before .pre))
+returns c =
+    simp (c .u8-at2 .ensures, c .before .level-held .ensures, c .before .before .u8-at .ensures) (fits-ad _ _ (c .before .before .before .before .pre))
 
 pub ad-fits-spec : {M : Type 1} → statement M
 ad-fits-spec = tie.close (tie.spec (λ c κs. search needs) (λ c κs. search needs) (λ c κs. search needs) returns)

@@ -13,7 +13,17 @@ unfolding allTo
 returns-2 c =
     let a = c .before .before .before .before .before .before .before .before .before .before .before .before .before .args in
     by-slots (a .t) (a .d .now) (a .index .now) (a .rs .now) (a .top) (c .before .before .before .before .before .before .before .before .before .if1 .left)
-    (rw (c .priced-fit .ensures, c .before .prorated-fit .ensures, c .before .before .level-fits4 .ensures, c .before .before .before .level-fits3 .ensures, c .before .before .before .before .level-fits2 .ensures, c .before .before .before .before .before .level-fits .ensures, c .before .before .before .before .before .before .profiles-fit .ensures, c .before .before .before .before .before .before .before .points-fit .ensures, c .before .before .before .before .before .before .before .before .station-fits .ensures) refl)
+    (rw (
+      c .priced-fit .ensures,
+      c .before .prorated-fit .ensures,
+      c .before .before .level-fits4 .ensures,
+      c .before .before .before .level-fits3 .ensures,
+      c .before .before .before .before .level-fits2 .ensures,
+      c .before .before .before .before .before .level-fits .ensures,
+      c .before .before .before .before .before .before .profiles-fit .ensures,
+      c .before .before .before .before .before .before .before .points-fit .ensures,
+      c .before .before .before .before .before .before .before .before .station-fits .ensures,
+    ) refl)
 
 pub all-fit-spec : {M : Type 1} → statement M
 all-fit-spec =

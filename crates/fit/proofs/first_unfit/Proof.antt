@@ -43,22 +43,32 @@ its-fit c = ap (λ (x : Tried). x .fits) (c .tried-at .ensures)
 
 -- it lies within the dossier
 its : (c : Turn) → (1 ≤ c .tried-at .result .len) × (c .tried-at .result .len ≤ length (d-of c) - At c .loop .at)
-its c = its-length (St c .args .t) (d-of c) (St c .args .index .now) (St c .pre .0) (At c .loop .at) (c .before .before .loop-test .taken) (At c .loop .inv .1) (its-size c)
+its c =
+    its-length (St c .args .t) (d-of c) (St c .args .index .now) (St c .pre .0) (At c .loop .at) (c .before .before .loop-test .taken) (At c .loop .inv .1)
+    (its-size c)
 
 loop-holds : tie.Need-loop-holds Inv-loop μ-loop
-loop-holds c = (omega arith, begin (c .before .before .args .t) (c .before .before .args .d .now) (c .before .before .args .index .now) (c .before .before .pre .0) (c .before .before .pre .1))
+loop-holds c = (
+  omega arith,
+  begin (c .before .before .args .t) (c .before .before .args .d .now) (c .before .before .args .index .now) (c .before .before .pre .0)
+      (c .before .before .pre .1),
+)
 
 tried-at-requires : tie.Need-tried-at-requires Inv-loop μ-loop
 tried-at-requires c κs = c .before .before .before .before .before .pre .2
 
 not-fit-requires : tie.Need-not-fit-requires Inv-loop μ-loop
-not-fit-requires c κs =
-    (slot-below (St c .args .t) (d-of c) (St c .args .index .now) (St c .pre .0) (At c .loop .at) (c .before .before .loop-test .taken) (At c .loop .inv .1) (its-size c), omega (arith, its c, its-size c, St c .pre .0 .short))
+not-fit-requires c κs = (
+  slot-below (St c .args .t) (d-of c) (St c .args .index .now) (St c .pre .0) (At c .loop .at) (c .before .before .loop-test .taken) (At c .loop .inv .1)
+      (its-size c),
+  omega (arith, its c, its-size c, St c .pre .0 .short),
+)
 
 returns : tie.Need-returns Inv-loop μ-loop
 returns c =
     let u = c .before .before in
-    refuses (St u .args .t) (d-of u) (St u .args .index .now) (St u .pre .0) (At u .loop .at) (u .before .before .loop-test .taken) (At u .loop .inv .1) (its-size u) (its-fit u) (c .before .not-fit .ensures) (c .if1 .taken)
+    refuses (St u .args .t) (d-of u) (St u .args .index .now) (St u .pre .0) (At u .loop .at) (u .before .before .loop-test .taken) (At u .loop .inv .1)
+    (its-size u) (its-fit u) (c .before .not-fit .ensures) (c .if1 .taken)
 
 add-at : tie.Need-add-at Inv-loop μ-loop
 add-at c = omega (arith, its (c .before .before .before))
@@ -68,11 +78,16 @@ loop-less c = omega (arith, its (c .before .before .before))
 
 loop-again : tie.Need-loop-again Inv-loop μ-loop
 loop-again c =
-    let u = c .before .before .before in
-    (omega (arith, its u), goes-on (St u .args .t) (d-of u) (St u .args .index .now) (St u .pre .0) (At u .loop .at) (u .before .before .loop-test .taken) (At u .loop .inv .1) (its-size u) (its-fit u) (c .before .before .not-fit .ensures) (c .before .if1 .left))
+    let u = c .before .before .before in (
+      omega (arith, its u),
+      goes-on (St u .args .t) (d-of u) (St u .args .index .now) (St u .pre .0) (At u .loop .at) (u .before .before .loop-test .taken)
+          (At u .loop .inv .1) (its-size u) (its-fit u) (c .before .before .not-fit .ensures) (c .before .if1 .left),
+    )
 
 returns-2 : tie.Need-returns-2 Inv-loop μ-loop
-returns-2 c = let a = c .before .before .before .before .args in finish (a .t) (a .d .now) (a .index .now) (c .before .loop .at) (c .loop-test .left) (c .before .loop .inv .1)
+returns-2 c =
+    let a = c .before .before .before .before .args in finish (a .t) (a .d .now) (a .index .now) (c .before .loop .at) (c .loop-test .left)
+    (c .before .loop .inv .1)
 
 pub first-unfit-spec : {M : Type 1} → statement M
 first-unfit-spec =

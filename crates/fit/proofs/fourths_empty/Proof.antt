@@ -19,7 +19,12 @@ loop-holds : tie.Need-loop-holds Inv-loop μ-loop
 loop-holds c = (omega arith, unfold fourthsEmpty allBelow in refl)
 
 loop-again : tie.Need-loop-again Inv-loop μ-loop
-loop-again c = (omega arith, fourths-next (c .before .before .before .args .index .now) (c .before .before .before .args .j) (c .before .before .loop .i) (c .before .before .loop .any) (c .before .before .loop .inv .1))
+loop-again c =
+    let a = c .before .before .before in (
+      omega arith,
+      fourths-next (a .args .index .now) (a .args .j) (c .before .before .loop .i) (c .before .before .loop .any)
+          (c .before .before .loop .inv .1),
+    )
 
 returns : tie.Need-returns Inv-loop μ-loop
 returns c = c .before .loop .inv .1 ∙ ap (fourthsEmpty (c .before .before .args .index .now) (c .before .before .args .j)) (omega arith)

@@ -29,7 +29,8 @@ returns : tie.Need-returns Inv-loop μ-loop
 returns c =
     let a = c .before .before .before .before .before .args in
     let q = c .before .before .before .before .before .pre in
-    no-items (a .t) (a .d .now) (a .index .now) (a .p) (q .1) (q .0) (q .2) (q .3) (c .before .before .slot-mm .ensures) (sym (c .before .slots-empty .ensures) ∙ c .if1 .taken)
+    no-items (a .t) (a .d .now) (a .index .now) (a .p) (q .1) (q .0) (q .2) (q .3) (c .before .before .slot-mm .ensures)
+    (sym (c .before .slots-empty .ensures) ∙ c .if1 .taken)
 
 loop-holds : tie.Need-loop-holds Inv-loop μ-loop
 loop-holds c = (omega arith, unfold allTo in refl)
@@ -43,8 +44,12 @@ mm-fits-requires c κs = c .before .before .before .before .before .before .befo
 loop-again : tie.Need-loop-again Inv-loop μ-loop
 loop-again c =
     let a = c .before .before .before .before .before .before .before .before .before .args in
-    let l = c .before .before .before .loop in
-    (omega arith, to-next (l .j) (λ i. fits (a .t) 5 (current MM (a .p * 256 + i) (records (a .d .now)))) (l .inv .1) (c .mm-fits .ensures ∙ ap (fits (a .t) 5) (c .before .mm .ensures ∙ current-held (c .before .before .before .before .before .before .before .before .before .pre .0) 5 _)))
+    let l = c .before .before .before .loop in (
+      omega arith,
+      to-next (l .j) (λ i. fits (a .t) 5 (current MM (a .p * 256 + i) (records (a .d .now)))) (l .inv .1)
+          (c .mm-fits .ensures ∙ ap (fits (a .t) 5) (c .before .mm .ensures
+          ∙ current-held (c .before .before .before .before .before .before .before .before .before .pre .0) 5 _)),
+    )
 
 returns-2 : tie.Need-returns-2 Inv-loop μ-loop
 unfolding itemsFit

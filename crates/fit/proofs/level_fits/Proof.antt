@@ -10,7 +10,9 @@ returns c = rw (sym (c .before .level-held .ensures) ∙ c .if1 .taken) refl
 
 returns-2 : tie.Need-returns-2
 unfolding levelFits
-returns-2 c = rw (sym (c .before .before .before .level-held .ensures) ∙ c .before .before .if1 .left, c .fourths-empty2 .ensures, c .before .fourths-empty .ensures) refl
+returns-2 c =
+    rw (sym (c .before .before .before .level-held .ensures) ∙ c .before .before .if1 .left, c .fourths-empty2 .ensures, c .before .fourths-empty .ensures)
+    refl
 
 pub level-fits-spec : {M : Type 1} → statement M
 level-fits-spec =

@@ -33,7 +33,9 @@ returns-2 c =
     let a = c .before .before .before .before .before .before .before .before .before .before .before .args in
     let k = c .before .before .before .before .before .before .kind-at .ensures in
     let m = c .before .before .before .before .before .mark-shape .ensures in
-    unfit-current (a .d .now) (a .index .now) (a .s .now) (a .fits) (c .before .before .before .before .before .before .before .if1 .left) (slot-here _ k m (c .before .before .before .before .key-at .ensures .0) (c .before .before .before .slot-of .ensures)) (shape-size _ m ∙ ap size k) (c .before .before .part-at .ensures) (c .before .u32-at .ensures) (c .u32-at2 .ensures)
+    unfit-current (a .d .now) (a .index .now) (a .s .now) (a .fits) (c .before .before .before .before .before .before .before .if1 .left)
+    (slot-here _ k m (c .before .before .before .before .key-at .ensures .0) (c .before .before .before .slot-of .ensures)) (shape-size _ m ∙ ap size k)
+    (c .before .before .part-at .ensures) (c .before .u32-at .ensures) (c .u32-at2 .ensures)
 
 pub not-fit-spec : {M : Type 1} → statement M
 not-fit-spec =

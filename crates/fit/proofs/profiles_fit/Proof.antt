@@ -42,7 +42,9 @@ loop-again c =
     let l = c .before .before .before .before .loop in (
       omega arith,
       to-next (l .p) (λ p. fits (a .t) 3 (current FU p (records (a .d .now))) && itemsFit (a .t) (a .d .now) p) (l .inv .1)
-          (ap₂ (λ (x y : Bool). x && y) (c .before .fu-fits .ensures ∙ ap (fits (a .t) 3) (c .before .before .fu .ensures ∙ current-held (c .before .before .before .before .before .before .before .before .pre .0) 3 _)) (c .items-fit .ensures)),
+          (ap₂ (λ (x y : Bool). x && y) (c .before .fu-fits .ensures
+          ∙ ap (fits (a .t) 3) (c .before .before .fu .ensures
+          ∙ current-held (c .before .before .before .before .before .before .before .before .pre .0) 3 _)) (c .items-fit .ensures)),
     )
 
 returns-2 : tie.Need-returns-2 Inv-loop μ-loop
@@ -50,7 +52,8 @@ unfolding profilesFit
 returns-2 c =
     let a = c .before .before .before .before .before .args in
     let l = c .before .loop in
-    rw (ne-eqb _ 1 (c .before .before .if1 .left)) (l .inv .1 ∙ ap (λ (n : ℕ). allTo n (λ p. fits (a .t) 3 (current FU p (records (a .d .now))) && itemsFit (a .t) (a .d .now) p)) (omega arith))
+    rw (ne-eqb _ 1 (c .before .before .if1 .left)) (l .inv .1 ∙ ap (λ (n : ℕ). allTo n
+    (λ p. fits (a .t) 3 (current FU p (records (a .d .now))) && itemsFit (a .t) (a .d .now) p)) (omega arith))
 
 pub profiles-fit-spec : {M : Type 1} → statement M
 profiles-fit-spec =

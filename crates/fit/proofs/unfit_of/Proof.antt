@@ -11,7 +11,8 @@ returns : tie.Need-returns
 returns c =
     let a = c .before .before .before .before .before .before .args in
     let p = c .before .before .before .before .before .before .pre in
-    slots-accepted (a .t) (a .d .now) (a .index .now) (a .rs .now) (a .top) (p .3) (p .5) (sym (c .before .all-fit .ensures) ∙ c .if2 .taken) (p .0) (p .1) (p .6) (readable-distinct _ (p .2)) (p .4)
+    slots-accepted (a .t) (a .d .now) (a .index .now) (a .rs .now) (a .top) (p .3) (p .5) (sym (c .before .all-fit .ensures) ∙ c .if2 .taken) (p .0) (p .1)
+    (p .6) (readable-distinct _ (p .2)) (p .4)
 
 pub unfit-of-spec : {M : Type 1} → statement M
 unfit-of-spec = tie.close (tie.spec all-fit-requires returns (λ c κs. search needs) (λ c. search needs))

@@ -17,7 +17,12 @@ returns c = simp (c .if1 .taken)
 u32-at-requires : tie.Need-u32-at-requires
 u32-at-requires c κs =
     let a = c .before .before .args in
-    omega (arith, c .before .before .pre, ltb-false (length (a .d .now)) (a .v + 5) (or-false-right (eqb (a .v) 0) (ltb (length (a .d .now)) (a .v + 5)) (c .if1 .left)))
+    omega (
+      arith,
+      c .before .before .pre,
+      ltb-false (length (a .d .now)) (a .v + 5)
+          (or-false-right (eqb (a .v) 0) (ltb (length (a .d .now)) (a .v + 5)) (c .if1 .left)),
+    )
 
 returns-2 : tie.Need-returns-2
 unfolding heldIssue

@@ -27,7 +27,9 @@ loop-holds : tie.Need-loop-holds Inv-loop μ-loop
 loop-holds c = (omega arith, unfold slotsEmpty allBelow in refl)
 
 loop-again : tie.Need-loop-again Inv-loop μ-loop
-loop-again c = (omega arith, empty-next (c .before .before .before .args .index .now) (c .before .before .before .args .j) (c .before .before .loop .i) (c .before .before .loop .any) (c .before .before .loop .inv .1))
+loop-again c =
+    let a = c .before .before .before in
+    (omega arith, empty-next (a .args .index .now) (a .args .j) (c .before .before .loop .i) (c .before .before .loop .any) (c .before .before .loop .inv .1))
 
 returns : tie.Need-returns Inv-loop μ-loop
 returns c = c .before .loop .inv .1 ∙ ap (slotsEmpty (c .before .before .args .index .now) (c .before .before .args .j)) (omega arith)

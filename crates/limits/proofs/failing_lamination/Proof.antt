@@ -19,7 +19,8 @@ abbrev μ-loop : tie.MeasureT-loop
 returns : tie.Need-returns Inv-loop μ-loop
 returns c =
     let a = c .before .before .args in
-    least-passes (a .t) (a .pair) (a .from .now) (a .to .now) (a .cents .now) (a .least) (sym (c .before .fails .ensures) ∙ not-true _ (c .if1 .taken)) (a .count) (c .before .before .pre .1)
+    least-passes (a .t) (a .pair) (a .from .now) (a .to .now) (a .cents .now) (a .least) (sym (c .before .fails .ensures) ∙ not-true _ (c .if1 .taken))
+    (a .count) (c .before .before .pre .1)
 
 loop-holds : tie.Need-loop-holds Inv-loop μ-loop
 loop-holds c = (omega arith, all-left (firstFailing _ _ _ _ _ 0) _)
@@ -28,7 +29,8 @@ returns-2 : tie.Need-returns-2 Inv-loop μ-loop
 returns-2 c =
     let i = c .before .before .before .before .before .before .loop in
     let a = c .before .before .before .before .before .before .before .before .before .args in
-    lamination-stop (a .t) (a .pair) (a .from .now) (a .to .now) (a .cents .now) (a .count) (i .i) (c .before .before .before .before .before .loop-test .taken) (sym (c .before .fails-in .ensures) ∙ c .if2 .taken)
+    lamination-stop (a .t) (a .pair) (a .from .now) (a .to .now) (a .cents .now) (a .count) (i .i)
+    (c .before .before .before .before .before .loop-test .taken) (sym (c .before .fails-in .ensures) ∙ c .if2 .taken)
     ∙ i .inv .1
 
 loop-again : tie.Need-loop-again Inv-loop μ-loop
@@ -36,7 +38,8 @@ loop-again c =
     let i = c .before .before .before .before .before .before .loop in
     let a = c .before .before .before .before .before .before .before .before .before .args in (
       omega arith,
-      lamination-next (a .t) (a .pair) (a .from .now) (a .to .now) (a .cents .now) (a .count) (i .i) (c .before .before .before .before .before .loop-test .taken) (sym (c .before .fails-in .ensures) ∙ c .if2 .left)
+      lamination-next (a .t) (a .pair) (a .from .now) (a .to .now) (a .cents .now) (a .count) (i .i)
+          (c .before .before .before .before .before .loop-test .taken) (sym (c .before .fails-in .ensures) ∙ c .if2 .left)
           ∙ i .inv .1,
     )
 

@@ -32,7 +32,8 @@ returns c =
     let i = c .before .before .before .before .before .loop in
     let s = c .before .before .before .before .before .before .before .before in
     let o = s .args .offer .now in
-    pair-stop (s .args .t) (lv-of s) o (length o / 6) (i .k) _ _ (c .before .before .before .before .loop-test .taken) (i .inv .2) (c .before .before .before .quantity-at .ensures) (c .before .before .price-at .ensures .0) (c .before .failing-lamination .ensures) (c .if1 .taken)
+    pair-stop (s .args .t) (lv-of s) o (length o / 6) (i .k) _ _ (c .before .before .before .before .loop-test .taken) (i .inv .2)
+    (c .before .before .before .quantity-at .ensures) (c .before .before .price-at .ensures .0) (c .before .failing-lamination .ensures) (c .if1 .taken)
     ∙ i .inv .3
 
 loop-again : tie.Need-loop-again Inv-loop μ-loop
@@ -43,7 +44,8 @@ loop-again c =
       omega arith,
       omega arith,
       c .before .before .before .quantity-at .ensures ∙ before-next o (i .k),
-      pair-next (s .args .t) (lv-of s) o (length o / 6) (i .k) _ _ (c .before .before .before .before .loop-test .taken) (i .inv .2) (c .before .before .before .quantity-at .ensures) (c .before .before .price-at .ensures .0) (c .before .failing-lamination .ensures) (c .if1 .left)
+      pair-next (s .args .t) (lv-of s) o (length o / 6) (i .k) _ _ (c .before .before .before .before .loop-test .taken) (i .inv .2)
+          (c .before .before .before .quantity-at .ensures) (c .before .before .price-at .ensures .0) (c .before .failing-lamination .ensures) (c .if1 .left)
           ∙ i .inv .3,
     )
 

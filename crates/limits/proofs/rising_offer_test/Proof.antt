@@ -25,7 +25,8 @@ returns-3 c =
     let o = b .args .offer .now in
     let r = inArrays (b .args .from .now) (b .args .to .now) (b .args .cents .now) (b .args .count) in
     let e : failsAt (b .args .t) (priceAt o (length o / 6 - 1)) (leastOf (r .cents) (r .count)) ≡ false =
-    ap₂ (λ (p x : ℕ). failsAt (b .args .t) p x) (sym (c .before .before .price-at .ensures .0)) (sym (c .before .before .before .least-level .ensures)) ∙ sym (c .before .fails .ensures) ∙ c .if2 .left
+    ap₂ (λ (p x : ℕ). failsAt (b .args .t) p x) (sym (c .before .before .price-at .ensures .0)) (sym (c .before .before .before .least-level .ensures))
+    ∙ sym (c .before .fails .ensures) ∙ c .if2 .left
     in
     all-pass (b .args .t) r o (length o / 6) (b .pre .2) e
 

@@ -27,7 +27,11 @@ loop-holds c = (omega arith, ap length (sym (no-line (lv-of c))))
 add-len : tie.Need-add-len Inv-loop μ-loop
 add-len c =
     let l = c .before .before .before .before .before in
-    omega (arith, line-fits (lv-of (l .before)) (l .loop .i) (l .before .args .count) (omega arith), laminations-within (lv-of (l .before)) (l .before .args .count))
+    omega (
+      arith,
+      line-fits (lv-of (l .before)) (l .loop .i) (l .before .args .count) (omega arith),
+      laminations-within (lv-of (l .before)) (l .before .args .count),
+    )
 
 loop-again : tie.Need-loop-again Inv-loop μ-loop
 loop-again c =

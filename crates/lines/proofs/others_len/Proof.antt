@@ -8,12 +8,20 @@ use Rattle.lines.proofs.others_len.Tie as tie
 add-result : tie.Need-add-result
 add-result c =
     let args = c .before .before .before .before .args in
-    omega (arith, others-length (args .technology) (args .start) (args .noload) (args .reserve), others-within (args .technology) (args .start) (args .noload) (args .reserve))
+    omega (
+      arith,
+      others-length (args .technology) (args .start) (args .noload) (args .reserve),
+      others-within (args .technology) (args .start) (args .noload) (args .reserve),
+    )
 
 add-result-2 : tie.Need-add-result-2
 add-result-2 c =
     let args = c .before .before .before .before .before .before .args in
-    omega (arith, others-length (args .technology) (args .start) (args .noload) (args .reserve), others-within (args .technology) (args .start) (args .noload) (args .reserve))
+    omega (
+      arith,
+      others-length (args .technology) (args .start) (args .noload) (args .reserve),
+      others-within (args .technology) (args .start) (args .noload) (args .reserve),
+    )
 
 returns : tie.Need-returns
 returns c =

@@ -11,7 +11,8 @@ use Rattle.layout.proofs.Lines.{energy-length, amount-length, then-amount}
 use Rattle.lines.proofs.put_energy_line.Statement.{statement}
 use Rattle.lines.proofs.put_energy_line.Tie as tie
 
-room : (c : tie.Start) → length (decimal (c .args .lamination)) + length (tenths (c .args .from)) + length (tenths (c .args .to)) + length (hundredths (c .args .cents)) + 11 ≤ length (c .args .buf .now)
+room : (c : tie.Start) → length (decimal (c .args .lamination)) + length (tenths (c .args .from)) + length (tenths (c .args .to)) + length
+    (hundredths (c .args .cents)) + 11 ≤ length (c .args .buf .now)
 room c = omega (arith, energy-length (c .args .lamination) (c .args .from) (c .args .to) (c .args .cents))
 
 -- from behind the lamination, from, to and the level, back to the function's entry

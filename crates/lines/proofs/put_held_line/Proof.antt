@@ -8,7 +8,9 @@ put-amount-line-requires : tie.Need-put-amount-line-requires
 put-amount-line-requires c κs = rw (sym (c .before .before .level-held .ensures) ∙ c .before .if1 .taken) at (c .before .before .before .before .before .pre)
 
 returns : tie.Need-returns
-returns c = rw (sym (c .before .before .before .before .before .level-held .ensures) ∙ c .before .before .before .before .if1 .taken) (c .before .before .put-amount-line .ensures)
+returns c =
+    rw (sym (c .before .before .before .before .before .level-held .ensures) ∙ c .before .before .before .before .if1 .taken)
+    (c .before .before .put-amount-line .ensures)
 
 returns-2 : tie.Need-returns-2
 returns-2 c = rw (sym (c .before .level-held .ensures) ∙ c .if1 .left) (refl, refl)

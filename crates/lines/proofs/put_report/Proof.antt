@@ -30,7 +30,8 @@ abbrev other-lines : tie.Start → List ℕ
 other-lines c = otherLines (c .args .lv .technology) (c .args .lv .start) (c .args .lv .noload) (c .args .lv .reserve)
 
 -- how long the parts are, together no longer than any report
-parts : (c : tie.Start) → (length (packedReport (lv-of c)) ≡ length (first-line c) + length (energy-lines c) + length (other-lines c)) × (length (packedReport (lv-of c)) ≤ 2283)
+parts : (c : tie.Start) → (length (packedReport (lv-of c)) ≡ length (first-line c) + length (energy-lines c) + length (other-lines c))
+    × (length (packedReport (lv-of c)) ≤ 2283)
 parts c = (report-length (lv-of c), report-within (lv-of c) (c .pre))
 
 add-if2 : tie.Need-add-if2

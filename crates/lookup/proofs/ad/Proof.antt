@@ -15,11 +15,18 @@ unfolding shapeOf shape rowOf table
 key p q j a b x y z w = three-field p q j a b x y z w
 
 part-at-requires : tie.Need-part-at-requires
-part-at-requires c κs = (slot-fits _ _ (c .before .before .before .pre .0) 4 _ refl (key _ _ _ (c .before .before .before .pre .1) (c .before .before .before .pre .2) (c .before .before .before .pre .3) (c .before .before .before .pre .4) (c .before .before .before .pre .5) (c .before .before .before .pre .6)) (c .slot-ad .ensures), search needs)
+part-at-requires c κs =
+    let a = c .before .before .before in (
+      slot-fits _ _ (a .pre .0) 4 _ refl (key _ _ _ (a .pre .1) (a .pre .2) (a .pre .3) (a .pre .4) (a .pre .5) (a .pre .6)) (c .slot-ad .ensures),
+      search needs,
+    )
 
 returns : tie.Need-returns
 unfolding size widths rowOf table
-returns c = c .part-at .ensures ∙ held-found (c .before .before .before .before .pre .0) 4 _ refl (key _ _ _ (c .before .before .before .before .pre .1) (c .before .before .before .before .pre .2) (c .before .before .before .before .pre .3) (c .before .before .before .before .pre .4) (c .before .before .before .before .pre .5) (c .before .before .before .before .pre .6)) (c .before .slot-ad .ensures) refl
+returns c =
+    let a = c .before .before .before .before in
+    c .part-at .ensures ∙ held-found (a .pre .0) 4 _ refl (key _ _ _ (a .pre .1) (a .pre .2) (a .pre .3) (a .pre .4) (a .pre .5) (a .pre .6))
+    (c .before .slot-ad .ensures) refl
 
 pub ad-spec : {M : Type 1} → statement M
 ad-spec = tie.close (tie.spec (λ c κs. search needs) part-at-requires returns)

@@ -10,7 +10,9 @@ lookup-part-requires : tie.Need-lookup-part-requires
 lookup-part-requires c κs = rw (c .kind-at .ensures) (mark-lt _)
 
 returns : tie.Need-returns
-returns c = c .lookup-part .ensures ∙ ap (λ (k : ℕ). lookupPart (c .before .before .before .before .args .d .now) k (c .before .before .before .before .args .key)) (c .before .kind-at .ensures)
+returns c =
+    let a = c .before .before .before .before in
+    c .lookup-part .ensures ∙ ap (λ (k : ℕ). lookupPart (a .args .d .now) k (a .args .key)) (c .before .kind-at .ensures)
 
 pub current-by-number-spec : {M : Type 1} → statement M
 current-by-number-spec =

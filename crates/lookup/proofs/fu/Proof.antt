@@ -16,11 +16,15 @@ unfolding shapeOf shape rowOf table
 key n a b = one-field 3 n (lit≤ tt) (lit< tt) refl a b
 
 part-at-requires : tie.Need-part-at-requires
-part-at-requires c κs = (slot-fits _ _ (c .before .before .before .pre .0) 3 _ refl (key _ (c .before .before .before .pre .1) (c .before .before .before .pre .2)) (c .slot-fu .ensures), search needs)
+part-at-requires c κs =
+    let a = c .before .before .before in
+    (slot-fits _ _ (a .pre .0) 3 _ refl (key _ (a .pre .1) (a .pre .2)) (c .slot-fu .ensures), search needs)
 
 returns : tie.Need-returns
 unfolding size widths rowOf table
-returns c = c .part-at .ensures ∙ held-found (c .before .before .before .before .pre .0) 3 _ refl (key _ (c .before .before .before .before .pre .1) (c .before .before .before .before .pre .2)) (c .before .slot-fu .ensures) refl
+returns c =
+    let a = c .before .before .before .before in
+    c .part-at .ensures ∙ held-found (a .pre .0) 3 _ refl (key _ (a .pre .1) (a .pre .2)) (c .before .slot-fu .ensures) refl
 
 pub fu-spec : {M : Type 1} → statement M
 fu-spec = tie.close (tie.spec (λ c κs. search needs) part-at-requires returns)

@@ -16,7 +16,8 @@ abbrev μ-loop : tie.MeasureT-loop
 μ-loop d small end at₀ at = end - at
 
 -- the place is within the dossier, and not far on
-within : (c : tie.In-loop Inv-loop μ-loop) → (c .before .loop .at < length (c .before .before .before .before .before .before .before .args .d .now)) × (c .before .loop .at < 600)
+within : (c : tie.In-loop Inv-loop μ-loop) → (c .before .loop .at < length (c .before .before .before .before .before .before .before .args .d .now))
+    × (c .before .loop .at < 600)
 within c =
     let e = look-ends {n = length (c .before .before .before .before .before .before .before .args .d .now)} (c .before .before .choose .ensures) in
     (omega (arith, e .0, c .loop-test .taken), omega (arith, e .1, c .loop-test .taken))

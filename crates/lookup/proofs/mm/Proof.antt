@@ -8,11 +8,15 @@ use Rattle.lookup.proofs.mm.Statement.{statement}
 use Rattle.lookup.proofs.mm.Tie as tie
 
 part-at-requires : tie.Need-part-at-requires
-part-at-requires c κs = (slot-fits _ _ (c .before .before .before .pre .0) 5 _ refl (item-key _ _ (c .before .before .before .pre .1) (c .before .before .before .pre .2) (c .before .before .before .pre .3) (c .before .before .before .pre .4)) (c .slot-mm .ensures), search needs)
+part-at-requires c κs =
+    let a = c .before .before .before in
+    (slot-fits _ _ (a .pre .0) 5 _ refl (item-key _ _ (a .pre .1) (a .pre .2) (a .pre .3) (a .pre .4)) (c .slot-mm .ensures), search needs)
 
 returns : tie.Need-returns
 unfolding size widths rowOf table
-returns c = c .part-at .ensures ∙ held-found (c .before .before .before .before .pre .0) 5 _ refl (item-key _ _ (c .before .before .before .before .pre .1) (c .before .before .before .before .pre .2) (c .before .before .before .before .pre .3) (c .before .before .before .before .pre .4)) (c .before .slot-mm .ensures) refl
+returns c =
+    let a = c .before .before .before .before in
+    c .part-at .ensures ∙ held-found (a .pre .0) 5 _ refl (item-key _ _ (a .pre .1) (a .pre .2) (a .pre .3) (a .pre .4)) (c .before .slot-mm .ensures) refl
 
 pub mm-spec : {M : Type 1} → statement M
 mm-spec = tie.close (tie.spec (λ c κs. search needs) part-at-requires returns)

@@ -11,7 +11,8 @@ use Rattle.lookup.proofs.open.Statement.{statement}
 use Rattle.lookup.proofs.open.Tie as tie
 
 first-twin-requires : tie.Need-first-twin-requires
-first-twin-requires c κs = let i = c .before .before .before .before .before .before .scan .ensures .1 _ _ (c .before .before .rising .given .1) .0 in (i .short, i .clean)
+first-twin-requires c κs =
+    let i = c .before .before .before .before .before .before .scan .ensures .1 _ _ (c .before .before .rising .given .1) .0 in (i .short, i .clean)
 
 returns : tie.Need-returns
 returns c =
@@ -19,8 +20,10 @@ returns c =
     let g = c .before .before .rising .given in
     let i = s .ensures .1 _ _ (g .1) .0 in
     let t = c .if1 .taken in
-    let z = ltb-true (g .0 .1 .0) _ (and-right (g .0 .0) _ t) in
-    (scan-rising _ _ (ap (λ (b : Bool). Ended b (g .0 .1 .0)) (sym (and-left (g .0 .0) _ t)) ∙ sym (g .1) ∙ s .ensures .0) (omega (arith, z, s .kept)) i, λ _. i)
+    let z = ltb-true (g .0 .1 .0) _ (and-right (g .0 .0) _ t) in (
+      scan-rising _ _ (ap (λ (b : Bool). Ended b (g .0 .1 .0)) (sym (and-left (g .0 .0) _ t)) ∙ sym (g .1) ∙ s .ensures .0) (omega (arith, z, s .kept)) i,
+      λ _. i,
+    )
 
 returns-2 : tie.Need-returns-2
 returns-2 c =
@@ -29,7 +32,8 @@ returns-2 c =
     (c .first-twin .ensures ∙ sym (scan-twins _ i), λ _. i)
 
 returns-3 : tie.Need-returns-3
-returns-3 c = (scan-stopped _ _ (sym (c .before .number .given .1) ∙ c .before .before .before .before .before .scan .ensures .0), λ e. absurd (not-refused _ _ e))
+returns-3 c =
+    (scan-stopped _ _ (sym (c .before .number .given .1) ∙ c .before .before .before .before .before .scan .ensures .0), λ e. absurd (not-refused _ _ e))
 
 pub open-spec : {M : Type 1} → statement M
 open-spec =

@@ -15,7 +15,9 @@ place-of-requires c κs =
     (o .ensures .1 (c .before .enum-told .given .1), p .1, omega (arith, p .2, o .kept .1 .0))
 
 returns : tie.Need-returns
-returns c = c .place-of .ensures ∙ part-accepted _ _ _ (sym (c .before .before .enum-told .given .1) ∙ c .before .before .before .before .before .before .«open» .ensures .0)
+returns c =
+    c .place-of .ensures ∙ part-accepted _ _ _ (sym (c .before .before .enum-told .given .1)
+    ∙ c .before .before .before .before .before .before .«open» .ensures .0)
 
 returns-2 : tie.Need-returns-2
 returns-2 c = part-refused _ _ _ _ _ (sym (c .enum-told2 .given .1) ∙ c .before .before .before .before .«open» .ensures .0)

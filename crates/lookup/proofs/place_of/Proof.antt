@@ -8,7 +8,9 @@ use Rattle.lookup.proofs.place_of.Statement.{statement}
 use Rattle.lookup.proofs.place_of.Tie as tie
 
 slot-of-requires : tie.Need-slot-of-requires
-slot-of-requires c κs = (key-small _ _ (test-key _ _ (c .before .before .before .before .before .pre .1) (sym (c .before .before .in-key .ensures) ∙ c .before .if1 .taken)), c .before .before .before .before .before .pre .1)
+slot-of-requires c κs =
+    let a = c .before .before .before .before .before in
+    (key-small _ _ (test-key _ _ (a .pre .1) (sym (c .before .before .in-key .ensures) ∙ c .before .if1 .taken)), a .pre .1)
 
 place-at-requires : tie.Need-place-at-requires
 place-at-requires c κs =
@@ -20,7 +22,8 @@ returns : tie.Need-returns
 returns c =
     let p = c .before .before .before .before .before .before .before .pre in
     let i = test-key _ _ (p .1) (sym (c .before .before .before .before .in-key .ensures) ∙ c .before .before .before .if1 .taken) in
-    c .place-at .ensures ∙ place-current _ _ (p .0) _ _ i (covered _ _ (p .0) _ _ i (p .2)) (c .before .slot-of .ensures) (shape-size _ (c .before .before .mark-shape .ensures))
+    c .place-at .ensures ∙ place-current _ _ (p .0) _ _ i (covered _ _ (p .0) _ _ i (p .2)) (c .before .slot-of .ensures)
+    (shape-size _ (c .before .before .mark-shape .ensures))
 
 returns-2 : tie.Need-returns-2
 returns-2 c = no-key _ _ (c .before .before .before .before .pre .0) _ _ (sym (c .before .in-key .ensures) ∙ c .if1 .left)

@@ -7,11 +7,15 @@ use Rattle.lookup.proofs.rq.Statement.{statement}
 use Rattle.lookup.proofs.rq.Tie as tie
 
 part-at-requires : tie.Need-part-at-requires
-part-at-requires c κs = (slot-fits _ _ (c .before .before .before .pre .0) 6 _ refl (request-key _ (c .before .before .before .pre .1) (c .before .before .before .pre .2)) (c .slot-rq .ensures), search needs)
+part-at-requires c κs =
+    let a = c .before .before .before in
+    (slot-fits _ _ (a .pre .0) 6 _ refl (request-key _ (a .pre .1) (a .pre .2)) (c .slot-rq .ensures), search needs)
 
 returns : tie.Need-returns
 unfolding size widths rowOf table
-returns c = c .part-at .ensures ∙ part-found _ _ (c .before .before .before .before .pre .0) 6 _ refl (request-key _ (c .before .before .before .before .pre .1) (c .before .before .before .before .pre .2)) (c .before .slot-rq .ensures) refl
+returns c =
+    let a = c .before .before .before .before in
+    c .part-at .ensures ∙ part-found _ _ (a .pre .0) 6 _ refl (request-key _ (a .pre .1) (a .pre .2)) (c .before .slot-rq .ensures) refl
 
 pub rq-spec : {M : Type 1} → statement M
 rq-spec = tie.close (tie.spec (λ c κs. search needs) part-at-requires returns)

@@ -15,11 +15,15 @@ unfolding shapeOf shape rowOf table
 key p j a b x y = two-field 9 p j (lit≤ tt) (lit< tt) refl refl a b x y (lit< tt)
 
 part-at-requires : tie.Need-part-at-requires
-part-at-requires c κs = (slot-fits _ _ (c .before .before .before .pre .0) 9 _ refl (key _ _ (c .before .before .before .pre .1) (c .before .before .before .pre .2) (c .before .before .before .pre .3) (c .before .before .before .pre .4)) (c .slot-th .ensures), search needs)
+part-at-requires c κs =
+    let a = c .before .before .before in
+    (slot-fits _ _ (a .pre .0) 9 _ refl (key _ _ (a .pre .1) (a .pre .2) (a .pre .3) (a .pre .4)) (c .slot-th .ensures), search needs)
 
 returns : tie.Need-returns
 unfolding size widths rowOf table
-returns c = c .part-at .ensures ∙ part-found _ _ (c .before .before .before .before .pre .0) 9 _ refl (key _ _ (c .before .before .before .before .pre .1) (c .before .before .before .before .pre .2) (c .before .before .before .before .pre .3) (c .before .before .before .before .pre .4)) (c .before .slot-th .ensures) refl
+returns c =
+    let a = c .before .before .before .before in
+    c .part-at .ensures ∙ part-found _ _ (a .pre .0) 9 _ refl (key _ _ (a .pre .1) (a .pre .2) (a .pre .3) (a .pre .4)) (c .before .slot-th .ensures) refl
 
 pub th-spec : {M : Type 1} → statement M
 th-spec = tie.close (tie.spec (λ c κs. search needs) part-at-requires returns)

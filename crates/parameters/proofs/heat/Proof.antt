@@ -11,7 +11,8 @@ returns : tie.Need-returns
 unfolding fieldOf rowOf table
 returns c =
     let a = c .before .before .before .before in
-    says-read (held-clean (a .pre .0)) HP (a .args .i) 2 9 4 (heat-at _ (a .args .i)) (c .u32-at .ensures) (c .before .hp .ensures ∙ sym (held-always (a .pre .0) HP (a .args .i) refl))
+    says-read (held-clean (a .pre .0)) HP (a .args .i) 2 9 4 (heat-at _ (a .args .i)) (c .u32-at .ensures)
+    (c .before .hp .ensures ∙ sym (held-always (a .pre .0) HP (a .args .i) refl))
 
 pub heat-spec : {M : Type 1} → statement M
 heat-spec = tie.close (tie.spec (λ c κs. search needs) (λ c κs. search needs) (λ c. search needs) returns)

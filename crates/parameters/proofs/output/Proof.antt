@@ -11,7 +11,8 @@ returns : tie.Need-returns
 unfolding fieldOf rowOf table
 returns c =
     let a = c .before .before .before .before in
-    says-read (held-clean (a .pre .0)) HP (a .args .i) 1 7 2 (output-at _ (a .args .i)) (c .u16-at .ensures) (c .before .hp .ensures ∙ sym (held-always (a .pre .0) HP (a .args .i) refl))
+    says-read (held-clean (a .pre .0)) HP (a .args .i) 1 7 2 (output-at _ (a .args .i)) (c .u16-at .ensures)
+    (c .before .hp .ensures ∙ sym (held-always (a .pre .0) HP (a .args .i) refl))
 
 pub output-spec : {M : Type 1} → statement M
 output-spec = tie.close (tie.spec (λ c κs. search needs) (λ c κs. search needs) (λ c. search needs) returns)

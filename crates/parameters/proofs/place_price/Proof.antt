@@ -8,7 +8,8 @@ use Rattle.parameters.proofs.place_price.Tie as tie
 returns : tie.Need-returns
 returns c =
     let a = c .before .before .before .before .before in
-    price-read (clean (a .pre .0)) FP (a .args .n) 1 8 (placePrice-at _ (a .args .n)) (c .biased .ensures) (c .before .u32-at .ensures) (c .before .before .fp .ensures) .0
+    price-read (clean (a .pre .0)) FP (a .args .n) 1 8 (placePrice-at _ (a .args .n)) (c .biased .ensures) (c .before .u32-at .ensures)
+    (c .before .before .fp .ensures) .0
 
 pub place-price-spec : {M : Type 1} → statement M
 place-price-spec = tie.close (tie.spec (λ c κs. search needs) (λ c κs. search needs) (λ c κs. search needs) returns)

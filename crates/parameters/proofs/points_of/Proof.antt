@@ -25,7 +25,9 @@ loop-holds : tie.Need-loop-holds Inv-loop μ-loop
 loop-holds c = (omega arith, omega arith, unfold countTo in refl)
 
 in-index : (c : tie.After-slot-hp Inv-loop μ-loop) → c .slot-hp .result < length (c .before .before .before .before .before .args .index .now)
-in-index c = slot-fits _ _ (c .before .before .before .before .before .pre) HP (c .before .before .loop .i + 1) refl (point-key _ (omega arith) (omega arith)) (c .slot-hp .ensures)
+in-index c =
+    slot-fits _ _ (c .before .before .before .before .before .pre) HP (c .before .before .loop .i + 1) refl (point-key _ (omega arith) (omega arith))
+    (c .slot-hp .ensures)
 
 mul-counted : tie.Need-mul-counted Inv-loop μ-loop
 mul-counted c = omega (arith, in-index c)
@@ -34,7 +36,10 @@ shared-slice-read-counted : tie.Need-shared-slice-read-counted Inv-loop μ-loop
 shared-slice-read-counted c = in-index (c .before)
 
 at-most-one : (c : tie.After-counted Inv-loop μ-loop) → c .counted .result ≤ 1
-at-most-one c = rw (c .counted .ensures) (cond-holds (λ n. n ≤ 1) (eqb (getD (c .before .before .before .before .before .before .before .args .index .now) (c .before .before .slot-hp .result) 0) 0) 0 1 (omega arith) (omega arith))
+at-most-one c =
+    rw (c .counted .ensures) (cond-holds (λ n. n ≤ 1) (eqb
+    (getD (c .before .before .before .before .before .before .before .args .index .now) (c .before .before .slot-hp .result) 0) 0) 0 1 (omega arith)
+    (omega arith))
 
 add-n : tie.Need-add-n Inv-loop μ-loop
 add-n c = omega (arith, at-most-one c)
@@ -42,11 +47,20 @@ add-n c = omega (arith, at-most-one c)
 loop-again : tie.Need-loop-again Inv-loop μ-loop
 loop-again c =
     let l = c .before .before .before .before .loop in
-    let a = c .before .before .before .before .before .before .before .args in
-    (omega arith, omega (arith, at-most-one c), count-next (l .i) (parameters (records (a .d .now)) .has HP) (l .inv .2) (point-counted (a .d .now) (a .index .now) (c .before .before .before .before .before .before .before .pre) (l .i + 1) (omega arith) (omega arith) (c .before .before .slot-hp .ensures) (c .counted .ensures)))
+    let a = c .before .before .before .before .before .before .before .args in (
+      omega arith,
+      omega (arith, at-most-one c),
+      count-next (l .i) (parameters (records (a .d .now)) .has HP) (l .inv .2)
+          (point-counted (a .d .now) (a .index .now) (c .before .before .before .before .before .before .before .pre) (l .i + 1) (omega arith) (omega arith)
+          (c .before .before .slot-hp .ensures) (c .counted .ensures)),
+    )
 
 returns : tie.Need-returns Inv-loop μ-loop
-returns c = (unfold points in (c .before .loop .inv .2 ∙ ap (λ (i : ℕ). countTo i (parameters (records (c .before .before .before .before .args .d .now)) .has HP)) (omega arith)), omega arith)
+returns c = (
+  unfold points in (c .before .loop .inv .2 ∙ ap (λ (i : ℕ). countTo i (parameters (records (c .before .before .before .before .args .d .now)) .has HP))
+      (omega arith)),
+  omega arith,
+)
 
 pub points-of-spec : {M : Type 1} → statement M
 points-of-spec =

@@ -9,7 +9,13 @@ use Rattle.records.proofs.ad_ok.Tie as tie
 
 returns : tie.Need-returns
 unfolding rangesHold allBelow inRange agrees value read offset offsetIn fieldOf rowOf table
-returns c = rw (c .before .before .before .before .before .before .before .in1 .ensures, c .before .before .before .before .in12 .ensures, c .before .in13 .ensures, c .in8 .ensures) (sym (and-true _))
+returns c =
+    rw (
+      c .before .before .before .before .before .before .before .in1 .ensures,
+      c .before .before .before .before .in12 .ensures,
+      c .before .in13 .ensures,
+      c .in8 .ensures,
+    ) (sym (and-true _))
 
 pub ad-ok-spec : {M : Type 1} → statement M
 ad-ok-spec =

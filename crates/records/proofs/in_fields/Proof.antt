@@ -11,11 +11,24 @@ returns c = rw (eq-eqb _ _ (c .before .if1 .taken)) (c .in-field .ensures)
 
 returns-2 : tie.Need-returns-2
 unfolding keyFits
-returns-2 c = rw (c .in-field3 .ensures, c .before .in-field2 .ensures, ne-eqb _ _ (c .before .before .before .before .if1 .left), eq-eqb _ _ (c .before .before .if2 .taken)) refl
+returns-2 c =
+    rw (
+      c .in-field3 .ensures,
+      c .before .in-field2 .ensures,
+      ne-eqb _ _ (c .before .before .before .before .if1 .left),
+      eq-eqb _ _ (c .before .before .if2 .taken),
+    ) refl
 
 returns-3 : tie.Need-returns-3
 unfolding keyFits
-returns-3 c = rw (c .in-field6 .ensures, c .before .in-field5 .ensures, c .before .before .in-field4 .ensures, ne-eqb _ _ (c .before .before .before .before .before .if1 .left), ne-eqb _ _ (c .before .before .before .if2 .left)) refl
+returns-3 c =
+    rw (
+      c .in-field6 .ensures,
+      c .before .in-field5 .ensures,
+      c .before .before .in-field4 .ensures,
+      ne-eqb _ _ (c .before .before .before .before .before .if1 .left),
+      ne-eqb _ _ (c .before .before .before .if2 .left),
+    ) refl
 
 pub in-fields-spec : {M : Type 1} → statement M
 in-fields-spec =

@@ -7,7 +7,8 @@ returns : tie.Need-returns
 returns c =
     let w = c .before .before .before .letters .ensures in
     let v = c .letters2 .ensures in
-    rw (w .0, v .0, ← c .before .before .before .before .byte-at2 .ensures, ← c .before .before .before .before .before .byte-at .ensures) (two-letters _ _ _ _ (w .1) (v .1))
+    rw (w .0, v .0, ← c .before .before .before .before .byte-at2 .ensures, ← c .before .before .before .before .before .byte-at .ensures)
+    (two-letters _ _ _ _ (w .1) (v .1))
 
 pub is-mark-spec : {M : Type 1} → statement M
 is-mark-spec =

@@ -41,7 +41,16 @@ returns-11 c = sym (ap size (c .if11 .taken) ∙ rs-size)
 returns-12 : tie.Need-returns-12
 returns-12 c =
     let k = c .before .before .before .before .before .before .before .before .before .before .before .args .kind in
-    by-mark (λ m. k ≡ m → 10 ≡ size m) (λ w. absurd (c .if11 .left w)) (λ w. absurd (c .before .before .before .before .before .before .before .before .if3 .left w)) (λ w. absurd (c .before .before .before .before .if7 .left w)) (λ w. absurd (c .before .before .before .if8 .left w)) (λ w. absurd (c .before .before .if9 .left w)) (λ w. absurd (c .before .if10 .left w)) (λ w. absurd (c .before .before .before .before .before .before .if5 .left w)) (λ w. absurd (c .before .before .before .before .before .before .before .before .before .if2 .left w)) (λ w. absurd (c .before .before .before .before .before .before .before .if4 .left w)) (λ w. absurd (c .before .before .before .before .before .if6 .left w)) (λ w. sym lc-size) k (c .before .before .before .before .before .before .before .before .before .before .if1 .left) (c .before .before .before .before .before .before .before .before .before .before .before .pre) refl
+    by-mark (λ m. k ≡ m → 10 ≡ size m) (λ w. absurd (c .if11 .left w))
+    (λ w. absurd (c .before .before .before .before .before .before .before .before .if3 .left w))
+    (λ w. absurd (c .before .before .before .before .if7 .left w)) (λ w. absurd (c .before .before .before .if8 .left w))
+    (λ w. absurd (c .before .before .if9 .left w)) (λ w. absurd (c .before .if10 .left w))
+    (λ w. absurd (c .before .before .before .before .before .before .if5 .left w))
+    (λ w. absurd (c .before .before .before .before .before .before .before .before .before .if2 .left w))
+    (λ w. absurd (c .before .before .before .before .before .before .before .if4 .left w))
+    (λ w. absurd (c .before .before .before .before .before .if6 .left w)) (λ w. sym lc-size) k
+    (c .before .before .before .before .before .before .before .before .before .before .if1 .left)
+    (c .before .before .before .before .before .before .before .before .before .before .before .pre) refl
 
 pub length-of-spec : {M : Type 1} → statement M
 length-of-spec =

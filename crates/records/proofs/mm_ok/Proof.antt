@@ -9,7 +9,15 @@ use Rattle.records.proofs.mm_ok.Tie as tie
 
 returns : tie.Need-returns
 unfolding rangesHold allBelow inRange agrees value read offset offsetIn fieldOf rowOf table
-returns c = rw (c .before .before .before .before .before .before .before .in1 .ensures, c .before .before .before .before .in12 .ensures, c .before .before .before .in8 .ensures, c .before .before .in2 .ensures, c .before .in4 .ensures, c .in22 .ensures) (sym (and-true _))
+returns c =
+    rw (
+      c .before .before .before .before .before .before .before .in1 .ensures,
+      c .before .before .before .before .in12 .ensures,
+      c .before .before .before .in8 .ensures,
+      c .before .before .in2 .ensures,
+      c .before .in4 .ensures,
+      c .in22 .ensures,
+    ) (sym (and-true _))
 
 pub mm-ok-spec : {M : Type 1} → statement M
 mm-ok-spec =

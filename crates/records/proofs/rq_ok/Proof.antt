@@ -8,7 +8,15 @@ use Rattle.records.proofs.rq_ok.Tie as tie
 
 returns : tie.Need-returns
 unfolding rangesHold allBelow inRange agrees value read offset offsetIn fieldOf rowOf table
-returns c = rw (c .before .before .before .before .before .in1 .ensures, c .before .before .before .before .in4 .ensures, c .before .before .before .in42 .ensures, c .before .before .in12 .ensures, c .before .u32-at .ensures, c .u32-at2 .ensures) refl
+returns c =
+    rw (
+      c .before .before .before .before .before .in1 .ensures,
+      c .before .before .before .before .in4 .ensures,
+      c .before .before .before .in42 .ensures,
+      c .before .before .in12 .ensures,
+      c .before .u32-at .ensures,
+      c .u32-at2 .ensures,
+    ) refl
 
 pub rq-ok-spec : {M : Type 1} → statement M
 rq-ok-spec =

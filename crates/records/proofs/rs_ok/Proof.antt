@@ -8,7 +8,20 @@ use Rattle.records.proofs.rs_ok.Tie as tie
 
 returns : tie.Need-returns
 unfolding rangesHold allBelow inRange agrees value read offset offsetIn fieldOf rowOf table
-returns c = rw (c .before .before .before .before .before .before .before .before .before .before .in1 .ensures, c .before .before .before .before .before .before .before .before .before .in2 .ensures, c .before .before .before .before .before .before .before .before .zero-or .ensures, c .before .before .before .before .before .before .before .in4 .ensures, c .before .before .before .before .before .before .in42 .ensures, c .before .before .before .before .before .in43 .ensures, c .before .before .before .before .in44 .ensures, c .before .before .before .zero-or2 .ensures, c .before .before .in22 .ensures, c .before .u8-at .ensures, c .u16-at .ensures) refl
+returns c =
+    rw (
+      c .before .before .before .before .before .before .before .before .before .before .in1 .ensures,
+      c .before .before .before .before .before .before .before .before .before .in2 .ensures,
+      c .before .before .before .before .before .before .before .before .zero-or .ensures,
+      c .before .before .before .before .before .before .before .in4 .ensures,
+      c .before .before .before .before .before .before .in42 .ensures,
+      c .before .before .before .before .before .in43 .ensures,
+      c .before .before .before .before .in44 .ensures,
+      c .before .before .before .zero-or2 .ensures,
+      c .before .before .in22 .ensures,
+      c .before .u8-at .ensures,
+      c .u16-at .ensures,
+    ) refl
 
 pub rs-ok-spec : {M : Type 1} → statement M
 rs-ok-spec =

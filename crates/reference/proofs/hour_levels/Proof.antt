@@ -16,14 +16,26 @@ use Rattle.reference.proofs.hour_levels.Statement.{statement}
 use Rattle.reference.proofs.hour_levels.Tie as tie
 
 -- the station is of no other technology
-is-hydro : (c : tie.Else3) → let a = c .before .before .before .before .before .before .before .before .before .before .before .args in technology (parametersHeld (a .d .now) (a .index .now)) ≡ 4
+is-hydro : (c : tie.Else3) → let a = c .before .before .before .before .before .before .before .before .before .before .before .args in technology
+    (parametersHeld (a .d .now) (a .index .now)) ≡ 4
 is-hydro c =
     let t = c .before .before .before .before in
     let a = t .before .before .before .before .before .before .before in
-    omega (arith, technology-low (accepted-sound (a .args .d .now) (a .pre .0) .1), says-always (a .pre .1) RS 0 refl 0, t .technology .ensures .0, t .technology .ensures .1, c .if3 .left, c .before .before .if2 .left, c .before .before .before .if1 .left)
+    omega (
+      arith,
+      technology-low (accepted-sound (a .args .d .now) (a .pre .0) .1),
+      says-always (a .pre .1) RS 0 refl 0,
+      t .technology .ensures .0,
+      t .technology .ensures .1,
+      c .if3 .left,
+      c .before .before .if2 .left,
+      c .before .before .before .if1 .left,
+    )
 
 returns : tie.Need-returns
-returns c = levels-packed (c .before .before .before .before .before .before .before .before .before .before .before .before .before .before .before .before .before .before .pre .1) _ (c .before .before .before .before .before .before .before .before .before .before .before .before .profile .ensures .0) (c .before .before .before .before .before .before .thermal-levels .ensures)
+returns c =
+    levels-packed
+    (c .before .before .before .before .before .before .before .before .before .before .before .before .before .before .before .before .before .before .pre .1) _ (c .before .before .before .before .before .before .before .before .before .before .before .before .profile .ensures .0) (c .before .before .before .before .before .before .thermal-levels .ensures)
 
 returns-2 : tie.Need-returns-2
 returns-2 c =
@@ -40,9 +52,15 @@ storage-energy-requires c κs =
     let p = c .before .before .before .before .before in
     let a = p .before .before .before .before .before .before in
     let i = a .pre .1 in
-    let e : technology (parametersIn (a .args .d .now)) ≡ 3 = sym (c .before .before .before .before .technology .ensures .0 ∙ says-always i RS 0 refl 0) ∙ c .if3 .taken in
-    let w = says-always i RS 0 refl 8 in
-    (i, p .profile .ensures .1, p .profile .ensures .2, omega (arith, hours-fit (accepted-sound (a .args .d .now) (a .pre .0) .1) e, full-hours-always i, w), omega (arith, storage-window _ _ i e, w))
+    let e : technology (parametersIn (a .args .d .now)) ≡ 3 = sym (c .before .before .before .before .technology .ensures .0 ∙ says-always i RS 0 refl 0)
+    ∙ c .if3 .taken in
+    let w = says-always i RS 0 refl 8 in (
+      i,
+      p .profile .ensures .1,
+      p .profile .ensures .2,
+      omega (arith, hours-fit (accepted-sound (a .args .d .now) (a .pre .0) .1) e, full-hours-always i, w),
+      omega (arith, storage-window _ _ i e, w),
+    )
 
 returns-3 : tie.Need-returns-3
 returns-3 c =
@@ -58,8 +76,16 @@ hydro-energy-requires : tie.Need-hydro-energy-requires
 hydro-energy-requires c κs =
     let p = c .before .before .before .before .before in
     let a = p .before .before .before .before .before .before in
-    let i = a .pre .1 in
-    (i, p .profile .ensures .1, p .profile .ensures .2, omega (arith, places-fit (accepted-sound (a .args .d .now) (a .pre .0) .1) (sym (says-always i RS 0 refl 0) ∙ is-hydro c), says-always i RS 0 refl 8))
+    let i = a .pre .1 in (
+      i,
+      p .profile .ensures .1,
+      p .profile .ensures .2,
+      omega (
+        arith,
+        places-fit (accepted-sound (a .args .d .now) (a .pre .0) .1) (sym (says-always i RS 0 refl 0) ∙ is-hydro c),
+        says-always i RS 0 refl 8,
+      ),
+    )
 
 returns-4 : tie.Need-returns-4
 returns-4 c =

@@ -16,8 +16,11 @@ slice-write-cents c = omega (arith, twenty (c .before .before .before .before .b
 returns : tie.Need-returns
 returns c =
     let a = c .before .before .before .before .before .before .before .args in
-    let p = c .before .before .before .before .before .before .before .pre in
-    (ap (λ (x : ℕ). singleLevels (a .technology) (a .p) 1 0 0 x) (c .before .from-sum2 .ensures), first-set (p .1) (c .capacity .ensures .0), first-set (p .2) (c .before .before .from-sum .ensures))
+    let p = c .before .before .before .before .before .before .before .pre in (
+      ap (λ (x : ℕ). singleLevels (a .technology) (a .p) 1 0 0 x) (c .before .from-sum2 .ensures),
+      first-set (p .1) (c .capacity .ensures .0),
+      first-set (p .2) (c .before .before .from-sum .ensures),
+    )
 
 pub one-lamination-spec : {M : Type 1} → statement M
 one-lamination-spec =

@@ -13,7 +13,8 @@ returns c =
     let s = n .before .before in
     let l = s .before .before .before .before .before .before .before in
     let k = l .before .before .before .before in
-    thermal-packed _ _ _ (k .before .before .before .before .before .before .pre .3) refl (k .lamination-count .ensures .0 ∙ sym (ap (λ (x : ℕ). x - 1) (points-always (k .before .before .before .before .before .before .pre .0))))
+    thermal-packed _ _ _ (k .before .before .before .before .before .before .pre .3) refl (k .lamination-count .ensures .0 ∙ sym (ap (λ (x : ℕ). x - 1)
+    (points-always (k .before .before .before .before .before .before .pre .0))))
     (l .laminations .ensures .0) (l .laminations .ensures .1) (l .laminations .ensures .2)
     (n .before .from-sum .ensures ∙ ap cents (s .start-cost .ensures))
     (c .before .before .from-sum2 .ensures ∙ ap cents (n .no-load-cost .ensures))

@@ -33,7 +33,8 @@ returns c =
     let args = j .before .before .before .before .before .args in
     let e = l .hour-levels .ensures in
     told-levels (args .d .now) (args .hour) (args .buf .now) _ (answer-is j (l .before .before .before .before .before .enum-told .given .1))
-    (packed-is (args .d .now) (args .hour) _ (handed-shown (args .d .now) (args .hour) _ e) (handed-profile (args .d .now) (args .hour) _ e)) (c .before .before .put-report .ensures)
+    (packed-is (args .d .now) (args .hour) _ (handed-shown (args .d .now) (args .hour) _ e) (handed-profile (args .d .now) (args .hour) _ e))
+    (c .before .before .put-report .ensures)
 
 returns-2 : tie.Need-returns-2
 returns-2 c =

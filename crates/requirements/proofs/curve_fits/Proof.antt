@@ -17,12 +17,14 @@ returns c = curve-none (parameters (records (c .before .before .before .before .
 returns-2 : tie.Need-returns-2
 returns-2 c =
     let t = c .before .before .before in
-    curve-short (parameters (records (t .before .before .before .args .d .now))) _ (technology-is t) (c .before .before .if1 .left) _ (c .before .points-of .ensures .0) (c .if2 .taken)
+    curve-short (parameters (records (t .before .before .before .args .d .now))) _ (technology-is t) (c .before .before .if1 .left) _
+    (c .before .points-of .ensures .0) (c .if2 .taken)
 
 returns-3 : tie.Need-returns-3
 returns-3 c =
     let t = c .before .before .before .before in
-    curve-whole (parameters (records (t .before .before .before .args .d .now))) _ (technology-is t) (c .before .before .before .if1 .left) _ (c .before .before .points-of .ensures .0) (c .curve-holds .ensures)
+    curve-whole (parameters (records (t .before .before .before .args .d .now))) _ (technology-is t) (c .before .before .before .if1 .left) _
+    (c .before .before .points-of .ensures .0) (c .curve-holds .ensures)
 
 pub curve-fits-spec : {M : Type 1} → statement M
 curve-fits-spec =

@@ -24,8 +24,14 @@ hp-requires c κs = (c .before .before .pre .0, omega arith, omega arith)
 
 loop-holds : tie.Need-loop-holds Inv-loop μ-loop
 loop-holds c =
-    let s = c .before .before .before .before .before in
-    (omega arith, omega arith, omega arith, omega arith, along-first (records (s .args .d .now)) (c .before .before .hp .ensures) (c .before .output .ensures .0 ∙ says-always (s .pre .0) HP 1 refl 1) (c .heat .ensures .0 ∙ says-always (s .pre .0) HP 1 refl 2))
+    let s = c .before .before .before .before .before in (
+      omega arith,
+      omega arith,
+      omega arith,
+      omega arith,
+      along-first (records (s .args .d .now)) (c .before .before .hp .ensures) (c .before .output .ensures .0 ∙ says-always (s .pre .0) HP 1 refl 1)
+          (c .heat .ensures .0 ∙ says-always (s .pre .0) HP 1 refl 2),
+    )
 
 abbrev Turn : Type 0
 Turn = tie.After-rise2 Inv-loop μ-loop
@@ -35,7 +41,10 @@ last-rises : (c : Turn) → let l = c .before .before .before .before .before .b
 last-rises c = let l = c .before .before .before .before .before .before .loop in (l .inv .2, l .inv .3)
 
 rises : (c : Turn) → (c .before .rise .result ≤ 20000) × (c .rise2 .result ≤ 20000000)
-rises c = (omega (arith, c .before .rise .ensures, c .before .before .before .output2 .ensures .1), omega (arith, c .rise2 .ensures, c .before .before .heat2 .ensures .1))
+rises c = (
+  omega (arith, c .before .rise .ensures, c .before .before .before .output2 .ensures .1),
+  omega (arith, c .rise2 .ensures, c .before .before .heat2 .ensures .1),
+)
 
 mul-ok : tie.Need-mul-ok Inv-loop μ-loop
 mul-ok c = omega (arith, mul-le-mul (last-rises c .1) (rises c .0))
@@ -53,7 +62,8 @@ loop-again c =
       rises c .0,
       rises c .1,
       along-next (records (s .args .d .now)) i (t .loop .inv .0) (t .loop .inv .4) (c .before .before .before .before .hp2 .ensures)
-          (c .before .before .before .output2 .ensures .0 ∙ says-always (s .pre .0) HP (i + 1) refl 1) (c .before .before .heat2 .ensures .0 ∙ says-always (s .pre .0) HP (i + 1) refl 2)
+          (c .before .before .before .output2 .ensures .0 ∙ says-always (s .pre .0) HP (i + 1) refl 1)
+          (c .before .before .heat2 .ensures .0 ∙ says-always (s .pre .0) HP (i + 1) refl 2)
           (c .before .rise .ensures) (c .rise2 .ensures) refl refl,
     )
 

@@ -22,7 +22,11 @@ hour-there-requires : tie.Need-hour-there-requires Inv-loop μ-loop
 hour-there-requires c κs = (c .before .before .before .before .pre .0, c .before .before .before .before .pre .1, omega arith, omega arith)
 
 loop-again : tie.Need-loop-again Inv-loop μ-loop
-loop-again c = (omega arith, to-next (c .before .before .loop .i) (parameters (records (c .before .before .before .before .before .args .d .now)) .has HR) (c .before .before .loop .inv .1) (c .hour-there .ensures))
+loop-again c = (
+  omega arith,
+  to-next (c .before .before .loop .i) (parameters (records (c .before .before .before .before .before .args .d .now)) .has HR)
+      (c .before .before .loop .inv .1) (c .hour-there .ensures),
+)
 
 returns : tie.Need-returns Inv-loop μ-loop
 returns c = c .before .loop .inv .1 ∙ ap (λ (i : ℕ). allTo i (parameters (records (c .before .before .before .before .args .d .now)) .has HR)) (omega arith)

@@ -23,7 +23,12 @@ fp-requires : tie.Need-fp-requires Inv-loop μ-loop
 fp-requires c κs = (c .before .before .before .before .pre .0, c .before .before .before .before .pre .1, omega arith, omega arith)
 
 loop-again : tie.Need-loop-again Inv-loop μ-loop
-loop-again c = (omega arith, to-next (c .before .before .loop .i) (parameters (records (c .before .before .before .before .before .args .d .now)) .has FP) (c .before .before .loop .inv .1) (there-is (records (c .before .before .before .before .before .args .d .now)) FP (c .before .before .loop .i + 1) (c .fp .ensures)))
+loop-again c =
+    let a = c .before .before .before .before .before in (
+      omega arith,
+      to-next (c .before .before .loop .i) (parameters (records (a .args .d .now)) .has FP) (c .before .before .loop .inv .1)
+          (there-is (records (a .args .d .now)) FP (c .before .before .loop .i + 1) (c .fp .ensures)),
+    )
 
 returns : tie.Need-returns Inv-loop μ-loop
 returns c = c .before .loop .inv .1 ∙ ap (λ (i : ℕ). allTo i (parameters (records (c .before .before .before .before .args .d .now)) .has FP)) (omega arith)

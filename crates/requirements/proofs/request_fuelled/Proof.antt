@@ -9,7 +9,8 @@ use Rattle.requirements.proofs.Fuel.{request-none, request-named}
 use Rattle.requirements.proofs.request_fuelled.Statement.{statement}
 use Rattle.requirements.proofs.request_fuelled.Tie as tie
 
-asked : (c : tie.After-requested) → c .requested .result ≡ requested (parametersHeld (c .before .before .before .args .d .now) (c .before .before .before .args .index .now)) (c .before .before .before .args .n)
+asked : (c : tie.After-requested) → c .requested .result ≡ requested
+    (parametersHeld (c .before .before .before .args .d .now) (c .before .before .before .args .index .now)) (c .before .before .before .args .n)
 asked c = c .requested .ensures .0 ∙ sym (says-always (c .before .before .before .pre .0) RQ _ refl 3)
 
 returns : tie.Need-returns

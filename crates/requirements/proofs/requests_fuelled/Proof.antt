@@ -26,7 +26,9 @@ slots-empty-requires : tie.Need-slots-empty-requires Inv-loop μ-loop
 slots-empty-requires c κs = omega (arith, c .before .before .before .pre .roomy, c .slot-rq .ensures, at-one)
 
 returns : tie.Need-returns Inv-loop μ-loop
-returns c = requests-none _ _ (c .before .before .before .before .before .pre) (c .before .before .slot-rq .ensures) (sym (c .before .slots-empty .ensures) ∙ c .if1 .taken)
+returns c =
+    requests-none _ _ (c .before .before .before .before .before .pre) (c .before .before .slot-rq .ensures)
+    (sym (c .before .slots-empty .ensures) ∙ c .if1 .taken)
 
 loop-holds : tie.Need-loop-holds Inv-loop μ-loop
 loop-holds c = (omega arith, unfold allTo in refl)
@@ -35,10 +37,17 @@ request-fuelled-requires : tie.Need-request-fuelled-requires Inv-loop μ-loop
 request-fuelled-requires c κs = (c .before .before .before .before .before .before .before .pre, omega arith, omega arith)
 
 loop-again : tie.Need-loop-again Inv-loop μ-loop
-loop-again c = (omega arith, to-next (c .before .before .loop .n) (fuelled (parameters (held (c .before .before .before .before .before .before .before .before .args .d .now) (c .before .before .before .before .before .before .before .before .args .index .now)))) (c .before .before .loop .inv .1) (c .request-fuelled .ensures))
+loop-again c =
+    let a = c .before .before .before .before .before .before .before .before in (
+      omega arith,
+      to-next (c .before .before .loop .n) (fuelled (parameters (held (a .args .d .now) (a .args .index .now)))) (c .before .before .loop .inv .1)
+          (c .request-fuelled .ensures),
+    )
 
 returns-2 : tie.Need-returns-2 Inv-loop μ-loop
-returns-2 c = c .before .loop .inv .1 ∙ ap (λ (n : ℕ). allTo n (fuelled (parameters (held (c .before .before .before .before .before .before .before .args .d .now) (c .before .before .before .before .before .before .before .args .index .now))))) (omega arith)
+returns-2 c =
+    let a = c .before .before .before .before .before .before .before in
+    c .before .loop .inv .1 ∙ ap (λ (n : ℕ). allTo n (fuelled (parameters (held (a .args .d .now) (a .args .index .now))))) (omega arith)
 
 pub requests-fuelled-spec : {M : Type 1} → statement M
 requests-fuelled-spec =

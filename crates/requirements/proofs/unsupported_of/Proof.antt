@@ -11,16 +11,35 @@ returns : tie.Need-returns
 returns c = draws-7 _ _ (sym (not-true _ (c .if1 .taken)) ∙ c .before .curve-fits .ensures)
 
 returns-2 : tie.Need-returns-2
-returns-2 c = draws-8 _ _ (sym (not-false _ (c .before .before .if1 .left)) ∙ c .before .before .before .curve-fits .ensures) (sym (not-true _ (c .if2 .taken)) ∙ c .before .fuel-holds .ensures ∙ ap fuelHolds (parameters-held (c .before .before .before .before .before .before .pre .0)))
+returns-2 c =
+    draws-8 _ _ (sym (not-false _ (c .before .before .if1 .left)) ∙ c .before .before .before .curve-fits .ensures)
+    (sym (not-true _ (c .if2 .taken)) ∙ c .before .fuel-holds .ensures
+    ∙ ap fuelHolds (parameters-held (c .before .before .before .before .before .before .pre .0)))
 
 returns-3 : tie.Need-returns-3
-returns-3 c = draws-9 _ _ (sym (not-false _ (c .before .before .before .before .if1 .left)) ∙ c .before .before .before .before .before .curve-fits .ensures) (sym (not-false _ (c .before .before .if2 .left)) ∙ c .before .before .before .fuel-holds .ensures ∙ ap fuelHolds (parameters-held (c .before .before .before .before .before .before .before .before .pre .0))) (sym (not-true _ (c .if3 .taken)) ∙ c .before .window-fits .ensures)
+returns-3 c =
+    draws-9 _ _ (sym (not-false _ (c .before .before .before .before .if1 .left)) ∙ c .before .before .before .before .before .curve-fits .ensures)
+    (sym (not-false _ (c .before .before .if2 .left)) ∙ c .before .before .before .fuel-holds .ensures
+    ∙ ap fuelHolds (parameters-held (c .before .before .before .before .before .before .before .before .pre .0)))
+    (sym (not-true _ (c .if3 .taken)) ∙ c .before .window-fits .ensures)
 
 returns-4 : tie.Need-returns-4
-returns-4 c = draws-17 _ _ (sym (not-false _ (c .before .before .before .before .before .before .if1 .left)) ∙ c .before .before .before .before .before .before .before .curve-fits .ensures) (sym (not-false _ (c .before .before .before .before .if2 .left)) ∙ c .before .before .before .before .before .fuel-holds .ensures ∙ ap fuelHolds (parameters-held (c .before .before .before .before .before .before .before .before .before .before .pre .0))) (sym (not-false _ (c .before .before .if3 .left)) ∙ c .before .before .before .window-fits .ensures) (sym (not-true _ (c .if4 .taken)) ∙ c .before .forecast-fits .ensures)
+returns-4 c =
+    draws-17 _ _ (sym (not-false _ (c .before .before .before .before .before .before .if1 .left))
+    ∙ c .before .before .before .before .before .before .before .curve-fits .ensures)
+    (sym (not-false _ (c .before .before .before .before .if2 .left)) ∙ c .before .before .before .before .before .fuel-holds .ensures
+    ∙ ap fuelHolds (parameters-held (c .before .before .before .before .before .before .before .before .before .before .pre .0)))
+    (sym (not-false _ (c .before .before .if3 .left)) ∙ c .before .before .before .window-fits .ensures)
+    (sym (not-true _ (c .if4 .taken)) ∙ c .before .forecast-fits .ensures)
 
 returns-5 : tie.Need-returns-5
-returns-5 c = draws-none _ _ (sym (not-false _ (c .before .before .before .before .before .before .if1 .left)) ∙ c .before .before .before .before .before .before .before .curve-fits .ensures) (sym (not-false _ (c .before .before .before .before .if2 .left)) ∙ c .before .before .before .before .before .fuel-holds .ensures ∙ ap fuelHolds (parameters-held (c .before .before .before .before .before .before .before .before .before .before .pre .0))) (sym (not-false _ (c .before .before .if3 .left)) ∙ c .before .before .before .window-fits .ensures) (sym (not-false _ (c .if4 .left)) ∙ c .before .forecast-fits .ensures)
+returns-5 c =
+    draws-none _ _ (sym (not-false _ (c .before .before .before .before .before .before .if1 .left))
+    ∙ c .before .before .before .before .before .before .before .curve-fits .ensures)
+    (sym (not-false _ (c .before .before .before .before .if2 .left)) ∙ c .before .before .before .before .before .fuel-holds .ensures
+    ∙ ap fuelHolds (parameters-held (c .before .before .before .before .before .before .before .before .before .before .pre .0)))
+    (sym (not-false _ (c .before .before .if3 .left)) ∙ c .before .before .before .window-fits .ensures)
+    (sym (not-false _ (c .if4 .left)) ∙ c .before .forecast-fits .ensures)
 
 pub unsupported-of-spec : {M : Type 1} → statement M
 unsupported-of-spec =

@@ -22,8 +22,15 @@ window-is c = c .window .ensures .0 ∙ says-always (c .before .before .before .
 
 hours-there-requires : tie.Need-hours-there-requires
 hours-there-requires c κs =
-    let s = c .before .before .before .before .before .before in
-    (s .pre .0, s .pre .1, omega (arith, storage-window _ _ (s .pre .0) (sym (technology-is (c .before .before .before)) ∙ c .before .before .if1 .left), window-is c))
+    let s = c .before .before .before .before .before .before in (
+      s .pre .0,
+      s .pre .1,
+      omega (
+        arith,
+        storage-window _ _ (s .pre .0) (sym (technology-is (c .before .before .before)) ∙ c .before .before .if1 .left),
+        window-is c,
+      ),
+    )
 
 returns-2 : tie.Need-returns-2
 returns-2 c =

@@ -25,7 +25,8 @@ At i = i .before
 abbrev St : tie.At-loop Inv-loop μ-loop → tie.Start Inv-loop μ-loop
 St a = a .before .before .before .before .before
 
-here : (i : tie.In-loop Inv-loop μ-loop) → (0 < At i .loop .node) × (At i .loop .node ≤ St (At i) .args .count) × (At i .loop .at < St (At i) .args .roots + 2 * At i .loop .node)
+here : (i : tie.In-loop Inv-loop μ-loop) → (0 < At i .loop .node) × (At i .loop .node ≤ St (At i) .args .count)
+    × (At i .loop .at < St (At i) .args .roots + 2 * At i .loop .node)
 here i = facts (St (At i) .pre) (At i .loop .inv .1) (i .loop-test .taken)
 
 root-of-requires : tie.Need-root-of-requires Inv-loop μ-loop
@@ -41,7 +42,9 @@ cast-node : tie.Need-cast-node Inv-loop μ-loop
 cast-node c = omega (arith, c .before .before .before .before .pre .small (c .before .root-of .result), sizes (c .before .before .before .before .pre))
 
 loop-holds : tie.Need-loop-holds Inv-loop μ-loop
-loop-holds c = (omega (arith, first-fits (c .before)), refl, begin _ (c .before .before .before .before .args .links .now) (c .before .before .before .before .args .ids .now) (c .before .before .before .before .args .x) (c .before .root-of .ensures))
+loop-holds c =
+    let a = c .before .before .before .before in
+    (omega (arith, first-fits (c .before)), refl, begin _ (a .args .links .now) (a .args .ids .now) (a .args .x) (c .before .root-of .ensures))
 
 mul-if1 : tie.Need-mul-if1 Inv-loop μ-loop
 mul-if1 c = omega (arith, here c, sizes (St (At c) .pre))
@@ -53,7 +56,8 @@ returns : tie.Need-returns Inv-loop μ-loop
 returns c =
     let i = c .before .before in
     let l = At i .loop in
-    met _ (St (At i) .args .links .now) (St (At i) .args .ids .now) (St (At i) .args .count) (St (At i) .args .x) (l .at) (l .left) (l .node) (l .inv .2) (l .inv .1) (here i .0) (c .if1 .taken)
+    met _ (St (At i) .args .links .now) (St (At i) .args .ids .now) (St (At i) .args .count) (St (At i) .args .x) (l .at) (l .left) (l .node) (l .inv .2)
+    (l .inv .1) (here i .0) (c .if1 .taken)
 
 mul-at : tie.Need-mul-at Inv-loop μ-loop
 mul-at c = omega (arith, here (c .before .before), sizes (St (At (c .before .before)) .pre))
@@ -82,8 +86,12 @@ loop-less c = omega (arith, here (c .before .before .before), sizes (St (At (c .
 loop-again : tie.Need-loop-again Inv-loop μ-loop
 loop-again c =
     let i = c .before .before .before in
-    let l = At i .loop in
-    (omega (arith, here i), refl, onward _ (St (At i) .args .links .now) (St (At i) .args .ids .now) (St (At i) .args .count) (St (At i) .args .x) (l .at) (l .left) (l .node) (l .inv .2) (l .inv .1) (here i .0) (c .before .if1 .left))
+    let l = At i .loop in (
+      omega (arith, here i),
+      refl,
+      onward _ (St (At i) .args .links .now) (St (At i) .args .ids .now) (St (At i) .args .count) (St (At i) .args .x) (l .at)
+          (l .left) (l .node) (l .inv .2) (l .inv .1) (here i .0) (c .before .if1 .left),
+    )
 
 add-links : tie.Need-add-links Inv-loop μ-loop
 add-links c = omega (arith, c .before .loop .inv .0, sizes (St (c .before) .pre))
@@ -107,7 +115,8 @@ returns-2 : tie.Need-returns-2 Inv-loop μ-loop
 returns-2 c =
     let a = c .before in
     let l = a .loop in
-    gap _ (St a .args .links .now) (St a .args .ids .now) (St a .args .count) (St a .args .x) (l .at) (l .left) (l .node) (l .inv .2) (l .inv .1) (c .loop-test .left)
+    gap _ (St a .args .links .now) (St a .args .ids .now) (St a .args .count) (St a .args .x) (l .at) (l .left) (l .node) (l .inv .2) (l .inv .1)
+    (c .loop-test .left)
 
 pub enter-spec : {M : Type 1} → statement M
 enter-spec =

@@ -5,7 +5,9 @@ use Rattle.twins.proofs.in_16000.Statement.{statement}
 use Rattle.twins.proofs.in_16000.Tie as tie
 
 search-requires : tie.Need-search-requires
-search-requires c κs = (fresh 4096 1602 (omega arith) (omega arith) (omega arith) (omega (arith, c .before .before .before .pre .0)), c .before .before .before .pre .1)
+search-requires c κs =
+    let a = c .before .before .before in
+    (fresh 4096 1602 (omega arith) (omega arith) (omega arith) (omega (arith, a .pre .0)), a .pre .1)
 
 pub in-16000-spec : {M : Type 1} → statement M
 in-16000-spec =

@@ -14,7 +14,8 @@ use Rattle.twins.proofs.search.Statement.{statement}
 use Rattle.twins.proofs.search.Tie as tie
 
 abbrev Inv-loop : tie.InvT-loop
-Inv-loop d links₀ ids₀ roots at₀ count₀ links ids at count = (at ≤ length d) × (shortest * count ≤ at) × (length links ≡ length links₀) × (length ids ≡ length ids₀) × Known roots d links ids at count
+Inv-loop d links₀ ids₀ roots at₀ count₀ links ids at count = (at ≤ length d) × (shortest * count ≤ at) × (length links ≡ length links₀)
+    × (length ids ≡ length ids₀) × Known roots d links ids at count
 
 abbrev μ-loop : tie.MeasureT-loop
 μ-loop d links₀ ids₀ roots at₀ count₀ links ids at count = length d - at
@@ -58,7 +59,8 @@ slot-below : (c : Turn) → c .entry-at .result .slot < wide
 slot-below c = slot-fits (d-of c) (at-of c) (inside c) (At c .loop .inv .4) (its-size c) (its-slot c)
 
 -- it is within the dossier, and there is room for it
-its : (c : Turn) → (shortest ≤ len-of c) × (len-of c ≤ length (d-of c) - at-of c) × (shortest * At c .loop .count ≤ at-of c) × (length (d-of c) + shortest < shortest * length (At c .loop .ids)) × (length (At c .loop .ids) ≤ 65535)
+its : (c : Turn) → (shortest ≤ len-of c) × (len-of c ≤ length (d-of c) - at-of c) × (shortest * At c .loop .count ≤ at-of c)
+    × (length (d-of c) + shortest < shortest * length (At c .loop .ids)) × (length (At c .loop .ids) ≤ 65535)
 its c = (
   spans (d-of c) (at-of c) (inside c) (At c .loop .inv .4) (its-size c) .0,
   spans (d-of c) (at-of c) (inside c) (At c .loop .inv .4) (its-size c) .1,
@@ -86,7 +88,8 @@ returns : tie.Need-returns Inv-loop μ-loop
 returns c =
     let u = c .before .before .before .before .before .before .before .before in
     let t = u .before .before in
-    twin-there (d-of t) (at-of t) (inside t) (At t .loop .inv .4) (its-size t) (its-slot t) (u .u32-at .ensures) (u .u32-at .ok) (c .before .before .before .before .before .enter .ensures) (c .if1 .taken)
+    twin-there (d-of t) (at-of t) (inside t) (At t .loop .inv .4) (its-size t) (its-slot t) (u .u32-at .ensures) (u .u32-at .ok)
+    (c .before .before .before .before .before .enter .ensures) (c .if1 .taken)
 
 add-count : tie.Need-add-count Inv-loop μ-loop
 add-count c = omega (arith, its (c .before .before .before .before .before .before .before .before .before .before))
@@ -97,8 +100,14 @@ loop-less c = omega (arith, its (c .before .before .before .before .before .befo
 loop-again : tie.Need-loop-again Inv-loop μ-loop
 loop-again c =
     let u = c .before .before .before .before .before .before .before .before in
-    let t = u .before .before in
-    (omega (arith, its t), omega (arith, its t), search needs, search needs, none-there (d-of t) (at-of t) (inside t) (At t .loop .inv .4) (its-size t) (its-slot t) (u .u32-at .ensures) (u .u32-at .ok) (c .before .before .before .before .before .enter .ensures) (c .if1 .left) (omega (arith, its t)))
+    let t = u .before .before in (
+      omega (arith, its t),
+      omega (arith, its t),
+      search needs,
+      search needs,
+      none-there (d-of t) (at-of t) (inside t) (At t .loop .inv .4) (its-size t) (its-slot t) (u .u32-at .ensures) (u .u32-at .ok)
+          (c .before .before .before .before .before .enter .ensures) (c .if1 .left) (omega (arith, its t)),
+    )
 
 returns-2 : tie.Need-returns-2 Inv-loop μ-loop
 returns-2 c = finish _ _ (c .loop-test .left) (c .before .loop .inv .4)

@@ -36,7 +36,8 @@ returns-2 c =
     let l = c .before .before .before .before .before .before .before .before .before .before in
     let j = l .before .before .before .before .before .before .before .before .before .before in
     let args = j .before .before .before .before .before .args in
-    told-words (args .d .now) (args .hour) (args .words .now) _ (answer-is j (l .before .before .before .before .before .before .enum-told .given .1)) (l .before .before .before .before .before .if1 .left)
+    told-words (args .d .now) (args .hour) (args .words .now) _ (answer-is j (l .before .before .before .before .before .before .enum-told .given .1))
+    (l .before .before .before .before .before .if1 .left)
     (l .hour-levels .ensures) (c .before .before .put-words .ensures)
 
 returns-3 : tie.Need-returns-3

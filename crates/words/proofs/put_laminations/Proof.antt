@@ -39,7 +39,8 @@ few c = c .before .pre .2 .few
 -- a turn leaves the list as long as it was
 words-long : (c : At) → length (c .loop .words) ≡ length (c .before .args .words .now)
 words-long c =
-    wrote-length (c .before .args .profile) (lv-of (c .before)) (c .before .args .words .now) (c .loop .i) (omega (arith, c .loop .inv .0, few c)) (c .before .pre .0) (c .loop .inv .1)
+    wrote-length (c .before .args .profile) (lv-of (c .before)) (c .before .args .words .now) (c .loop .i) (omega (arith, c .loop .inv .0, few c))
+    (c .before .pre .0) (c .loop .inv .1)
 
 mul-at : tie.Need-mul-at Inv-loop μ-loop
 mul-at c = omega (arith, few (c .before))
@@ -63,8 +64,11 @@ slice-write-words-5 c =
 
 loop-again : tie.Need-loop-again Inv-loop μ-loop
 loop-again c =
-    let l = c .before .before .before .before in
-    (omega arith, next-words (l .before .args .profile) (lv-of (l .before)) (l .before .args .words .now) (l .loop .i) (omega (arith, few l)) (l .before .pre .0) (l .loop .inv .1))
+    let l = c .before .before .before .before in (
+      omega arith,
+      next-words (l .before .args .profile) (lv-of (l .before)) (l .before .args .words .now) (l .loop .i) (omega (arith, few l))
+          (l .before .pre .0) (l .loop .inv .1),
+    )
 
 same-length : tie.Need-same-length Inv-loop μ-loop
 same-length c = omega (arith, words-long (c .before))
@@ -72,7 +76,8 @@ same-length c = omega (arith, words-long (c .before))
 returns : tie.Need-returns Inv-loop μ-loop
 returns c =
     let a = c .before .before in
-    all-places (a .args .profile) (lv-of a) (a .pre .2) (a .args .words .now) (a .pre .0) (a .pre .1) (omega (arith, c .before .loop .inv .0, c .loop-test .left)) (c .before .loop .inv .1)
+    all-places (a .args .profile) (lv-of a) (a .pre .2) (a .args .words .now) (a .pre .0) (a .pre .1)
+    (omega (arith, c .before .loop .inv .0, c .loop-test .left)) (c .before .loop .inv .1)
 
 pub put-laminations-spec : {M : Type 1} → statement M
 put-laminations-spec =

@@ -61,7 +61,8 @@ stands c =
 same-length : tie.Need-same-length
 same-length c =
     let h : 66 ≤ length (given c) = start c .pre .0 in
-    let l : length (set (set (words-2 c) 64 (lv-of c .noload)) 65 (lv-of c .reserve)) ≡ length (given c) = simp length-set (placed-length (lv-of c) (given c) (omega arith) (stands c)) in
+    let l : length (set (set (words-2 c) 64 (lv-of c .noload)) 65 (lv-of c .reserve)) ≡ length (given c) = simp length-set
+    (placed-length (lv-of c) (given c) (omega arith) (stands c)) in
     omega arith
 
 returns : tie.Need-returns

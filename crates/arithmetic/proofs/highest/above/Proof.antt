@@ -33,8 +33,12 @@ add-n c = omega (arith, one-high (test c))
 loop-again : tie.Need-loop-again Inv-loop μ-loop
 unfolding test
 loop-again c =
-    let i = c .before .before in
-    (omega arith, omega (arith, one-high (test c)), sum-turn _ (i .before .args .s .now) (i .loop .k) _ _ _ (c .before .loop-test .taken) (i .loop .inv .2) (one-if (test c)))
+    let i = c .before .before in (
+      omega arith,
+      omega (arith, one-high (test c)),
+      sum-turn _ (i .before .args .s .now) (i .loop .k) _ _ _ (c .before .loop-test .taken) (i .loop .inv .2)
+          (one-if (test c)),
+    )
 
 returns : tie.Need-returns Inv-loop μ-loop
 returns c = sum-end _ (c .before .before .args .s .now) _ _ _ (c .loop-test .left) (c .before .loop .inv .2)

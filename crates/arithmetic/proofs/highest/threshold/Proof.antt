@@ -14,8 +14,17 @@ abbrev μ-loop : tie.MeasureT-loop
 
 loop-again : tie.Need-loop-again Inv-loop μ-loop
 loop-again c =
-    let l = c .before .before .before .loop in
-    (omega arith, omega arith, omega arith, omega (arith, c .before .above .ensures, above-next (l .lo + (l .hi - l .lo) / 2) (c .before .before .before .before .before .args .s .now)), l .inv .4)
+    let l = c .before .before .before .loop in (
+      omega arith,
+      omega arith,
+      omega arith,
+      omega (
+        arith,
+        c .before .above .ensures,
+        above-next (l .lo + (l .hi - l .lo) / 2) (c .before .before .before .before .before .args .s .now),
+      ),
+      l .inv .4,
+    )
 
 loop-again-2 : tie.Need-loop-again-2 Inv-loop μ-loop
 loop-again-2 c =
@@ -30,8 +39,11 @@ returns c =
 
 returns-2 : tie.Need-returns-2 Inv-loop μ-loop
 returns-2 c =
-    let l = c .before .loop in
-    (threshold-met _ _ (l .lo) (l .hi) (c .before .before .before .args .s .now) (c .loop-test .left) (l .inv .0) (l .inv .3) (l .inv .4), omega arith, omega arith)
+    let l = c .before .loop in (
+      threshold-met _ _ (l .lo) (l .hi) (c .before .before .before .args .s .now) (c .loop-test .left) (l .inv .0) (l .inv .3) (l .inv .4),
+      omega arith,
+      omega arith,
+    )
 
 pub threshold-spec : {M : Type 1} → statement M
 threshold-spec =

@@ -19,8 +19,11 @@ loop-holds c = (search needs, refl)
 
 loop-again : tie.Need-loop-again Inv-loop μ-loop
 loop-again c =
-    let i = c .before .before .before in
-    (omega arith, turn-next max (i .before .before .args .s .now) (i .loop .k) _ _ _ (c .before .before .loop-test .taken) (i .loop .inv .1) (c .higher .ensures))
+    let i = c .before .before .before in (
+      omega arith,
+      turn-next max (i .before .before .args .s .now) (i .loop .k) _ _ _ (c .before .before .loop-test .taken) (i .loop .inv .1)
+          (c .higher .ensures),
+    )
 
 returns : tie.Need-returns Inv-loop μ-loop
 returns c = turn-end max (c .before .before .before .args .s .now) _ _ _ (c .loop-test .left) (c .before .loop .inv .1)

@@ -15,7 +15,8 @@ use Rattle.conduct.proofs.refusals.above_capacity.Tie as tie
 
 abbrev Inv-loop : tie.InvT-loop
 Inv-loop d index offer capacity pairs k₀ k =
-    (k ≤ pairs) × (pairs ≤ 20) × (capacity ≡ capacityOf (parameters (records d))) × (aboveCapacity (parameters (records d)) offer k (pairs - k) ≡ aboveCapacity (parameters (records d)) offer 0 pairs)
+    (k ≤ pairs) × (pairs ≤ 20) × (capacity ≡ capacityOf (parameters (records d)))
+    × (aboveCapacity (parameters (records d)) offer k (pairs - k) ≡ aboveCapacity (parameters (records d)) offer 0 pairs)
 
 abbrev μ-loop : tie.MeasureT-loop
 μ-loop d index offer capacity pairs k₀ k = pairs - k
@@ -24,13 +25,20 @@ rs-requires : tie.Need-rs-requires Inv-loop μ-loop
 rs-requires c κs = c .before .before .before .pre .0
 
 loop-holds : tie.Need-loop-holds Inv-loop μ-loop
-loop-holds c = (omega arith, omega (arith, c .before .before .before .before .before .pre .1), c .u16-at .ensures ∙ ap (number 7 2) (c .before .rs .ensures) ∙ sym (capacity-at (records (c .before .before .before .before .before .args .d .now))), all-left (aboveCapacity _ _ 0) _)
+loop-holds c =
+    let a = c .before .before .before .before .before in (
+      omega arith,
+      omega (arith, a .pre .1),
+      c .u16-at .ensures ∙ ap (number 7 2) (c .before .rs .ensures) ∙ sym (capacity-at (records (a .args .d .now))),
+      all-left (aboveCapacity _ _ 0) _,
+    )
 
 returns : tie.Need-returns Inv-loop μ-loop
 returns c =
     let i = c .before .before .before .loop in
     let a = c .before .before .before .before .before .before .before .before .before .args in
-    above-stop (parameters (records (a .d .now))) (a .offer .now) (length (a .offer .now) / 6) (i .k) _ _ (c .before .before .loop-test .taken) (i .inv .2) (c .before .quantity-at .ensures) (c .if1 .taken)
+    above-stop (parameters (records (a .d .now))) (a .offer .now) (length (a .offer .now) / 6) (i .k) _ _ (c .before .before .loop-test .taken) (i .inv .2)
+    (c .before .quantity-at .ensures) (c .if1 .taken)
     ∙ i .inv .3
 
 loop-again : tie.Need-loop-again Inv-loop μ-loop
@@ -40,7 +48,8 @@ loop-again c =
       omega arith,
       omega arith,
       i .inv .2,
-      above-next (parameters (records (a .d .now))) (a .offer .now) (length (a .offer .now) / 6) (i .k) _ _ (c .before .before .loop-test .taken) (i .inv .2) (c .before .quantity-at .ensures) (c .if1 .left)
+      above-next (parameters (records (a .d .now))) (a .offer .now) (length (a .offer .now) / 6) (i .k) _ _ (c .before .before .loop-test .taken) (i .inv .2)
+          (c .before .quantity-at .ensures) (c .if1 .left)
           ∙ i .inv .3,
     )
 

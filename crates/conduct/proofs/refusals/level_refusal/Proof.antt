@@ -8,17 +8,21 @@ use borrow.Author.Needs.{needs}
 use Rattle.conduct.proofs.refusals.level_refusal.Statement.{statement}
 use Rattle.conduct.proofs.refusals.level_refusal.Tie as tie
 
-technology-is : (c : tie.After-level-held) → c .before .u8-at .result ≡ technology (parameters (records (c .before .before .before .before .before .args .d .now)))
+technology-is : (c : tie.After-level-held) → c .before .u8-at .result ≡ technology
+    (parameters (records (c .before .before .before .before .before .args .d .now)))
 technology-is c =
-    c .before .u8-at .ensures ∙ ap (number 6 1) (c .before .before .rs .ensures) ∙ sym (technology-at (records (c .before .before .before .before .before .args .d .now)))
+    c .before .u8-at .ensures ∙ ap (number 6 1) (c .before .before .rs .ensures)
+    ∙ sym (technology-at (records (c .before .before .before .before .before .args .d .now)))
 
 returns : tie.Need-returns
 returns c =
-    level-refused (parameters (records (c .before .before .before .before .before .before .args .d .now))) (c .before .before .before .before .before .before .args .level) _ _ (technology-is (c .before)) (c .before .level-held .ensures) (c .if1 .taken)
+    level-refused (parameters (records (c .before .before .before .before .before .before .args .d .now)))
+    (c .before .before .before .before .before .before .args .level) _ _ (technology-is (c .before)) (c .before .level-held .ensures) (c .if1 .taken)
 
 returns-2 : tie.Need-returns-2
 returns-2 c =
-    level-accepted (parameters (records (c .before .before .before .before .before .before .args .d .now))) (c .before .before .before .before .before .before .args .level) _ _ (technology-is (c .before)) (c .before .level-held .ensures) (c .if1 .left)
+    level-accepted (parameters (records (c .before .before .before .before .before .before .args .d .now)))
+    (c .before .before .before .before .before .before .args .level) _ _ (technology-is (c .before)) (c .before .level-held .ensures) (c .if1 .left)
 
 pub level-refusal-spec : {M : Type 1} → statement M
 level-refusal-spec =

@@ -26,7 +26,8 @@ returns : tie.Need-returns Inv-loop μ-loop
 returns c =
     let i = c .before .before .before .before .before .loop in
     let o = c .before .before .before .before .before .before .before .args .offer .now in
-    malformed-stop o (length o / 6) (i .k) (i .low) (i .last) _ _ (c .before .before .before .before .loop-test .taken) (i .inv .2) (i .inv .3) (c .before .before .before .quantity-at .ensures) (c .before .before .price-at .ensures .0)
+    malformed-stop o (length o / 6) (i .k) (i .low) (i .last) _ _ (c .before .before .before .before .loop-test .taken) (i .inv .2) (i .inv .3)
+    (c .before .before .before .quantity-at .ensures) (c .before .before .price-at .ensures .0)
     (sym (c .before .pair-holds .ensures) ∙ not-true _ (c .if1 .taken))
     ∙ i .inv .4
 
@@ -38,7 +39,8 @@ loop-again c =
       omega arith,
       c .before .before .before .quantity-at .ensures ∙ before-next o (i .k),
       c .before .before .price-at .ensures .0 ∙ priceBefore-next o (i .k),
-      malformed-next o (length o / 6) (i .k) (i .low) (i .last) _ _ (c .before .before .before .before .loop-test .taken) (i .inv .2) (i .inv .3) (c .before .before .before .quantity-at .ensures) (c .before .before .price-at .ensures .0)
+      malformed-next o (length o / 6) (i .k) (i .low) (i .last) _ _ (c .before .before .before .before .loop-test .taken) (i .inv .2) (i .inv .3)
+          (c .before .before .before .quantity-at .ensures) (c .before .before .price-at .ensures .0)
           (sym (c .before .pair-holds .ensures) ∙ not-false _ (c .if1 .left))
           ∙ i .inv .4,
     )

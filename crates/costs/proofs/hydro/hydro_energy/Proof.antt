@@ -14,7 +14,9 @@ forecast-price-requires c κs =
     (p .0, c .window .ensures .0 ∙ says-always (p .0) RS 0 refl 8, omega (arith, p .3, c .window .ensures .0), c .window .ensures .1)
 
 returns : tie.Need-returns
-returns c = hydro-costs _ _ _ (c .before .forecast-price .ensures .0 ∙ sym (forecast-always (c .before .before .before .before .before .pre .0))) (c .additions .ensures .0)
+returns c =
+    hydro-costs _ _ _ (c .before .forecast-price .ensures .0 ∙ sym (forecast-always (c .before .before .before .before .before .pre .0)))
+    (c .additions .ensures .0)
 
 pub hydro-energy-spec : {M : Type 1} → statement M
 hydro-energy-spec =

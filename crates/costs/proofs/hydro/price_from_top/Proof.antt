@@ -20,15 +20,19 @@ unfolding prices-of
 from-top-requires c κs =
     let p = c .before .before .before in
     let a = p .before .before .before .before in
-    let r = prices-ready 4000 (placePrice (amounts (records (a .args .d .now)))) (prices-of p) (a .args .places) (a .pre .2) (p .prices .ensures) (place-in (clean (a .pre .0))) in
+    let r = prices-ready 4000 (placePrice (amounts (records (a .args .d .now)))) (prices-of p) (a .args .places) (a .pre .2) (p .prices .ensures)
+    (place-in (clean (a .pre .0))) in
     (a .pre .3, omega (arith, r .0, a .pre .4), omega (arith, r .0, a .pre .2), r .1)
 
 returns : tie.Need-returns
 unfolding prices-of
 returns c =
     let p = c .before .before .before .before in
-    let a = p .before .before .before .before in
-    (c .from-top .ensures .0 ∙ ap (fromTop (a .args .place)) (prices-part 4000 (placePrice (amounts (records (a .args .d .now)))) (prices-of p) (a .args .places) (a .pre .2) (p .prices .ensures)), c .from-top .ensures .2)
+    let a = p .before .before .before .before in (
+      c .from-top .ensures .0 ∙ ap (fromTop (a .args .place))
+          (prices-part 4000 (placePrice (amounts (records (a .args .d .now)))) (prices-of p) (a .args .places) (a .pre .2) (p .prices .ensures)),
+      c .from-top .ensures .2,
+    )
 
 pub price-from-top-spec : {M : Type 1} → statement M
 price-from-top-spec =

@@ -20,13 +20,22 @@ abbrev μ-loop : tie.MeasureT-loop
 μ-loop d index p v sum₀ c₀ sum c = 5 - c
 
 slots-empty-requires : tie.Need-slots-empty-requires Inv-loop μ-loop
-slots-empty-requires c κs = let q = c .before .before .before .pre in omega (arith, c .slot-ad .ensures, adder-slot (c .before .before .before .args .p) 1 1 (omega arith) (omega arith), q .0 .roomy, q .2)
+slots-empty-requires c κs =
+    let q = c .before .before .before .pre in omega (
+      arith,
+      c .slot-ad .ensures,
+      adder-slot (c .before .before .before .args .p) 1 1 (omega arith) (omega arith),
+      q .0 .roomy,
+      q .2,
+    )
 
 returns : tie.Need-returns Inv-loop μ-loop
 returns c =
     let a = c .before .before .before .before .before .args in
-    let q = c .before .before .before .before .before .pre in
-    (no-adders (q .0) (a .p) (q .1) (q .2) (c .before .before .slot-ad .ensures) (sym (c .before .slots-empty .ensures) ∙ c .if1 .taken) (a .v) (q .3) (q .4), omega arith)
+    let q = c .before .before .before .before .before .pre in (
+      no-adders (q .0) (a .p) (q .1) (q .2) (c .before .before .slot-ad .ensures) (sym (c .before .slots-empty .ensures) ∙ c .if1 .taken) (a .v) (q .3) (q .4),
+      omega arith,
+    )
 
 loop-holds : tie.Need-loop-holds Inv-loop μ-loop
 unfolding sumTo

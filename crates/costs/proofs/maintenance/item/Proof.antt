@@ -15,8 +15,11 @@ mul-share-2 c = omega (arith, mul-le-mul (c .before .item-output .ensures .1) (c
 
 returns : tie.Need-returns
 returns c =
-    let z = c .before in
-    (c .share .ensures .0 ∙ ap₂ quotient (ap (λ (x : ℕ). x * 100000) (z .before .before .item-cost .ensures .0)) (ap₂ (λ (x y : ℕ). x * y) (z .before .item-output .ensures .0) (z .item-interval .ensures .0)), omega (arith, c .share .ensures .1, z .before .before .item-cost .ensures .1))
+    let z = c .before in (
+      c .share .ensures .0 ∙ ap₂ quotient (ap (λ (x : ℕ). x * 100000) (z .before .before .item-cost .ensures .0))
+          (ap₂ (λ (x y : ℕ). x * y) (z .before .item-output .ensures .0) (z .item-interval .ensures .0)),
+      omega (arith, c .share .ensures .1, z .before .before .item-cost .ensures .1),
+    )
 
 pub item-spec : {M : Type 1} → statement M
 item-spec =

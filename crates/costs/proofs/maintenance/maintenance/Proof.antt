@@ -15,7 +15,8 @@ use Rattle.costs.proofs.maintenance.maintenance.Tie as tie
 
 abbrev Inv-loop : tie.InvT-loop
 Inv-loop d index p sum₀ j₀ sum j =
-    (j ≤ 8) × (sum ≤ j * 10000000000000000) × (sum ≡ sumTo j (λ k. quotient (costC (amounts (held d index)) p k * 100000) (outputW (parameters (held d index)) p k * intervalT (parameters (held d index)) p k)))
+    (j ≤ 8) × (sum ≤ j * 10000000000000000) × (sum ≡ sumTo j
+    (λ k. quotient (costC (amounts (held d index)) p k * 100000) (outputW (parameters (held d index)) p k * intervalT (parameters (held d index)) p k)))
 
 abbrev μ-loop : tie.MeasureT-loop
 μ-loop d index p sum₀ j₀ sum j = 8 - j

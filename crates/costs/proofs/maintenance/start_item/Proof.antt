@@ -15,8 +15,15 @@ mul-share-2 c = omega (arith, mul-le-mul (c .before .before .item-cost .ensures 
 
 returns : tie.Need-returns
 returns c =
-    let z = c .before in
-    (c .share .ensures .0 ∙ ap₂ quotient (ap₂ (λ (x y : ℕ). x * y * 1000) (z .before .before .item-cost .ensures .0) (z .item-hours .ensures .0)) (z .before .item-interval .ensures .0), omega (arith, c .share .ensures .1, mul-le-mul (z .before .before .item-cost .ensures .1) (z .item-hours .ensures .1)))
+    let z = c .before in (
+      c .share .ensures .0 ∙ ap₂ quotient (ap₂ (λ (x y : ℕ). x * y * 1000) (z .before .before .item-cost .ensures .0) (z .item-hours .ensures .0))
+          (z .before .item-interval .ensures .0),
+      omega (
+        arith,
+        c .share .ensures .1,
+        mul-le-mul (z .before .before .item-cost .ensures .1) (z .item-hours .ensures .1),
+      ),
+    )
 
 pub start-item-spec : {M : Type 1} → statement M
 start-item-spec =

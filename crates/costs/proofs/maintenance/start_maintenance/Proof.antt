@@ -15,7 +15,8 @@ use Rattle.costs.proofs.maintenance.start_maintenance.Tie as tie
 
 abbrev Inv-loop : tie.InvT-loop
 Inv-loop d index p sum₀ j₀ sum j =
-    (j ≤ 8) × (sum ≤ j * 1000000000000000000) × (sum ≡ sumTo j (λ k. quotient (costC (amounts (held d index)) p k * hoursPerStartS (parameters (held d index)) p k * 1000) (intervalT (parameters (held d index)) p k)))
+    (j ≤ 8) × (sum ≤ j * 1000000000000000000) × (sum ≡ sumTo j
+    (λ k. quotient (costC (amounts (held d index)) p k * hoursPerStartS (parameters (held d index)) p k * 1000) (intervalT (parameters (held d index)) p k)))
 
 abbrev μ-loop : tie.MeasureT-loop
 μ-loop d index p sum₀ j₀ sum j = 8 - j
@@ -27,8 +28,10 @@ slots-empty-requires c κs = let q = c .before .before .before .pre in omega (ar
 returns : tie.Need-returns Inv-loop μ-loop
 returns c =
     let a = c .before .before .before .before .before .args in
-    let q = c .before .before .before .before .before .pre in
-    (no-start-maintenance (q .0) (a .p) (q .1) (q .2) (c .before .before .slot-mm .ensures) (sym (c .before .slots-empty .ensures) ∙ c .if1 .taken), omega arith)
+    let q = c .before .before .before .before .before .pre in (
+      no-start-maintenance (q .0) (a .p) (q .1) (q .2) (c .before .before .slot-mm .ensures) (sym (c .before .slots-empty .ensures) ∙ c .if1 .taken),
+      omega arith,
+    )
 
 loop-holds : tie.Need-loop-holds Inv-loop μ-loop
 unfolding sumTo

@@ -21,7 +21,8 @@ add-result c = omega (arith, c .before .share .ensures .1, product (c .before .b
 returns : tie.Need-returns
 returns c =
     let f = c .before .before in
-    nuclear-costs _ _ _ (f .before .before .incremental-fuel .ensures .0) (f .before .fuel .ensures .0) (f .factor .ensures .0) (c .before .share .ensures .0) (c .additions .ensures .0)
+    nuclear-costs _ _ _ (f .before .before .incremental-fuel .ensures .0) (f .before .fuel .ensures .0) (f .factor .ensures .0) (c .before .share .ensures .0)
+    (c .additions .ensures .0)
 
 pub nuclear-energy-spec : {M : Type 1} → statement M
 nuclear-energy-spec =

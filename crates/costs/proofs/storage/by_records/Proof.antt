@@ -24,14 +24,26 @@ loop-holds c = let a = c .before .before .pre in walk-begins (a .0) (a .1)
 
 with-record-requires : tie.Need-with-record-requires Inv-loop μ-loop
 with-record-requires c κs =
-    let a = c .before .before .before .before .before .before in
-    (a .pre .0, a .pre .1, c .before .before .loop-test .taken, c .kind-at .ensures ∙ ap mark (tail (a .args .d .now) (c .before .before .before .loop .at)), c .before .before .before .loop .inv)
+    let a = c .before .before .before .before .before .before in (
+      a .pre .0,
+      a .pre .1,
+      c .before .before .loop-test .taken,
+      c .kind-at .ensures ∙ ap mark (tail (a .args .d .now) (c .before .before .before .loop .at)),
+      c .before .before .before .loop .inv,
+    )
 
 length-of-requires : tie.Need-length-of-requires Inv-loop μ-loop
 length-of-requires c κs = rw (c .before .kind-at .ensures) (mark-lt _)
 
 add-at : tie.Need-add-at Inv-loop μ-loop
-add-at c = omega (arith, c .length-of .ensures, size-le (c .before .before .kind-at .result) (rw (c .before .before .kind-at .ensures) (mark-lt _)), c .before .before .before .before .loop-test .taken, c .before .before .before .before .before .before .before .before .pre .0 .short)
+add-at c =
+    omega (
+      arith,
+      c .length-of .ensures,
+      size-le (c .before .before .kind-at .result) (rw (c .before .before .kind-at .ensures) (mark-lt _)),
+      c .before .before .before .before .loop-test .taken,
+      c .before .before .before .before .before .before .before .before .pre .0 .short,
+    )
 
 loop-less : tie.Need-loop-less Inv-loop μ-loop
 loop-less c = omega (arith, c .length-of .ensures, size-ge (c .before .before .kind-at .result), c .before .before .before .before .loop-test .taken)

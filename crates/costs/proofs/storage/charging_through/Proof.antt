@@ -26,7 +26,8 @@ returns-2 c =
     let x = c .before .less .result in
     let y = c1 .before .before .sums .result .energy in (
       rw (ne-eqb (totalEnergy _) 0 (λ z. c1 .if1 .left (e .1 ∙ z)))
-          (c .share .ensures .0 ∙ ap₂ quotient (ap (λ (z : ℕ). z * 10000) (c .before .less .ensures ∙ ap₂ (λ (a b : ℕ). a - 2147483648 * b) (e .0) (e .1))) (e .1)),
+          (c .share .ensures .0 ∙ ap₂ quotient (ap (λ (z : ℕ). z * 10000) (c .before .less .ensures ∙ ap₂ (λ (a b : ℕ). a - 2147483648 * b) (e .0) (e .1)))
+          (e .1)),
       omega (arith, c .share .ensures .0, quotient-le (x * 10000) y 2000000000 (omega (arith, c .before .less .ensures))),
     )
 

@@ -20,15 +20,19 @@ unfolding prices-of
 highest-requires c κs =
     let p = c .before .before .before in
     let a = p .before .before .before .before in
-    let r = prices-ready 168 (hourPrice (amounts (held (a .args .d .now) (a .args .index .now)))) (prices-of p) (a .args .window) (a .pre .1) (p .prices .ensures) (hour-in (held-clean (a .pre .0))) in
+    let r = prices-ready 168 (hourPrice (amounts (held (a .args .d .now) (a .args .index .now)))) (prices-of p) (a .args .window) (a .pre .1)
+    (p .prices .ensures) (hour-in (held-clean (a .pre .0))) in
     (omega (arith, r .0, a .pre .2), omega (arith, r .0, a .pre .1), r .1)
 
 returns : tie.Need-returns
 unfolding prices-of
 returns c =
     let p = c .before .before .before .before in
-    let a = p .before .before .before .before in
-    (c .highest .ensures .0 ∙ ap (sumHighest (a .args .hours)) (prices-part 168 (hourPrice (amounts (held (a .args .d .now) (a .args .index .now)))) (prices-of p) (a .args .window) (a .pre .1) (p .prices .ensures)), c .highest .ensures .1)
+    let a = p .before .before .before .before in (
+      c .highest .ensures .0 ∙ ap (sumHighest (a .args .hours))
+          (prices-part 168 (hourPrice (amounts (held (a .args .d .now) (a .args .index .now)))) (prices-of p) (a .args .window) (a .pre .1) (p .prices .ensures)),
+      c .highest .ensures .1,
+    )
 
 pub highest-sum-spec : {M : Type 1} → statement M
 highest-sum-spec =

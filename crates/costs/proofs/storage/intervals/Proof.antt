@@ -28,8 +28,12 @@ returns : tie.Need-returns Inv-loop μ-loop
 unfolding totalEnergy
 returns c =
     let l = c .before .loop in
-    let s = l .inv .2 in
-    (sum-ends _ (l .n) 2016 _ (c .loop-test .left) (l .inv .0) (s .cost-sum), sum-ends _ (l .n) 2016 _ (c .loop-test .left) (l .inv .0) (s .energy-sum), s .cost-high, omega (arith, s .energy-high))
+    let s = l .inv .2 in (
+      sum-ends _ (l .n) 2016 _ (c .loop-test .left) (l .inv .0) (s .cost-sum),
+      sum-ends _ (l .n) 2016 _ (c .loop-test .left) (l .inv .0) (s .energy-sum),
+      s .cost-high,
+      omega (arith, s .energy-high),
+    )
 
 pub intervals-spec : {M : Type 1} → statement M
 intervals-spec =

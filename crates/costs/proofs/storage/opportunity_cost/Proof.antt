@@ -20,7 +20,9 @@ unfolding microDollars opportunityCost highestSum
 returns c =
     let a = c .before .before .before .before .before .before .before in
     let h = c .before .before .before .before .full-hours .ensures in
-    let e = c .before .before .highest-sum .ensures .0 ∙ ap₂ (λ (n w : ℕ). sumHighest n (listTo w (hourPrice (amounts (held (a .args .d .now) (a .args .index .now)))))) h (c .before .before .before .window .ensures .0) in
+    let e = c .before .before .highest-sum .ensures .0 ∙ ap₂
+    (λ (n w : ℕ). sumHighest n (listTo w (hourPrice (amounts (held (a .args .d .now) (a .args .index .now)))))) h
+    (c .before .before .before .window .ensures .0) in
     c .share .ensures .0 ∙ ap₂ quotient (ap (λ (z : ℕ). z * 10000) (c .before .less .ensures ∙ ap₂ (λ (x y : ℕ). x - 2147483648 * y) e h)) h
 
 pub opportunity-cost-spec : {M : Type 1} → statement M

@@ -12,7 +12,10 @@ returns : tie.Need-returns
 unfolding microDollars shortRunCost
 returns c =
     let b = c .before in
-    let q = b .share .ensures .0 ∙ ap₂ quotient (ap₂ (λ (x y : ℕ). (x + y) * 1000) (b .before .before .before .charging-cost .ensures .0 ∙ sym (ap microDollars (charging-always (b .before .before .before .before .before .before .pre .0)))) (b .before .before .fuel .ensures .0)) (b .before .efficiency .ensures .0) in
+    let q = b .share .ensures .0 ∙ ap₂ quotient (ap₂ (λ (x y : ℕ). (x + y) * 1000)
+    (b .before .before .before .charging-cost .ensures .0
+    ∙ sym (ap microDollars (charging-always (b .before .before .before .before .before .before .pre .0)))) (b .before .before .fuel .ensures .0))
+    (b .before .efficiency .ensures .0) in
     ap₂ (λ (x y : ℕ). x + y) q (c .additions .ensures .0)
 
 pub short-run-cost-spec : {M : Type 1} → statement M

@@ -72,8 +72,10 @@ reads c =
     let a = t .before .before .before .before .before in
     let v = getD (a .args .index .now) (t .before .before .slot-ch .result) 0 in
     let n = a .args .n in
-    let e = ap (λ (k : ℕ). take k (drop (v - 1) (a .args .d .now))) (add-sub-cancel-left (v - 1) 16) ∙ stands t .1 in
-    (price-read (clean (a .pre .0)) CH n 1 8 (chargePrice-at _ n) (c .before .biased .ensures) (c .before .before .u32-at .ensures) e, says-read (clean (a .pre .0)) CH n 2 12 4 (chargeEnergy-at _ n) (c .u32-at2 .ensures) e)
+    let e = ap (λ (k : ℕ). take k (drop (v - 1) (a .args .d .now))) (add-sub-cancel-left (v - 1) 16) ∙ stands t .1 in (
+      price-read (clean (a .pre .0)) CH n 1 8 (chargePrice-at _ n) (c .before .biased .ensures) (c .before .before .u32-at .ensures) e,
+      says-read (clean (a .pre .0)) CH n 2 12 4 (chargeEnergy-at _ n) (c .u32-at2 .ensures) e,
+    )
 
 mul-t23 : tie.Need-mul-t23
 unfolding Reads
@@ -88,14 +90,18 @@ add-t24 c =
 
 add-t25 : tie.Need-add-t25
 unfolding Reads
-add-t25 c = omega (arith, reads (c .before .before) .1 .1, c .before .before .before .before .before .before .before .before .before .before .before .before .pre .5)
+add-t25 c =
+    omega (arith, reads (c .before .before) .1 .1, c .before .before .before .before .before .before .before .before .before .before .before .before .pre .5)
 
 returns-2 : tie.Need-returns-2
 unfolding Reads
 returns-2 c =
     let z = reads (c .before .before) in
-    let a = c .before .before .before .before .before .before .before .before .before .before .before .before in
-    (ap₂ (λ (x y : ℕ). a .args .before .cost + x * y) (z .0 .0) (z .1 .0), ap (λ (y : ℕ). a .args .before .energy + y) (z .1 .0), omega (arith, a .pre .4, mul-le-mul-right (c .before .before .u32-at2 .result) (z .0 .1)))
+    let a = c .before .before .before .before .before .before .before .before .before .before .before .before in (
+      ap₂ (λ (x y : ℕ). a .args .before .cost + x * y) (z .0 .0) (z .1 .0),
+      ap (λ (y : ℕ). a .args .before .energy + y) (z .1 .0),
+      omega (arith, a .pre .4, mul-le-mul-right (c .before .before .u32-at2 .result) (z .0 .1)),
+    )
 
 pub with-interval-spec : {M : Type 1} → statement M
 with-interval-spec =

@@ -14,7 +14,8 @@ use Rattle.costs.proofs.storage.with_record.Statement.{statement}
 use Rattle.costs.proofs.storage.with_record.Tie as tie
 
 -- past the record, which is of kind k
-past : (a : tie.Start) {x y : ℕ} → Walked (a .args .d .now) (a .args .index .now) (a .args .at + size (mark (drop (a .args .at) (a .args .d .now)))) x y → Walked (a .args .d .now) (a .args .index .now) (a .args .at + size (a .args .k)) x y
+past : (a : tie.Start) {x y : ℕ} → Walked (a .args .d .now) (a .args .index .now) (a .args .at + size (mark (drop (a .args .at) (a .args .d .now)))) x y
+    → Walked (a .args .d .now) (a .args .index .now) (a .args .at + size (a .args .k)) x y
 past a {x} {y} w = subst (λ (k : ℕ). Walked (a .args .d .now) (a .args .index .now) (a .args .at + size k) x y) (sym (a .pre .3)) w
 
 -- it is a CH
@@ -22,7 +23,8 @@ charging : (c : tie.Else1) → mark (drop (c .before .before .before .args .at) 
 charging c = sym (c .before .before .before .pre .3) ∙ c .if1 .left
 
 -- the interval that it names
-says : (c : tie.After-u16-at) → c .u16-at .result ≡ number 6 2 (drop (c .before .before .before .before .before .before .args .at) (c .before .before .before .before .before .before .args .d .now))
+says : (c : tie.After-u16-at) → c .u16-at .result ≡ number 6 2
+    (drop (c .before .before .before .before .before .before .args .at) (c .before .before .before .before .before .before .args .d .now))
 says c =
     let a = c .before .before .before .before .before .before .args in
     c .u16-at .ensures ∙ number-take (a .at + 16 - a .at) 6 2 (drop (a .at) (a .d .now)) (omega arith)
@@ -47,7 +49,8 @@ mul-if2 c = omega (arith, c .slot-ch .ensures, in-range (c .before))
 
 shared-slice-read-if2 : tie.Need-shared-slice-read-if2
 unfolding slot
-shared-slice-read-if2 c = omega (arith, c .before .slot-ch .ensures, in-range (c .before .before), c .before .before .before .before .before .before .before .before .pre .1)
+shared-slice-read-if2 c =
+    omega (arith, c .before .slot-ch .ensures, in-range (c .before .before), c .before .before .before .before .before .before .before .before .pre .1)
 
 cast-if2 : tie.Need-cast-if2
 cast-if2 c = omega (arith, c .shared-slice-known3 .given (c .before .slot-ch .result))
@@ -73,7 +76,8 @@ returns-3 c =
     let a = c .before .before .before .before .before .before .before .before .before in
     past a
     (walk-elsewhere (a .pre .0) (a .pre .1) (a .pre .4) (a .pre .2)
-    (λ z. c .if2 .left (ap (λ (j : ℕ). getD (a .args .index .now) j 0) (c .before .before .slot-ch .ensures ∙ ap (slot CH) (says (c .before .before .before))) ∙ z)))
+    (λ z. c .if2 .left (ap (λ (j : ℕ). getD (a .args .index .now) j 0) (c .before .before .slot-ch .ensures ∙ ap (slot CH) (says (c .before .before .before)))
+    ∙ z)))
 
 pub with-record-spec : {M : Type 1} → statement M
 with-record-spec =

@@ -10,7 +10,9 @@ use Rattle.index.proofs.reader.entry_ad.Tie as tie
 
 returns : tie.Need-returns
 unfolding slotAt size widths keyWidth keyIn rowOf table
-returns c = ap (entry _) (c .slot-ad .ensures ∙ ap (slot AD) (rw (c .before .before .before .u8-at .ensures, c .before .before .u8-at2 .ensures, c .before .u8-at3 .ensures) (three-fields _)))
+returns c =
+    ap (entry _) (c .slot-ad .ensures ∙ ap (slot AD) (rw
+    (c .before .before .before .u8-at .ensures, c .before .before .u8-at2 .ensures, c .before .u8-at3 .ensures) (three-fields _)))
 
 pub entry-ad-spec : {M : Type 1} → statement M
 entry-ad-spec =

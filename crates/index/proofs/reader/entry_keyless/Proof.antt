@@ -21,7 +21,9 @@ returns-3 : tie.Need-returns-3
 unfolding slot slotAt size widths keyWidth keyIn rowOf table
 returns-3 c =
     let c1 = c .before .before .before in
-    entry-as {k = 0} _ (letters-keyless _ (c1 .before .before .before .before .pre) (sym (c1 .before .is-mark .ensures) ∙ c1 .if1 .left) (sym (c .before .is-mark2 .ensures) ∙ c .if2 .left))
+    entry-as {k =
+    0} _ (letters-keyless _ (c1 .before .before .before .before .pre) (sym (c1 .before .is-mark .ensures) ∙ c1 .if1 .left)
+    (sym (c .before .is-mark2 .ensures) ∙ c .if2 .left))
 
 pub entry-keyless-spec : {M : Type 1} → statement M
 entry-keyless-spec =

@@ -70,7 +70,8 @@ slice-write-cents : tie.Need-slice-write-cents Inv-loop μ-loop
 slice-write-cents c = omega (arith, cents-long (c .before .before .before .before))
 
 -- what one turn writes to an array is the next number of its column
-turn : (l : List (List ℕ)) (p n i : ℕ) (g : Line → ℕ) (a : List ℕ) (x : ℕ) → n ≤ 20 → i + 1 ≤ n → a ≡ padded 20 (take i (column l p n g)) → x ≡ g (lamination (parameters l) (amounts l) p (i + 1))
+turn : (l : List (List ℕ)) (p n i : ℕ) (g : Line → ℕ) (a : List ℕ) (x : ℕ) → n ≤ 20 → i + 1 ≤ n → a ≡ padded 20 (take i (column l p n g))
+    → x ≡ g (lamination (parameters l) (amounts l) p (i + 1))
     → set a i x ≡ padded 20 (take (i + 1) (column l p n g))
 turn l p n i g a x h k e f =
     row-more (column l p n g) a i x (omega arith) (omega (arith, laminations-length (parameters l) (amounts l) p g 1 n)) e
@@ -98,7 +99,8 @@ same-length-3 : tie.Need-same-length-3 Inv-loop μ-loop
 same-length-3 c = omega (arith, cents-long (c .before), ap length (c .before .before .before .before .before .before .before .before .pre .6))
 
 -- a column that is filled
-filled : (c : tie.After-loop Inv-loop μ-loop) (g : Line → ℕ) {a : List ℕ} → a ≡ padded 20 (take (c .before .loop .i) (column (held-of (c .before)) (p-of (c .before)) (n-of (c .before)) g))
+filled : (c : tie.After-loop Inv-loop μ-loop) (g : Line → ℕ) {a : List ℕ}
+    → a ≡ padded 20 (take (c .before .loop .i) (column (held-of (c .before)) (p-of (c .before)) (n-of (c .before)) g))
     → a ≡ padded 20 (column (held-of (c .before)) (p-of (c .before)) (n-of (c .before)) g)
 filled c g e =
     let t = c .before in

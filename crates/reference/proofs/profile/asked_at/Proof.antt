@@ -7,12 +7,14 @@ use Rattle.reference.proofs.profile.asked_at.Tie as tie
 returns : tie.Need-returns
 returns c =
     let r = c .before .before .before .before in
-    asked-request _ _ _ (r .rq .ensures) (c .before .before .before .requested .ensures .0) (c .before .before .first-hour .ensures) (c .before .last-hour .ensures) true (c .if1 .taken)
+    asked-request _ _ _ (r .rq .ensures) (c .before .before .before .requested .ensures .0) (c .before .before .first-hour .ensures)
+    (c .before .last-hour .ensures) true (c .if1 .taken)
 
 returns-2 : tie.Need-returns-2
 returns-2 c =
     let r = c .before .before .before .before in
-    asked-request _ _ _ (r .rq .ensures) (c .before .before .before .requested .ensures .0) (c .before .before .first-hour .ensures) (c .before .last-hour .ensures) false (c .if1 .left)
+    asked-request _ _ _ (r .rq .ensures) (c .before .before .before .requested .ensures .0) (c .before .before .first-hour .ensures)
+    (c .before .last-hour .ensures) false (c .if1 .left)
 
 pub asked-at-spec : {M : Type 1} → statement M
 asked-at-spec =

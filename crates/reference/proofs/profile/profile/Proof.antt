@@ -30,8 +30,11 @@ slots-empty-requires c κs = omega (arith, c .before .before .before .pre .roomy
 
 returns : tie.Need-returns Inv-loop μ-loop
 returns c =
-    let a = c .before .before .before .before .before in
-    (profile-none _ _ (a .pre) (c .before .before .slot-rq .ensures) (sym (c .before .slots-empty .ensures) ∙ c .if1 .taken) (a .args .hour), omega arith, omega arith)
+    let a = c .before .before .before .before .before in (
+      profile-none _ _ (a .pre) (c .before .before .slot-rq .ensures) (sym (c .before .slots-empty .ensures) ∙ c .if1 .taken) (a .args .hour),
+      omega arith,
+      omega arith,
+    )
 
 loop-holds : tie.Need-loop-holds Inv-loop μ-loop
 unfolding profile
@@ -45,7 +48,8 @@ returns-2 : tie.Need-returns-2 Inv-loop μ-loop
 returns-2 c =
     let l = c .before .before .before .loop in
     let a = c .before .before .before .before .before .before .before .before .before in
-    let e : c .before .asked-at .result ≡ profile (parameters (records (a .args .d .now))) (a .args .hour) = highest-asks _ _ (l .n) (c .before .before .loop-test .taken) (c .before .asked-at .ensures) (c .if2 .taken) ∙ l .inv .1 in
+    let e : c .before .asked-at .result ≡ profile (parameters (records (a .args .d .now))) (a .args .hour) = highest-asks _ _ (l .n)
+    (c .before .before .loop-test .taken) (c .before .asked-at .ensures) (c .if2 .taken) ∙ l .inv .1 in
     let z = in-range (a .pre) (a .args .hour) in
     (e, rw e (z .0), rw e (z .1))
 
