@@ -22,10 +22,9 @@ fn threshold_of(d: &[u8], index: &[u16], condition: usize, level: usize) -> Thre
     requires { ⌜ Indexed (now d) (now index) × (1 ≤ condition) × (condition ≤ 3) × (1 ≤ level) × (level ≤ 4) ⌝ }
     ensures { λ r. ⌜ r ≡ thresholdOf (parameters (records (now (d .entry)))) condition level ⌝ }
 {
-    let th = lookup::th(d, index, condition, level);
-    let percent = fields::u16_at(th, 8);
-    let margin = fields::u32_at(th, 10);
-    let floor = fields::u32_at(th, 14);
+    let percent = parameters::percent(d, index, condition, level);
+    let margin = parameters::margin(d, index, condition, level);
+    let floor = parameters::floor(d, index, condition, level);
     Threshold {
         percent,
         margin,

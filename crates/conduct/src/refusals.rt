@@ -50,7 +50,7 @@ fn above_capacity(d: &[u8], index: &[u16], offer: &[u8]) -> Answer
     requires { ⌜ Indexed (now d) (now index) × (length (now offer) ≤ 120) ⌝ }
     ensures { λ r. ⌜ r ≡ aboveCapacity (parameters (records (now (d .entry)))) (now (offer .entry)) 0 (length (now (offer .entry)) / 6) ⌝ }
 {
-    let capacity = fields::u16_at(lookup::rs(d, index), 7) as u64;
+    let capacity = parameters::capacity(d, index);
     let pairs = offer.len() / 6;
     let mut k = 0;
     while k < pairs {
@@ -74,7 +74,7 @@ fn capacity_refusal(d: &[u8], index: &[u16], offer: &[u8]) -> Answer
     if pairs == 0 {
         return Answer::Accepted;
     }
-    let capacity = fields::u16_at(lookup::rs(d, index), 7) as u64;
+    let capacity = parameters::capacity(d, index);
     if limits::quantity_at(offer, pairs - 1) <= capacity {
         return Answer::Accepted;
     }
@@ -101,7 +101,7 @@ fn level_refusal(d: &[u8], index: &[u16], level: u8) -> Answer
     requires { ⌜ Indexed (now d) (now index) ⌝ }
     ensures { λ r. ⌜ r ≡ levelRefusal (parameters (records (now (d .entry)))) level ⌝ }
 {
-    let technology = fields::u8_at(lookup::rs(d, index), 6);
+    let technology = parameters::technology(d, index);
     if (level == 1) | !rules::level_held(technology, level) {
         Answer::Refused {
             number: 12,

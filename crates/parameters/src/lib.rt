@@ -6,7 +6,7 @@ ghost use Prim.Native.Nat.{_≤_};
 ghost use lib.ListN.{length};
 ghost use lib.Dec.{eqb};
 ghost use Rattle.records.specs.Dossier.{records};
-ghost use Rattle.station.specs.Parameters.{parameters, amounts, technology, capacity, factor, startHeat, noLoadHeat, incrementalFuel, charge, efficiency, window, output, heat, fuel, emission, adder, costC, outputW, intervalT, hoursPerStartS, firstHour, lastHour, requested, hourPrice, placePrice, lastCost};
+ghost use Rattle.station.specs.Parameters.{parameters, amounts, technology, capacity, factor, startHeat, noLoadHeat, incrementalFuel, charge, efficiency, window, output, heat, fuel, emission, adder, costC, outputW, intervalT, hoursPerStartS, firstHour, lastHour, requested, percent, margin, floor, hourPrice, placePrice, lastCost};
 ghost use Rattle.index.specs.Slots.{narrow};
 ghost use Rattle.lookup.specs.Parts.{Indexed, Complete, parametersHeld, amountsHeld};
 ghost use Rattle.rules.specs.Curve.{points, fullHours};
@@ -189,6 +189,27 @@ pub fn requested(d: &[u8], index: &[u16], n: usize) -> usize
     ensures { λ r. ⌜ (r ≡ requested (parameters (records (now (d .entry)))) n) × (r ≤ 4) ⌝ }
 {
     fields::u8_at(lookup::rq(d, index, n), 15) as usize
+}
+
+pub fn percent(d: &[u8], index: &[u16], c: usize, v: usize) -> u16
+    requires { ⌜ Indexed (now d) (now index) × (1 ≤ c) × (c ≤ 3) × (1 ≤ v) × (v ≤ 4) ⌝ }
+    ensures { λ r. ⌜ r ≡ percent (parameters (records (now (d .entry)))) c v ⌝ }
+{
+    fields::u16_at(lookup::th(d, index, c, v), 8)
+}
+
+pub fn margin(d: &[u8], index: &[u16], c: usize, v: usize) -> u32
+    requires { ⌜ Indexed (now d) (now index) × (1 ≤ c) × (c ≤ 3) × (1 ≤ v) × (v ≤ 4) ⌝ }
+    ensures { λ r. ⌜ r ≡ margin (parameters (records (now (d .entry)))) c v ⌝ }
+{
+    fields::u32_at(lookup::th(d, index, c, v), 10)
+}
+
+pub fn floor(d: &[u8], index: &[u16], c: usize, v: usize) -> u32
+    requires { ⌜ Indexed (now d) (now index) × (1 ≤ c) × (c ≤ 3) × (1 ≤ v) × (v ≤ 4) ⌝ }
+    ensures { λ r. ⌜ r ≡ floor (parameters (records (now (d .entry)))) c v ⌝ }
+{
+    fields::u32_at(lookup::th(d, index, c, v), 14)
 }
 
 pub fn last_cost(d: &[u8], index: &[u16]) -> u64

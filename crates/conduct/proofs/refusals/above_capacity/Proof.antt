@@ -1,12 +1,12 @@
 use borrow.Author.Needs.{needs}
-use mathlib.Core.Path.{_≡_, ap, sym, _∙_}
+use mathlib.Core.Path.{_≡_, refl, _∙_}
 use Prim.Native.Nat.{_-_, _/_, _≤_}
 use native.Mathlib.Omega.{arith}
 use lib.ListN.{length}
-use Rattle.fields.specs.Numbers.{number}
+use Rattle.records.specs.Table.{RS}
 use Rattle.records.specs.Dossier.{records}
 use Rattle.station.specs.Parameters.{parameters, capacity as capacityOf}
-use Rattle.station.proofs.Fields.{capacity-at}
+use Rattle.lookup.proofs.Held.{says-always}
 use Rattle.verdicts.specs.Refusals.{aboveCapacity}
 use Rattle.limits.proofs.Turns.{all-left}
 use Rattle.conduct.proofs.Turns.{above-stop, above-next, above-end}
@@ -15,48 +15,41 @@ use Rattle.conduct.proofs.refusals.above_capacity.Tie as tie
 
 abbrev Inv-loop : tie.InvT-loop
 Inv-loop d index offer capacity pairs k₀ k =
-    (k ≤ pairs) × (pairs ≤ 20) × (capacity ≡ capacityOf (parameters (records d)))
-    × (aboveCapacity (parameters (records d)) offer k (pairs - k) ≡ aboveCapacity (parameters (records d)) offer 0 pairs)
+    let s = parameters (records d) in
+    (k ≤ pairs) × (pairs ≤ 20) × (capacity ≡ capacityOf s) × (aboveCapacity s offer k (pairs - k) ≡ aboveCapacity s offer 0 pairs)
 
 abbrev μ-loop : tie.MeasureT-loop
 μ-loop d index offer capacity pairs k₀ k = pairs - k
 
-rs-requires : tie.Need-rs-requires Inv-loop μ-loop
-rs-requires c κs = c .before .before .before .pre .0
-
 loop-holds : tie.Need-loop-holds Inv-loop μ-loop
 loop-holds c =
-    let a = c .before .before .before .before .before in (
-      omega arith,
-      omega (arith, a .pre .1),
-      c .u16-at .ensures ∙ ap (number 7 2) (c .before .rs .ensures) ∙ sym (capacity-at (records (a .args .d .now))),
-      all-left (aboveCapacity _ _ 0) _,
-    )
+    let p = c .before .before .before .before .pre in
+    (omega arith, omega (arith, p .1), c .capacity .ensures .0 ∙ says-always (p .0) RS 0 refl 1, all-left (aboveCapacity _ _ 0) _)
 
 returns : tie.Need-returns Inv-loop μ-loop
 returns c =
     let i = c .before .before .before .loop in
-    let a = c .before .before .before .before .before .before .before .before .before .args in
-    above-stop (parameters (records (a .d .now))) (a .offer .now) (length (a .offer .now) / 6) (i .k) _ _ (c .before .before .loop-test .taken) (i .inv .2)
-    (c .before .quantity-at .ensures) (c .if1 .taken)
+    let a = c .before .before .before .before .before .before .before .before .args in
+    above-stop (parameters (records (a .d .now))) (a .offer .now) (length (a .offer .now) / 6) (i .k) _ _
+    (c .before .before .loop-test .taken) (i .inv .2) (c .before .quantity-at .ensures) (c .if1 .taken)
     ∙ i .inv .3
 
 loop-again : tie.Need-loop-again Inv-loop μ-loop
 loop-again c =
     let i = c .before .before .before .loop in
-    let a = c .before .before .before .before .before .before .before .before .before .args in (
+    let a = c .before .before .before .before .before .before .before .before .args in (
       omega arith,
       omega arith,
       i .inv .2,
-      above-next (parameters (records (a .d .now))) (a .offer .now) (length (a .offer .now) / 6) (i .k) _ _ (c .before .before .loop-test .taken) (i .inv .2)
-          (c .before .quantity-at .ensures) (c .if1 .left)
+      above-next (parameters (records (a .d .now))) (a .offer .now) (length (a .offer .now) / 6) (i .k) _ _
+          (c .before .before .loop-test .taken) (i .inv .2) (c .before .quantity-at .ensures) (c .if1 .left)
           ∙ i .inv .3,
     )
 
 returns-2 : tie.Need-returns-2 Inv-loop μ-loop
 returns-2 c =
     let i = c .before .loop in
-    let a = c .before .before .before .before .before .before .before .args in
+    let a = c .before .before .before .before .before .before .args in
     above-end (parameters (records (a .d .now))) (a .offer .now) (length (a .offer .now) / 6) (i .k) (c .loop-test .left) ∙ i .inv .3
 
 pub above-capacity-spec : {M : Type 1} → statement M
@@ -65,9 +58,7 @@ above-capacity-spec =
     (tie.spec
     Inv-loop
     μ-loop
-    rs-requires
     (λ c κs. search needs)
-    (λ c. search needs)
     loop-holds
     (λ c κs. search needs)
     (λ c. search needs)

@@ -1,12 +1,12 @@
 use borrow.Author.Needs.{needs}
-use mathlib.Core.Path.{_≡_, ap, sym, _∙_}
+use mathlib.Core.Path.{_≡_, refl, _∙_}
 use Prim.Native.Nat.{_-_, _/_}
 use native.Mathlib.Omega.{arith}
 use lib.ListN.{length}
-use Rattle.fields.specs.Numbers.{number}
+use Rattle.records.specs.Table.{RS}
 use Rattle.records.specs.Dossier.{records}
 use Rattle.station.specs.Parameters.{parameters, capacity}
-use Rattle.station.proofs.Fields.{capacity-at}
+use Rattle.lookup.proofs.Held.{says-always}
 use Rattle.verdicts.specs.Test.{quantity}
 use Rattle.verdicts.specs.Refusals.{aboveCapacity}
 use Rattle.limits.proofs.Turns.{all-left}
@@ -23,11 +23,10 @@ returns c =
 
 returns-2 : tie.Need-returns-2
 returns-2 c =
-    let b = c .before .before .before .before .before .before .before .before in
+    let b = c .before .before .before .before .before .before .before in
     let o = b .args .offer .now in
-    let e : c .before .before .u16-at .result ≡ capacity (parameters (records (b .args .d .now))) =
-    c .before .before .u16-at .ensures ∙ ap (number 7 2) (c .before .before .before .rs .ensures) ∙ sym (capacity-at (records (b .args .d .now)))
-    in
+    let k = c .before .before in
+    let e : k .capacity .result ≡ capacity (parameters (records (b .args .d .now))) = k .capacity .ensures .0 ∙ says-always (b .pre .0) RS 0 refl 1 in
     let f : c .before .quantity-at .result ≡ quantity o (length o / 6 - 1) = c .before .quantity-at .ensures in
     within-capacity o (length o / 6) (b .pre .2) (parameters (records (b .args .d .now))) (omega (arith, e, f, c .if2 .taken))
 
@@ -37,8 +36,6 @@ capacity-refusal-spec =
     (tie.spec
     returns
     (λ c κs. search needs)
-    (λ c κs. search needs)
-    (λ c. search needs)
     (λ c. search needs)
     (λ c κs. search needs)
     returns-2
