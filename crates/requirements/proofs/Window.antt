@@ -19,16 +19,23 @@ use Rattle.lookup.proofs.Parts.{one-field, slot-tells, beyond-index}
 use Rattle.parameters.proofs.Points.{there-is, none-there}
 use Rattle.rules.specs.Curve.{fullHours, hoursHold, windowFits, placesHold, forecastFits}
 
--- an hour is there as its slot tells; one without a slot in a complete index is not
-module _ (d ix : List ℕ) (h : Indexed d ix) (n : ℕ) {j : ℕ} (ej : j ≡ slot HR n) where
-  pub hour-beyond : Complete d ix → length ix ≤ j → false ≡ parameters (records d) .has HR n
-  hour-beyond c b = sym (none-there (records d) HR n {r = []} (sym (beyond-index d ix h c HR n (omega (arith, b, ej)))) refl)
+-- a key is there as its slot tells; one without a slot in a complete index is not
+module _ (d ix : List ℕ) (h : Indexed d ix) (k n : ℕ) {j : ℕ} (ej : j ≡ slot k n) where
+  pub key-beyond : Complete d ix → length ix ≤ j → false ≡ parameters (records d) .has k n
+  key-beyond c b = sym (none-there (records d) k n {r = []} (sym (beyond-index d ix h c k n (omega (arith, b, ej)))) refl)
 
-  pub hour-told : 1 ≤ n → n ≤ 168 → j < length ix → not (eqb (getD ix j 0) 0) ≡ parameters (records d) .has HR n
-  unfolding shapeOf shape rowOf table
-  hour-told p q b =
-      let i : InKey HR n = one-field HR n (lit≤ tt) (lit< tt) refl p q in
-      ap (λ (k : ℕ). not (eqb (getD ix k 0) 0)) ej ∙ sym (slot-tells d ix h HR n i (omega (arith, b, ej))) ∙ there-is (records d) HR n refl
+  pub key-told : InKey k n → j < length ix → not (eqb (getD ix j 0) 0) ≡ parameters (records d) .has k n
+  key-told i b =
+      ap (λ (m : ℕ). not (eqb (getD ix m 0) 0)) ej ∙ sym (slot-tells d ix h k n i (omega (arith, b, ej))) ∙ there-is (records d) k n refl
+
+-- an hour of the window and a place of the forecast are keys
+pub hour-key : (n : ℕ) → 1 ≤ n → n ≤ 168 → InKey HR n
+unfolding shapeOf shape rowOf table
+hour-key n p q = one-field HR n (lit≤ tt) (lit< tt) refl p q
+
+pub place-key : (n : ℕ) → 1 ≤ n → n ≤ 4000 → InKey FP n
+unfolding shapeOf shape rowOf table
+place-key n p q = one-field FP n (lit≤ tt) (lit< tt) refl p q
 
 module _ (s : Parameters) (t : ℕ) (et : t ≡ technology s) where
   -- what 9 asks

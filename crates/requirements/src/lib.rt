@@ -138,6 +138,18 @@ fn window_fits(d: &[u8], index: &[u16]) -> bool
     (0 < hours) & (hours <= (window as u64)) & hours_there(d, index, window)
 }
 
+// The same of a place of the forecast.
+fn place_there(d: &[u8], index: &[u16], n: usize) -> bool
+    requires { ⌜ Indexed (now d) (now index) × Complete (now d) (now index) × (1 ≤ n) × (n ≤ 4000) ⌝ }
+    ensures { λ r. ⌜ r ≡ parameters (records (now (d .entry))) .has FP n ⌝ }
+{
+    let j = index::keys::slot_fp(n);
+    if index.len() <= j {
+        return false;
+    }
+    index[j] != 0
+}
+
 // Whether places 1 to n of the forecast are there.
 fn places_there(d: &[u8], index: &[u16], n: usize) -> bool
     requires { ⌜ Indexed (now d) (now index) × Complete (now d) (now index) × (n ≤ 4000) ⌝ }
@@ -147,7 +159,7 @@ fn places_there(d: &[u8], index: &[u16], n: usize) -> bool
     let mut i = 0;
     while i < n {
         i += 1;
-        ok = ok & (0 < lookup::fp(d, index, i).len());
+        ok = ok & place_there(d, index, i);
     }
     ok
 }

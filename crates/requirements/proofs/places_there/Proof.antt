@@ -1,10 +1,9 @@
-use Rattle.parameters.proofs.Points.{there-is}
+use Rattle.lists.proofs.Tests.{to-next}
 use Rattle.records.specs.Table.{FP}
 use Rattle.lists.specs.Tests.{allTo}
-use Rattle.lists.proofs.Tests.{to-next}
 use Rattle.station.specs.Parameters.{parameters}
 use Rattle.records.specs.Dossier.{records}
-use Prim.Native.Nat.{ℕ, _≤_, _-_, _+_}
+use Prim.Native.Nat.{ℕ, _≤_, _-_}
 use native.Mathlib.Omega.{arith}
 use mathlib.Core.Path.{_≡_, refl, ap, _∙_}
 use Rattle.requirements.proofs.places_there.Statement.{statement}
@@ -19,20 +18,19 @@ abbrev μ-loop : tie.MeasureT-loop
 loop-holds : tie.Need-loop-holds Inv-loop μ-loop
 loop-holds c = (omega arith, unfold allTo in refl)
 
-fp-requires : tie.Need-fp-requires Inv-loop μ-loop
-fp-requires c κs = (c .before .before .before .before .pre .0, c .before .before .before .before .pre .1, omega arith, omega arith)
+place-there-requires : tie.Need-place-there-requires Inv-loop μ-loop
+place-there-requires c κs = (c .before .before .before .before .pre .0, c .before .before .before .before .pre .1, omega arith, omega arith)
 
 loop-again : tie.Need-loop-again Inv-loop μ-loop
-loop-again c =
-    let a = c .before .before .before .before .before in (
-      omega arith,
-      to-next (c .before .before .loop .i) (parameters (records (a .args .d .now)) .has FP) (c .before .before .loop .inv .1)
-          (there-is (records (a .args .d .now)) FP (c .before .before .loop .i + 1) (c .fp .ensures)),
-    )
+loop-again c = (
+  omega arith,
+  to-next (c .before .before .loop .i) (parameters (records (c .before .before .before .before .before .args .d .now)) .has FP)
+      (c .before .before .loop .inv .1) (c .place-there .ensures),
+)
 
 returns : tie.Need-returns Inv-loop μ-loop
 returns c = c .before .loop .inv .1 ∙ ap (λ (i : ℕ). allTo i (parameters (records (c .before .before .before .before .args .d .now)) .has FP)) (omega arith)
 
 pub places-there-spec : {M : Type 1} → statement M
 places-there-spec =
-    tie.close (tie.spec Inv-loop μ-loop loop-holds (λ c. omega arith) fp-requires (λ c. omega arith) loop-again returns)
+    tie.close (tie.spec Inv-loop μ-loop loop-holds (λ c. omega arith) place-there-requires (λ c. omega arith) loop-again returns)
