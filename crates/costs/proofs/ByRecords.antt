@@ -31,7 +31,7 @@ use Rattle.parameters.proofs.Bounds.{clean}
 use Rattle.formulas.specs.Sums.{sumTo}
 use Rattle.formulas.specs.Levels.{totalEnergy}
 use Rattle.formulas.proofs.Sums.{sumTo-zeros, sumTo-same, sumTo-moved, sumTo-within}
-use Rattle.costs.specs.Intervals.{costOf, energyOf, At, leftOf, Walked, Week}
+use Rattle.costs.specs.Intervals.{intervalCost, intervalEnergy, At, leftOf, SummedBefore, WeekSums}
 use Rattle.costs.proofs.Intervals.{charged, uncharged-slot}
 
 -- ---- where a record starts
@@ -123,10 +123,10 @@ module _ {d ix : List ℕ} (h : Indexed d ix) (roomy : narrow ≤ length ix) whe
   left = leftOf ix
 
   abbrev cost : ℕ → ℕ
-  cost = costOf d
+  cost = intervalCost d
 
   abbrev energy : ℕ → ℕ
-  energy = energyOf d
+  energy = intervalEnergy d
 
   -- at the start all are ahead that add anything
   module _ (f : ℕ → ℕ) (none : (n : ℕ) → energy n ≡ 0 → f n ≡ 0) where
@@ -137,7 +137,7 @@ module _ {d ix : List ℕ} (h : Indexed d ix) (roomy : narrow ≤ length ix) whe
         go zero e = sym (none n (uncharged-slot h roomy n a b refl e))
         go (suc x) e = rw (lt-ltb 0 (suc x) (omega arith)) refl
 
-  pub walk-begins : Walked d ix 0 0 0
+  pub walk-begins : SummedBefore d ix 0 0 0
   walk-begins =
       record {
         cost-left = omega (arith, sumTo-same 2016 (left cost 0) cost (all-ahead cost (λ n e. rw e (omega arith))));
@@ -148,12 +148,12 @@ module _ {d ix : List ℕ} (h : Indexed d ix) (roomy : narrow ≤ length ix) whe
       }
 
   -- the energy so far is some of the whole
-  pub walk-within : {p c e : ℕ} → Walked d ix p c e → e ≤ 2016000000
+  pub walk-within : {p c e : ℕ} → SummedBefore d ix p c e → e ≤ 2016000000
   unfolding fieldOf rowOf table
   walk-within w = omega (arith, w .energy-left, sumTo-within 2016 1000000 energy (λ n. says-high (clean h) CH n 2))
 
   -- at the end none
-  module _ {p c e : ℕ} (w : Walked d ix p c e) (past : length d ≤ p) where
+  module _ {p c e : ℕ} (w : SummedBefore d ix p c e) (past : length d ≤ p) where
     none-ahead : (f : ℕ → ℕ) (n : ℕ) → 1 ≤ n → n ≤ 2016 → left f p n ≡ 0
     unfolding records recordsIn At
     none-ahead f n a b = go (ltb p (v n)) refl
@@ -166,12 +166,12 @@ module _ {d ix : List ℕ} (h : Indexed d ix) (roomy : narrow ≤ length ix) whe
     unfolding sumTo
     nothing-left f = sumTo-zeros (left f p) 0 2016 (λ i z. none-ahead f (suc (0 + i)) (omega arith) (omega arith))
 
-    pub walk-ends : Week d c e
+    pub walk-ends : WeekSums d c e
     unfolding totalEnergy
     walk-ends = (omega (arith, w .cost-left, nothing-left cost), omega (arith, w .energy-left, nothing-left energy), w .cost-most, walk-within w)
 
   -- past one record
-  module _ {p c e : ℕ} (w : Walked d ix p c e) (within : p < length d) where
+  module _ {p c e : ℕ} (w : SummedBefore d ix p c e) (within : p < length d) where
     abbrev next : ℕ
     next = p + size (mark (drop p d))
 
@@ -219,7 +219,7 @@ module _ {d ix : List ℕ} (h : Indexed d ix) (roomy : narrow ≤ length ix) whe
           (omega (arith, z), omega (arith, z))
 
     -- that no slot names
-    pub walk-passes : ((n : ℕ) → 1 ≤ n → n ≤ 2016 → v n ≡ p + 1 → ⊥) → Walked d ix next c e
+    pub walk-passes : ((n : ℕ) → 1 ≤ n → n ≤ 2016 → v n ≡ p + 1 → ⊥) → SummedBefore d ix next c e
     walk-passes none =
         record {
           cost-left = ap (λ (x : ℕ). c + x) (sym (sumTo-same 2016 (left cost p) (left cost next) (λ n a b. still cost n a b (none n a b)))) ∙ w .cost-left;
@@ -231,11 +231,11 @@ module _ {d ix : List ℕ} (h : Indexed d ix) (roomy : narrow ≤ length ix) whe
         }
 
     -- which is no CH
-    pub walk-other : (mark (drop p d) ≡ CH → ⊥) → Walked d ix next c e
+    pub walk-other : (mark (drop p d) ≡ CH → ⊥) → SummedBefore d ix next c e
     walk-other other = walk-passes (λ n a b q. other (tells n a b p q .0))
 
     -- or a CH whose slot names another place
-    pub walk-elsewhere : (v (number 6 2 (drop p d)) ≡ p + 1 → ⊥) → Walked d ix next c e
+    pub walk-elsewhere : (v (number 6 2 (drop p d)) ≡ p + 1 → ⊥) → SummedBefore d ix next c e
     walk-elsewhere other = walk-passes (λ n a b q. other (ap (λ (x : ℕ). v x) (tells n a b p q .1) ∙ q))
 
     -- that the slot of interval m names
@@ -248,7 +248,7 @@ module _ {d ix : List ℕ} (h : Indexed d ix) (roomy : narrow ≤ length ix) whe
           sumTo-moved 2016 m (f m) (left f p) (left f next) a b
           (λ k x y z. still f k x y (λ o. z (sym (tells k x y p o .1) ∙ tells m a b p q .1))) (own f)
 
-      pub walk-counts : {x y : ℕ} → x ≡ c + cost m → y ≡ e + energy m → x ≤ 2147683648 * y → Walked d ix next x y
+      pub walk-counts : {x y : ℕ} → x ≡ c + cost m → y ≡ e + energy m → x ≤ 2147683648 * y → SummedBefore d ix next x y
       walk-counts i j k =
           record {
             cost-left = rw i (omega (arith, w .cost-left, moved cost));

@@ -10,7 +10,7 @@ ghost use Rattle.rules.specs.Curve.{fullHours};
 ghost use Rattle.formulas.specs.Sums.{listTo, sumHighest};
 ghost use Rattle.formulas.specs.Exact.{microDollars};
 ghost use Rattle.formulas.specs.Levels.{parametersIn, amountsIn, chargingCost, shortRunCost, opportunityCost, storageEnergy};
-ghost use Rattle.costs.specs.Intervals.{Summed, Walked, Week};
+ghost use Rattle.costs.specs.Intervals.{Summed, SummedBefore, WeekSums};
 use crate::maintenance::additions;
 
 // Price × energy, the price plus 2^31, and energy, added up over intervals.
@@ -112,7 +112,7 @@ fn with_day(d: &[u8], index: &[u16], n: usize, before: Charging) -> Charging
 // All intervals, day by day.
 fn intervals(d: &[u8], index: &[u16]) -> Charging
     requires { ⌜ Indexed (now d) (now index) × (narrow ≤ length (now index)) ⌝ }
-    ensures { λ r. ⌜ Week (now (d .entry)) (r .cost) (r .energy) ⌝ }
+    ensures { λ r. ⌜ WeekSums (now (d .entry)) (r .cost) (r .energy) ⌝ }
 {
     let mut sums = Charging { cost: 0, energy: 0 };
     let mut n = 0;
@@ -125,8 +125,8 @@ fn intervals(d: &[u8], index: &[u16]) -> Charging
 
 // The sums over the records before a place, with the one there, of kind k: a CH counts if its slot names its place.
 fn with_record(d: &[u8], index: &[u16], at: usize, k: usize, before: Charging) -> Charging
-    requires { ⌜ Indexed (now d) (now index) × (narrow ≤ length (now index)) × (at < length (now d)) × (k ≡ mark (drop at (now d))) × Walked (now d) (now index) at (before .cost) (before .energy) ⌝ }
-    ensures { λ r. ⌜ Walked (now (d .entry)) (now (index .entry)) (at + size k) (r .cost) (r .energy) ⌝ }
+    requires { ⌜ Indexed (now d) (now index) × (narrow ≤ length (now index)) × (at < length (now d)) × (k ≡ mark (drop at (now d))) × SummedBefore (now d) (now index) at (before .cost) (before .energy) ⌝ }
+    ensures { λ r. ⌜ SummedBefore (now (d .entry)) (now (index .entry)) (at + size k) (r .cost) (r .energy) ⌝ }
 {
     if k != 8 {
         return before;
@@ -141,7 +141,7 @@ fn with_record(d: &[u8], index: &[u16], at: usize, k: usize, before: Charging) -
 // All intervals, record by record.
 fn by_records(d: &[u8], index: &[u16]) -> Charging
     requires { ⌜ Indexed (now d) (now index) × (narrow ≤ length (now index)) ⌝ }
-    ensures { λ r. ⌜ Week (now (d .entry)) (r .cost) (r .energy) ⌝ }
+    ensures { λ r. ⌜ WeekSums (now (d .entry)) (r .cost) (r .energy) ⌝ }
 {
     let mut sums = Charging { cost: 0, energy: 0 };
     let mut at = 0;
@@ -156,7 +156,7 @@ fn by_records(d: &[u8], index: &[u16]) -> Charging
 // The sums over all intervals: of some records they are the sooner done as these lie, of many as their slots do.
 fn sums(d: &[u8], index: &[u16]) -> Charging
     requires { ⌜ Indexed (now d) (now index) × (narrow ≤ length (now index)) ⌝ }
-    ensures { λ r. ⌜ Week (now (d .entry)) (r .cost) (r .energy) ⌝ }
+    ensures { λ r. ⌜ WeekSums (now (d .entry)) (r .cost) (r .energy) ⌝ }
 {
     if d.len() <= 6000 {
         return by_records(d, index);

@@ -6,7 +6,7 @@ use Prim.Native.Nat.{ℕ}
 use Rattle.records.specs.Record.{mark, size}
 use Rattle.rules.specs.Fit.{fits}
 use Rattle.fit.specs.declared.Tried.{Tried}
-use Rattle.fit.specs.Looked.{tried, triedAs}
+use Rattle.fit.specs.BySlots.{tried, triedAs}
 
 -- a record of kind m
 pub at-kind : (t k m n : ℕ) (s : List ℕ) {b : Bool} → size m ≡ n → b ≡ fits t m s → k ≡ m → tried n b ≡ triedAs t k s

@@ -41,7 +41,7 @@ use Rattle.index.proofs.Turn.{its-slot as found-slot}
 use Rattle.lookup.specs.Parts.{part, partAt, Indexed, Complete, UpTo}
 use Rattle.lookup.proofs.Parts.{part-current, current-none, current-in-empty, slot-fits, item-key}
 use Rattle.rules.specs.Fit.{Known, holds, fieldFits, ruleFits, fits, isCurrent, unfit}
-use Rattle.fit.specs.Looked.{fourthsEmpty, pointsFit, itemsFit, profilesFit, levelFits, proratedFit, pricedFit, allFit, notFit}
+use Rattle.fit.specs.BySlots.{fourthsEmpty, pointsFit, itemsFit, profilesFit, levelFits, proratedFit, pricedFit, allFit, notFit}
 use Rattle.rules.proofs.ByMark.{fits-rs, fits-hp, fits-fu, fits-mm, fits-rq, fits-hr, fits-ch, fits-fp, fits-lc, held-ad, held-th}
 use Rattle.rules.proofs.Sound.{each-unfit}
 

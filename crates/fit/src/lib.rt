@@ -14,7 +14,7 @@ ghost use Rattle.station.specs.Current.{current, readable};
 ghost use Rattle.station.specs.Parameters.{parameters, technology};
 ghost use Rattle.lookup.specs.Parts.{Indexed, Complete, UpTo};
 ghost use Rattle.rules.specs.Fit.{Known, fits, holds, unfit};
-ghost use Rattle.fit.specs.Looked.{tried, triedAs, fourthsEmpty, pointsFit, itemsFit, profilesFit, levelFits, proratedFit, pricedFit, allFit, notFit};
+ghost use Rattle.fit.specs.BySlots.{tried, triedAs, fourthsEmpty, pointsFit, itemsFit, profilesFit, levelFits, proratedFit, pricedFit, allFit, notFit};
 use index::slots_empty;
 use records::Answer;
 use records::kinds;

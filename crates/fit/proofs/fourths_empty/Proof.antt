@@ -4,7 +4,7 @@ use native.Mathlib.Omega.{arith}
 use borrow.Author.Needs.{needs}
 use lib.Dec.{eqb}
 use Rattle.lists.specs.Tests.{allBelow}
-use Rattle.fit.specs.Looked.{fourthsEmpty}
+use Rattle.fit.specs.BySlots.{fourthsEmpty}
 use Rattle.fit.proofs.Unfit.{fourths-next}
 use Rattle.fit.proofs.fourths_empty.Statement.{statement}
 use Rattle.fit.proofs.fourths_empty.Tie as tie

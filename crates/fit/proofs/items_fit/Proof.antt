@@ -10,7 +10,7 @@ use Rattle.station.specs.Current.{current}
 use Rattle.index.specs.Slots.{slot}
 use Rattle.lookup.proofs.Held.{current-held}
 use Rattle.rules.specs.Fit.{fits}
-use Rattle.fit.specs.Looked.{itemsFit}
+use Rattle.fit.specs.BySlots.{itemsFit}
 use Rattle.fit.proofs.Unfit.{no-items}
 use Rattle.fit.proofs.items_fit.Statement.{statement}
 use Rattle.fit.proofs.items_fit.Tie as tie

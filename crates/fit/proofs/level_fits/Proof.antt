@@ -1,5 +1,5 @@
 use mathlib.Core.Path.{refl, sym, _∙_}
-use Rattle.fit.specs.Looked.{levelFits}
+use Rattle.fit.specs.BySlots.{levelFits}
 use borrow.Author.Needs.{needs}
 use Rattle.fit.proofs.level_fits.Statement.{statement}
 use Rattle.fit.proofs.level_fits.Tie as tie

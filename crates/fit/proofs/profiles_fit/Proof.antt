@@ -10,7 +10,7 @@ use Rattle.records.specs.Dossier.{records}
 use Rattle.station.specs.Current.{current}
 use Rattle.lookup.proofs.Held.{current-held}
 use Rattle.rules.specs.Fit.{fits}
-use Rattle.fit.specs.Looked.{itemsFit, profilesFit}
+use Rattle.fit.specs.BySlots.{itemsFit, profilesFit}
 use Rattle.fit.proofs.profiles_fit.Statement.{statement}
 use Rattle.fit.proofs.profiles_fit.Tie as tie
 

@@ -8,13 +8,13 @@ use Rattle.records.proofs.Marks.{mark-lt}
 use Rattle.records.proofs.Record.{size-ge}
 use Rattle.index.proofs.Turn.{tail}
 use Rattle.lookup.proofs.Rooms.{size-le}
-use Rattle.costs.specs.Intervals.{Walked}
+use Rattle.costs.specs.Intervals.{SummedBefore}
 use Rattle.costs.proofs.ByRecords.{walk-begins, walk-ends}
 use Rattle.costs.proofs.storage.by_records.Statement.{statement}
 use Rattle.costs.proofs.storage.by_records.Tie as tie
 
 abbrev Inv-loop : tie.InvT-loop
-Inv-loop d index sums₀ at₀ sums at = Walked d index at (sums .cost) (sums .energy)
+Inv-loop d index sums₀ at₀ sums at = SummedBefore d index at (sums .cost) (sums .energy)
 
 abbrev μ-loop : tie.MeasureT-loop
 μ-loop d index sums₀ at₀ sums at = length d - at

@@ -8,15 +8,15 @@ use Rattle.records.specs.Table.{CH}
 use Rattle.records.specs.Record.{mark, size}
 use Rattle.records.proofs.Read.{number-take}
 use Rattle.index.specs.Slots.{slot}
-use Rattle.costs.specs.Intervals.{Walked}
+use Rattle.costs.specs.Intervals.{SummedBefore}
 use Rattle.costs.proofs.ByRecords.{whole, interval-in, walk-other, walk-elsewhere, walk-counts, walk-within}
 use Rattle.costs.proofs.storage.with_record.Statement.{statement}
 use Rattle.costs.proofs.storage.with_record.Tie as tie
 
 -- past the record, which is of kind k
-past : (a : tie.Start) {x y : ℕ} → Walked (a .args .d .now) (a .args .index .now) (a .args .at + size (mark (drop (a .args .at) (a .args .d .now)))) x y
-    → Walked (a .args .d .now) (a .args .index .now) (a .args .at + size (a .args .k)) x y
-past a {x} {y} w = subst (λ (k : ℕ). Walked (a .args .d .now) (a .args .index .now) (a .args .at + size k) x y) (sym (a .pre .3)) w
+past : (a : tie.Start) {x y : ℕ} → SummedBefore (a .args .d .now) (a .args .index .now) (a .args .at + size (mark (drop (a .args .at) (a .args .d .now)))) x y
+    → SummedBefore (a .args .d .now) (a .args .index .now) (a .args .at + size (a .args .k)) x y
+past a {x} {y} w = subst (λ (k : ℕ). SummedBefore (a .args .d .now) (a .args .index .now) (a .args .at + size k) x y) (sym (a .pre .3)) w
 
 -- it is a CH
 charging : (c : tie.Else1) → mark (drop (c .before .before .before .args .at) (c .before .before .before .args .d .now)) ≡ CH
