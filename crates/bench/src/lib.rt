@@ -89,7 +89,8 @@ pub extern "C" fn bench_price_test(
 // The report, written to a lent buffer.
 #[no_mangle]
 pub extern "C" fn bench_report(dossier: &[u8], hour: u32, buffer: &mut [u8]) -> u64
-    ensures answer { λ r. ⌜ r ≡ writtenCode (written (reportAnswer (now (dossier .entry)) hour (length (now (buffer .entry)))) (length (report (now (dossier .entry)) hour))) ⌝ }
+    ensures answer { λ r. ⌜ r ≡ writtenCode (written (reportAnswer (now (dossier .entry)) hour (length (now (buffer .entry))))
+        (length (report (now (dossier .entry)) hour))) ⌝ }
     ensures buffer { λ r. ⌜ now (buffer .exit) ≡ bufferAfter (now (dossier .entry)) hour (now (buffer .entry)) ⌝ }
 {
     match report::report(dossier, hour, buffer) {

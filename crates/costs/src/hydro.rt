@@ -57,7 +57,8 @@ fn forecast_price(d: &[u8], index: &[u16], places: usize) -> u64
 // The sum of its one lamination.
 pub fn hydro_energy(d: &[u8], index: &[u16], p: usize) -> u64
     requires { ⌜ Indexed (now d) (now index) × (1 ≤ p) × (p ≤ 4) × (50 ≤ window (parametersHeld (now d) (now index))) ⌝ }
-    ensures { λ r. ⌜ r ≡ microDollars (hydroEnergy (parametersHeld (now (d .entry)) (now (index .entry))) (amountsHeld (now (d .entry)) (now (index .entry))) p) ⌝ }
+    ensures { λ r. ⌜ r ≡ microDollars (hydroEnergy (parametersHeld (now (d .entry)) (now (index .entry)))
+        (amountsHeld (now (d .entry)) (now (index .entry))) p) ⌝ }
 {
     let price = forecast_price(d, index, parameters::window(d, index));
     price * 10000 + additions(d, index, p)

@@ -26,7 +26,9 @@ pub fn adders(d: &[u8], index: &[u16], p: usize, v: usize) -> u64
 // What item j adds to energy.
 fn item(d: &[u8], index: &[u16], p: usize, j: usize) -> u64
     requires { ⌜ Indexed (now d) (now index) × (1 ≤ p) × (p ≤ 4) × (1 ≤ j) × (j ≤ 8) ⌝ }
-    ensures { λ r. ⌜ (r ≡ quotient (costC (amountsHeld (now (d .entry)) (now (index .entry))) p j * 100000) (outputW (parametersHeld (now (d .entry)) (now (index .entry))) p j * intervalT (parametersHeld (now (d .entry)) (now (index .entry))) p j)) × (r ≤ 10000000000000000) ⌝ }
+    ensures { λ r. ⌜ (r ≡ quotient (costC (amountsHeld (now (d .entry)) (now (index .entry))) p j * 100000)
+        (outputW (parametersHeld (now (d .entry)) (now (index .entry))) p j * intervalT (parametersHeld (now (d .entry)) (now (index .entry))) p j))
+        × (r ≤ 10000000000000000) ⌝ }
 {
     let cost = parameters::item_cost(d, index, p, j);
     let output = parameters::item_output(d, index, p, j);
@@ -37,7 +39,9 @@ fn item(d: &[u8], index: &[u16], p: usize, j: usize) -> u64
 // What it adds to a start.
 fn start_item(d: &[u8], index: &[u16], p: usize, j: usize) -> u64
     requires { ⌜ Indexed (now d) (now index) × (1 ≤ p) × (p ≤ 4) × (1 ≤ j) × (j ≤ 8) ⌝ }
-    ensures { λ r. ⌜ (r ≡ quotient (costC (amountsHeld (now (d .entry)) (now (index .entry))) p j * hoursPerStartS (parametersHeld (now (d .entry)) (now (index .entry))) p j * 1000) (intervalT (parametersHeld (now (d .entry)) (now (index .entry))) p j)) × (r ≤ 1000000000000000000) ⌝ }
+    ensures { λ r. ⌜ (r ≡ quotient (costC (amountsHeld (now (d .entry)) (now (index .entry))) p j * hoursPerStartS
+        (parametersHeld (now (d .entry)) (now (index .entry))) p j * 1000) (intervalT (parametersHeld (now (d .entry)) (now (index .entry))) p j))
+        × (r ≤ 1000000000000000000) ⌝ }
 {
     let cost = parameters::item_cost(d, index, p, j);
     let interval = parameters::item_interval(d, index, p, j);
@@ -48,7 +52,8 @@ fn start_item(d: &[u8], index: &[u16], p: usize, j: usize) -> u64
 // Maintenance in an energy level.
 fn maintenance(d: &[u8], index: &[u16], p: usize) -> u64
     requires { ⌜ Indexed (now d) (now index) × (1 ≤ p) × (p ≤ 4) ⌝ }
-    ensures { λ r. ⌜ (r ≡ microDollars (maintenance (parametersHeld (now (d .entry)) (now (index .entry))) (amountsHeld (now (d .entry)) (now (index .entry))) p)) × (r ≤ 80000000000000000) ⌝ }
+    ensures { λ r. ⌜ (r ≡ microDollars (maintenance (parametersHeld (now (d .entry)) (now (index .entry)))
+        (amountsHeld (now (d .entry)) (now (index .entry))) p)) × (r ≤ 80000000000000000) ⌝ }
 {
     if index::slots_empty(index, index::keys::slot_mm(p, 1), 8) {
         return 0;
@@ -65,7 +70,8 @@ fn maintenance(d: &[u8], index: &[u16], p: usize) -> u64
 // What AD and MM add to an energy level.
 pub fn additions(d: &[u8], index: &[u16], p: usize) -> u64
     requires { ⌜ Indexed (now d) (now index) × (1 ≤ p) × (p ≤ 4) ⌝ }
-    ensures { λ r. ⌜ (r ≡ microDollars (additions (parametersHeld (now (d .entry)) (now (index .entry))) (amountsHeld (now (d .entry)) (now (index .entry))) p)) × (r ≤ 80005000000000000) ⌝ }
+    ensures { λ r. ⌜ (r ≡ microDollars (additions (parametersHeld (now (d .entry)) (now (index .entry)))
+        (amountsHeld (now (d .entry)) (now (index .entry))) p)) × (r ≤ 80005000000000000) ⌝ }
 {
     adders(d, index, p, 1) + maintenance(d, index, p)
 }
@@ -73,7 +79,8 @@ pub fn additions(d: &[u8], index: &[u16], p: usize) -> u64
 // Maintenance in a start level.
 pub fn start_maintenance(d: &[u8], index: &[u16], p: usize) -> u64
     requires { ⌜ Indexed (now d) (now index) × (1 ≤ p) × (p ≤ 4) ⌝ }
-    ensures { λ r. ⌜ (r ≡ microDollars (startMaintenance (parametersHeld (now (d .entry)) (now (index .entry))) (amountsHeld (now (d .entry)) (now (index .entry))) p)) × (r ≤ 8000000000000000000) ⌝ }
+    ensures { λ r. ⌜ (r ≡ microDollars (startMaintenance (parametersHeld (now (d .entry)) (now (index .entry)))
+        (amountsHeld (now (d .entry)) (now (index .entry))) p)) × (r ≤ 8000000000000000000) ⌝ }
 {
     if index::slots_empty(index, index::keys::slot_mm(p, 1), 8) {
         return 0;

@@ -9,7 +9,8 @@ use crate::maintenance::additions;
 // The sum of its one lamination.
 pub fn nuclear_energy(d: &[u8], index: &[u16], p: usize) -> u64
     requires { ⌜ Indexed (now d) (now index) × (1 ≤ p) × (p ≤ 4) ⌝ }
-    ensures { λ r. ⌜ r ≡ microDollars (nuclearEnergy (parametersHeld (now (d .entry)) (now (index .entry))) (amountsHeld (now (d .entry)) (now (index .entry))) p) ⌝ }
+    ensures { λ r. ⌜ r ≡ microDollars (nuclearEnergy (parametersHeld (now (d .entry)) (now (index .entry)))
+        (amountsHeld (now (d .entry)) (now (index .entry))) p) ⌝ }
 {
     let uranium = parameters::incremental_fuel(d, index);
     let fuel = parameters::fuel(d, index, p);

@@ -21,8 +21,10 @@ pub struct Charging {
 
 // Some sums, with interval n: an empty slot adds nothing, any other tells where the record stands, whole.
 fn with_interval(d: &[u8], index: &[u16], n: usize, before: Charging) -> Charging
-    requires { ⌜ Indexed (now d) (now index) × (narrow ≤ length (now index)) × (1 ≤ n) × (n ≤ 2016) × (before .cost ≤ 2147683648 * before .energy) × (before .energy ≤ 2016000000) ⌝ }
-    ensures { λ r. ⌜ (r .cost ≡ before .cost + chargePrice (amountsIn (now (d .entry))) n * chargeEnergy (parametersIn (now (d .entry))) n) × (r .energy ≡ before .energy + chargeEnergy (parametersIn (now (d .entry))) n) × (r .cost ≤ 2147683648 * r .energy) ⌝ }
+    requires { ⌜ Indexed (now d) (now index) × (narrow ≤ length (now index)) × (1 ≤ n) × (n ≤ 2016) × (before .cost ≤ 2147683648 * before .energy)
+        × (before .energy ≤ 2016000000) ⌝ }
+    ensures { λ r. ⌜ (r .cost ≡ before .cost + chargePrice (amountsIn (now (d .entry))) n * chargeEnergy (parametersIn (now (d .entry))) n)
+        × (r .energy ≡ before .energy + chargeEnergy (parametersIn (now (d .entry))) n) × (r .cost ≤ 2147683648 * r .energy) ⌝ }
 {
     let v = index[index::keys::slot_ch(n)] as usize;
     if v == 0 {
@@ -125,7 +127,8 @@ fn intervals(d: &[u8], index: &[u16]) -> Charging
 
 // The sums over the records before a place, with the one there, of kind k: a CH counts if its slot names its place.
 fn with_record(d: &[u8], index: &[u16], at: usize, k: usize, before: Charging) -> Charging
-    requires { ⌜ Indexed (now d) (now index) × (narrow ≤ length (now index)) × (at < length (now d)) × (k ≡ mark (drop at (now d))) × SummedBefore (now d) (now index) at (before .cost) (before .energy) ⌝ }
+    requires { ⌜ Indexed (now d) (now index) × (narrow ≤ length (now index)) × (at < length (now d)) × (k ≡ mark (drop at (now d)))
+        × SummedBefore (now d) (now index) at (before .cost) (before .energy) ⌝ }
     ensures { λ r. ⌜ SummedBefore (now (d .entry)) (now (index .entry)) (at + size k) (r .cost) (r .energy) ⌝ }
 {
     if k != 8 {
@@ -197,7 +200,8 @@ fn charging_cost(d: &[u8], index: &[u16]) -> u64
 // The short-run cost.
 fn short_run_cost(d: &[u8], index: &[u16], p: usize) -> u64
     requires { ⌜ Indexed (now d) (now index) × (1 ≤ p) × (p ≤ 4) ⌝ }
-    ensures { λ r. ⌜ r ≡ microDollars (shortRunCost (parametersHeld (now (d .entry)) (now (index .entry))) (amountsHeld (now (d .entry)) (now (index .entry))) p) ⌝ }
+    ensures { λ r. ⌜ r ≡ microDollars (shortRunCost (parametersHeld (now (d .entry)) (now (index .entry)))
+        (amountsHeld (now (d .entry)) (now (index .entry))) p) ⌝ }
 {
     let charge = charging_cost(d, index) + parameters::fuel(d, index, p);
     let efficiency = parameters::efficiency(d, index);
@@ -229,8 +233,10 @@ fn highest_sum(d: &[u8], index: &[u16], hours: usize, window: usize) -> u64
 
 // The opportunity cost.
 fn opportunity_cost(d: &[u8], index: &[u16]) -> u64
-    requires { ⌜ Indexed (now d) (now index) × (fullHours (parametersHeld (now d) (now index)) ≤ window (parametersHeld (now d) (now index))) × (window (parametersHeld (now d) (now index)) ≤ 168) ⌝ }
-    ensures { λ r. ⌜ r ≡ microDollars (opportunityCost (parametersHeld (now (d .entry)) (now (index .entry))) (amountsHeld (now (d .entry)) (now (index .entry)))) ⌝ }
+    requires { ⌜ Indexed (now d) (now index) × (fullHours (parametersHeld (now d) (now index)) ≤ window (parametersHeld (now d) (now index)))
+        × (window (parametersHeld (now d) (now index)) ≤ 168) ⌝ }
+    ensures { λ r. ⌜ r ≡ microDollars (opportunityCost (parametersHeld (now (d .entry)) (now (index .entry)))
+        (amountsHeld (now (d .entry)) (now (index .entry)))) ⌝ }
 {
     let hours = parameters::full_hours(d, index);
     let window = parameters::window(d, index);
@@ -243,8 +249,11 @@ fn opportunity_cost(d: &[u8], index: &[u16]) -> u64
 
 // The greater is taken.
 pub fn storage_energy(d: &[u8], index: &[u16], p: usize) -> u64
-    requires { ⌜ Indexed (now d) (now index) × (1 ≤ p) × (p ≤ 4) × (fullHours (parametersHeld (now d) (now index)) ≤ window (parametersHeld (now d) (now index))) × (window (parametersHeld (now d) (now index)) ≤ 168) ⌝ }
-    ensures { λ r. ⌜ r ≡ microDollars (storageEnergy (parametersHeld (now (d .entry)) (now (index .entry))) (amountsHeld (now (d .entry)) (now (index .entry))) p) ⌝ }
+    requires { ⌜ Indexed (now d) (now index) × (1 ≤ p) × (p ≤ 4)
+        × (fullHours (parametersHeld (now d) (now index)) ≤ window (parametersHeld (now d) (now index)))
+        × (window (parametersHeld (now d) (now index)) ≤ 168) ⌝ }
+    ensures { λ r. ⌜ r ≡ microDollars (storageEnergy (parametersHeld (now (d .entry)) (now (index .entry)))
+        (amountsHeld (now (d .entry)) (now (index .entry))) p) ⌝ }
 {
     arithmetic::greater(short_run_cost(d, index, p), opportunity_cost(d, index))
 }

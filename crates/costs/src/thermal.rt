@@ -57,8 +57,10 @@ fn output_rise(d: &[u8], index: &[u16], i: usize) -> u64
 
 // The level of lamination i in cents, given what AD and MM add.
 pub fn lamination(d: &[u8], index: &[u16], p: usize, i: usize, more: u64) -> u64
-    requires { ⌜ Indexed (now d) (now index) × (1 ≤ p) × (p ≤ 4) × (1 ≤ i) × (i ≤ 20) × (more ≡ microDollars (additions (parametersHeld (now d) (now index)) (amountsHeld (now d) (now index)) p)) × (more ≤ 80005000000000000) ⌝ }
-    ensures { λ r. ⌜ r ≡ cents (microDollars (thermalEnergy (parametersHeld (now (d .entry)) (now (index .entry))) (amountsHeld (now (d .entry)) (now (index .entry))) p i)) ⌝ }
+    requires { ⌜ Indexed (now d) (now index) × (1 ≤ p) × (p ≤ 4) × (1 ≤ i) × (i ≤ 20)
+        × (more ≡ microDollars (additions (parametersHeld (now d) (now index)) (amountsHeld (now d) (now index)) p)) × (more ≤ 80005000000000000) ⌝ }
+    ensures { λ r. ⌜ r ≡ cents (microDollars (thermalEnergy (parametersHeld (now (d .entry)) (now (index .entry)))
+        (amountsHeld (now (d .entry)) (now (index .entry))) p i)) ⌝ }
 {
     let heat = heat_rise(d, index, i);
     let output = output_rise(d, index, i);
@@ -72,7 +74,8 @@ pub fn lamination(d: &[u8], index: &[u16], p: usize, i: usize, more: u64) -> u64
 // What a heat costs.
 fn heat_sum(d: &[u8], index: &[u16], p: usize, heat: u64) -> u64
     requires { ⌜ Indexed (now d) (now index) × (1 ≤ p) × (p ≤ 4) × (heat ≤ 20000000) ⌝ }
-    ensures { λ r. ⌜ (r ≡ microDollars (heatCost (parametersHeld (now (d .entry)) (now (index .entry))) (amountsHeld (now (d .entry)) (now (index .entry))) p heat)) × (r ≤ 24000000000000) ⌝ }
+    ensures { λ r. ⌜ (r ≡ microDollars (heatCost (parametersHeld (now (d .entry)) (now (index .entry)))
+        (amountsHeld (now (d .entry)) (now (index .entry))) p heat)) × (r ≤ 24000000000000) ⌝ }
 {
     let fuel = parameters::fuel(d, index, p);
     let emission = parameters::emission(d, index, p);
@@ -82,7 +85,8 @@ fn heat_sum(d: &[u8], index: &[u16], p: usize, heat: u64) -> u64
 // A start.
 pub fn start_cost(d: &[u8], index: &[u16], p: usize) -> u64
     requires { ⌜ Indexed (now d) (now index) × (1 ≤ p) × (p ≤ 4) ⌝ }
-    ensures { λ r. ⌜ r ≡ microDollars (startCost (parametersHeld (now (d .entry)) (now (index .entry))) (amountsHeld (now (d .entry)) (now (index .entry))) p) ⌝ }
+    ensures { λ r. ⌜ r ≡ microDollars (startCost (parametersHeld (now (d .entry)) (now (index .entry)))
+        (amountsHeld (now (d .entry)) (now (index .entry))) p) ⌝ }
 {
     heat_sum(d, index, p, parameters::start_heat(d, index))
         + adders(d, index, p, 2)
@@ -92,7 +96,8 @@ pub fn start_cost(d: &[u8], index: &[u16], p: usize) -> u64
 // An hour without load.
 pub fn no_load_cost(d: &[u8], index: &[u16], p: usize) -> u64
     requires { ⌜ Indexed (now d) (now index) × (1 ≤ p) × (p ≤ 4) ⌝ }
-    ensures { λ r. ⌜ r ≡ microDollars (noLoadCost (parametersHeld (now (d .entry)) (now (index .entry))) (amountsHeld (now (d .entry)) (now (index .entry))) p) ⌝ }
+    ensures { λ r. ⌜ r ≡ microDollars (noLoadCost (parametersHeld (now (d .entry)) (now (index .entry)))
+        (amountsHeld (now (d .entry)) (now (index .entry))) p) ⌝ }
 {
     heat_sum(d, index, p, parameters::no_load_heat(d, index)) + adders(d, index, p, 3)
 }

@@ -323,7 +323,8 @@ fn first_unfit(d: &[u8], index: &[u16], t: u8) -> Answer
 
 // 6. Most dossiers have no unfit record, which the index tells; but for a thermal station, a short one is gone through sooner than the index.
 pub fn unfit_of(d: &[u8], index: &[u16], rs: &[u8], t: u8, top: usize) -> Answer
-    requires { ⌜ Indexed (now d) (now index) × Complete (now d) (now index) × (readable (now d) ≡ Accepted) × Known t × (t ≡ technology (parameters (records (now d)))) × (now rs ≡ current RS 0 (records (now d))) × UpTo (now d) top ⌝ }
+    requires { ⌜ Indexed (now d) (now index) × Complete (now d) (now index) × (readable (now d) ≡ Accepted) × Known t
+        × (t ≡ technology (parameters (records (now d)))) × (now rs ≡ current RS 0 (records (now d))) × UpTo (now d) top ⌝ }
     ensures { λ r. ⌜ r ≡ unfit t (records (now (d .entry))) ⌝ }
 {
     if ((t == 1) | (200 < d.len())) && all_fit(d, index, rs, t, top) {

@@ -66,7 +66,8 @@ fn higher_of(a: usize, b: usize) -> usize
 // Few dossiers have the marks whose slots come last, so an index may end before them; a record without a slot is passed over, as the highest slot tells.
 pub fn pass(d: &[u8], index: &mut [u16]) -> Passed
     requires { ⌜ length (now d) ≤ 60000 ⌝ }
-    ensures { λ r. ⌜ (r ≡ passOf (walk (keepStep (now (d .entry))) (kept (now (index .entry)) true 0) (now (d .entry)))) × (now (index .exit) ≡ slotsOf (now (index .exit)) (walk (keepStep (now (d .entry))) (kept (now (index .entry)) true 0) (now (d .entry)))) ⌝ }
+    ensures { λ r. ⌜ (r ≡ passOf (walk (keepStep (now (d .entry))) (kept (now (index .entry)) true 0) (now (d .entry))))
+        × (now (index .exit) ≡ slotsOf (now (index .exit)) (walk (keepStep (now (d .entry))) (kept (now (index .entry)) true 0) (now (d .entry)))) ⌝ }
 {
     let mut at = 0;
     let mut rising = true;

@@ -15,7 +15,8 @@ use libc::STDOUT_FILENO;
 // is too long. So what it says holds of the whole input, however long it is.
 fn answer(read: &[u8], n: usize, out: &mut [u8]) -> usize
     requires { ⌜ (length (now read) ≡ 60005) × (n ≤ 60005) × (2283 ≤ length (now out)) ⌝ }
-    ensures { λ r. ⌜ (r ≤ 2283) × ((i : List ℕ) → take 60005 i ≡ take n (now (read .entry)) → (r ≡ length (prints i)) × (now (out .exit) ≡ over (prints i) (now (out .entry)))) ⌝ }
+    ensures { λ r. ⌜ (r ≤ 2283) × ((i : List ℕ) → take 60005 i ≡ take n (now (read .entry)) → (r ≡ length (prints i))
+        × (now (out .exit) ≡ over (prints i) (now (out .entry)))) ⌝ }
 {
     match report::print(&read[..n], out) {
         Written::Bytes(len) => len,

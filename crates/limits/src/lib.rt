@@ -177,7 +177,8 @@ fn offer_test<'a>(
     offer: &[u8],
 ) -> Verdict
     requires { ⌜ (count ≤ 20) × (length (now offer) ≤ 120) ⌝ }
-    ensures { λ r. ⌜ r ≡ offerShown t (laminationsFrom (inArrays (now (from .entry)) (now (to .entry)) (now (cents .entry)) count) 0 count) (now (offer .entry)) 0 (length (now (offer .entry)) / 6) ⌝ }
+    ensures { λ r. ⌜ r ≡ offerShown t (laminationsFrom (inArrays (now (from .entry)) (now (to .entry)) (now (cents .entry)) count) 0 count)
+        (now (offer .entry)) 0 (length (now (offer .entry)) / 6) ⌝ }
 {
     let least = least_level(cents, count);
     let pairs = offer.len() / 6;
@@ -210,7 +211,8 @@ pub fn rising_offer_test<'a>(
     offer: &[u8],
 ) -> Verdict
     requires { ⌜ (count ≤ 20) × (length (now offer) ≤ 120) × LastHighest (now offer) (length (now offer) / 6) ⌝ }
-    ensures { λ r. ⌜ r ≡ offerShown t (laminationsFrom (inArrays (now (from .entry)) (now (to .entry)) (now (cents .entry)) count) 0 count) (now (offer .entry)) 0 (length (now (offer .entry)) / 6) ⌝ }
+    ensures { λ r. ⌜ r ≡ offerShown t (laminationsFrom (inArrays (now (from .entry)) (now (to .entry)) (now (cents .entry)) count) 0 count)
+        (now (offer .entry)) 0 (length (now (offer .entry)) / 6) ⌝ }
 {
     let pairs = offer.len() / 6;
     if pairs == 0 {

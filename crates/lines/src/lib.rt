@@ -33,7 +33,8 @@ fn put_profile_line(buf: &mut [u8], profile: u64) -> usize
 // A line with a word and a level.
 fn put_amount_line(buf: &mut [u8], word: &[u8], cents: u64) -> usize
     requires { ⌜ length (amountLine (now word) cents) ≤ length (now buf) ⌝ }
-    ensures { λ r. ⌜ (r ≡ length (amountLine (now (word .entry)) cents)) × (now (buf .exit) ≡ over (amountLine (now (word .entry)) cents) (now (buf .entry))) ⌝ }
+    ensures { λ r. ⌜ (r ≡ length (amountLine (now (word .entry)) cents))
+        × (now (buf .exit) ≡ over (amountLine (now (word .entry)) cents) (now (buf .entry))) ⌝ }
 {
     let a = text::put(buf, word);
     let b = a + text::put_hundredths(&mut buf[a..], cents);
@@ -98,7 +99,9 @@ fn put_laminations<'a>(
     count: usize,
 ) -> usize
     requires { ⌜ (count ≤ 20) × (length (laminationLines (inArrays (now from) (now to) (now cents) count) count) ≤ length (now buf)) ⌝ }
-    ensures { λ r. ⌜ (r ≡ length (laminationLines (inArrays (now (from .entry)) (now (to .entry)) (now (cents .entry)) count) count)) × (now (buf .exit) ≡ over (laminationLines (inArrays (now (from .entry)) (now (to .entry)) (now (cents .entry)) count) count) (now (buf .entry))) ⌝ }
+    ensures { λ r. ⌜ (r ≡ length (laminationLines (inArrays (now (from .entry)) (now (to .entry)) (now (cents .entry)) count) count))
+        × (now (buf .exit) ≡ over (laminationLines (inArrays (now (from .entry)) (now (to .entry)) (now (cents .entry)) count) count)
+        (now (buf .entry))) ⌝ }
 {
     let mut at = 0;
     let mut i = 0;
@@ -131,7 +134,8 @@ fn held_line_len(technology: u8, level: u8, word: &[u8], cents: u64) -> usize
 
 fn put_held_line(buf: &mut [u8], technology: u8, level: u8, word: &[u8], cents: u64) -> usize
     requires { ⌜ length (heldLine (holds technology level) (now word) cents) ≤ length (now buf) ⌝ }
-    ensures { λ r. ⌜ (r ≡ length (heldLine (holds technology level) (now (word .entry)) cents)) × (now (buf .exit) ≡ over (heldLine (holds technology level) (now (word .entry)) cents) (now (buf .entry))) ⌝ }
+    ensures { λ r. ⌜ (r ≡ length (heldLine (holds technology level) (now (word .entry)) cents))
+        × (now (buf .exit) ≡ over (heldLine (holds technology level) (now (word .entry)) cents) (now (buf .entry))) ⌝ }
 {
     if level_held(technology, level) {
         put_amount_line(buf, word, cents)
@@ -151,7 +155,8 @@ fn others_len(technology: u8, start: u64, noload: u64, reserve: u64) -> usize
 
 fn put_others(buf: &mut [u8], technology: u8, start: u64, noload: u64, reserve: u64) -> usize
     requires { ⌜ length (otherLines technology start noload reserve) ≤ length (now buf) ⌝ }
-    ensures { λ r. ⌜ (r ≡ length (otherLines technology start noload reserve)) × (now (buf .exit) ≡ over (otherLines technology start noload reserve) (now (buf .entry))) ⌝ }
+    ensures { λ r. ⌜ (r ≡ length (otherLines technology start noload reserve))
+        × (now (buf .exit) ≡ over (otherLines technology start noload reserve) (now (buf .entry))) ⌝ }
 {
     let a = put_held_line(buf, technology, 2, b"start ", start);
     let b = a + put_held_line(&mut buf[a..], technology, 3, b"no-load ", noload);

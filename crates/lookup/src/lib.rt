@@ -98,7 +98,8 @@ pub fn fits_short(d: &[u8]) -> bool
 // The first part of it: 13, 1 to 3, and the index.
 pub fn scan(d: &[u8], index: &mut [u16]) -> Passed
     requires { ⌜ Empty (now index) ⌝ }
-    ensures { λ r. ⌜ (r ≡ scanned (length (now (index .entry))) (now (d .entry))) × ((b : Bool) (m : ℕ) → r ≡ Ended b m → Indexed (now (d .entry)) (now (index .exit)) × UpTo (now (d .entry)) m) ⌝ }
+    ensures { λ r. ⌜ (r ≡ scanned (length (now (index .entry))) (now (d .entry)))
+        × ((b : Bool) (m : ℕ) → r ≡ Ended b m → Indexed (now (d .entry)) (now (index .exit)) × UpTo (now (d .entry)) m) ⌝ }
 {
     if LONGEST < d.len() {
         return Passed::Stopped {

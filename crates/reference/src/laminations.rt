@@ -20,8 +20,14 @@ pub fn laminations(
     to: &mut [u64],
     cents: &mut [u64],
 )
-    requires { ⌜ Indexed (now d) (now index) × (1 ≤ p) × (p ≤ 4) × (n ≤ 20) × (now from ≡ replicate 20 0) × (now to ≡ replicate 20 0) × (now cents ≡ replicate 20 0) ⌝ }
-    ensures { λ r. ⌜ (now (from .exit) ≡ padded 20 (map (λ x. x .from) (laminations (parametersHeld (now (d .entry)) (now (index .entry))) (amountsHeld (now (d .entry)) (now (index .entry))) p 1 n []))) × (now (to .exit) ≡ padded 20 (map (λ x. x .to) (laminations (parametersHeld (now (d .entry)) (now (index .entry))) (amountsHeld (now (d .entry)) (now (index .entry))) p 1 n []))) × (now (cents .exit) ≡ padded 20 (map (λ x. amount x) (laminations (parametersHeld (now (d .entry)) (now (index .entry))) (amountsHeld (now (d .entry)) (now (index .entry))) p 1 n []))) ⌝ }
+    requires { ⌜ Indexed (now d) (now index) × (1 ≤ p) × (p ≤ 4) × (n ≤ 20) × (now from ≡ replicate 20 0) × (now to ≡ replicate 20 0)
+        × (now cents ≡ replicate 20 0) ⌝ }
+    ensures { λ r. ⌜ (now (from .exit) ≡ padded 20 (map (λ x. x .from)
+        (laminations (parametersHeld (now (d .entry)) (now (index .entry))) (amountsHeld (now (d .entry)) (now (index .entry))) p 1 n [])))
+        × (now (to .exit) ≡ padded 20 (map (λ x. x .to) (laminations (parametersHeld (now (d .entry)) (now (index .entry)))
+        (amountsHeld (now (d .entry)) (now (index .entry))) p 1 n [])))
+        × (now (cents .exit) ≡ padded 20 (map (λ x. amount x)
+        (laminations (parametersHeld (now (d .entry)) (now (index .entry))) (amountsHeld (now (d .entry)) (now (index .entry))) p 1 n []))) ⌝ }
 {
     let more = additions(d, index, p);
     let mut i = 0;

@@ -39,7 +39,9 @@ fn one_lamination(
     cents: &mut [u64],
 ) -> SingleLevels
     requires { ⌜ Indexed (now d) (now index) × (now to ≡ replicate 20 0) × (now cents ≡ replicate 20 0) ⌝ }
-    ensures { λ r. ⌜ (r ≡ singleLevels technology p 1 0 0 (centsOf reserve)) × (now (to .exit) ≡ padded 20 (capacity (parametersHeld (now (d .entry)) (now (index .entry))) ∷ [])) × (now (cents .exit) ≡ padded 20 (centsOf energy ∷ [])) ⌝ }
+    ensures { λ r. ⌜ (r ≡ singleLevels technology p 1 0 0 (centsOf reserve))
+        × (now (to .exit) ≡ padded 20 (capacity (parametersHeld (now (d .entry)) (now (index .entry))) ∷ []))
+        × (now (cents .exit) ≡ padded 20 (centsOf energy ∷ [])) ⌝ }
 {
     let energy_level = Money::from_sum(energy);
     let reserve_level = Money::from_sum(reserve);
@@ -64,8 +66,11 @@ fn thermal_levels(
     to: &mut [u64],
     cents: &mut [u64],
 ) -> SingleLevels
-    requires { ⌜ Indexed (now d) (now index) × (1 ≤ p) × (p ≤ 4) × (technology (parametersHeld (now d) (now index)) ≡ 1) × (now from ≡ replicate 20 0) × (now to ≡ replicate 20 0) × (now cents ≡ replicate 20 0) ⌝ }
-    ensures { λ r. ⌜ hourOf r (now (from .exit)) (now (to .exit)) (now (cents .exit)) ≡ packed (technology (parametersHeld (now (d .entry)) (now (index .entry)))) p (linesOf (parametersHeld (now (d .entry)) (now (index .entry))) (amountsHeld (now (d .entry)) (now (index .entry))) p) ⌝ }
+    requires { ⌜ Indexed (now d) (now index) × (1 ≤ p) × (p ≤ 4) × (technology (parametersHeld (now d) (now index)) ≡ 1) × (now from ≡ replicate 20 0)
+        × (now to ≡ replicate 20 0) × (now cents ≡ replicate 20 0) ⌝ }
+    ensures { λ r. ⌜ hourOf r (now (from .exit)) (now (to .exit)) (now (cents .exit))
+        ≡ packed (technology (parametersHeld (now (d .entry)) (now (index .entry)))) p
+        (linesOf (parametersHeld (now (d .entry)) (now (index .entry))) (amountsHeld (now (d .entry)) (now (index .entry))) p) ⌝ }
 {
     let count = costs::thermal::lamination_count(d, index);
     laminations::laminations(d, index, p, count, from, to, cents);
@@ -115,7 +120,8 @@ pub fn hour_levels(
 // The sum of a level without laminations in a profile.
 fn single_sum(d: &[u8], index: &[u16], p: usize, level: u8) -> u64
     requires { ⌜ Indexed (now d) (now index) × (1 ≤ p) × (p ≤ 4) ⌝ }
-    ensures { λ r. ⌜ r ≡ microDollars (singleSum (parametersHeld (now (d .entry)) (now (index .entry))) (amountsHeld (now (d .entry)) (now (index .entry))) p level) ⌝ }
+    ensures { λ r. ⌜ r ≡ microDollars (singleSum (parametersHeld (now (d .entry)) (now (index .entry)))
+        (amountsHeld (now (d .entry)) (now (index .entry))) p level) ⌝ }
 {
     if level == 2 {
         return costs::thermal::start_cost(d, index, p);

@@ -46,7 +46,8 @@ fn put_laminations<'a>(
     words: &mut [u64],
 )
     requires { ⌜ (62 ≤ length (now words)) × (take 62 (now words) ≡ replicate 62 0) × Blank (inArrays (now from) (now to) (now cents) count) ⌝ }
-    ensures { λ r. ⌜ now (words .exit) ≡ wordsTo profile (inArrays (now (from .entry)) (now (to .entry)) (now (cents .entry)) count) 20 ++ drop 62 (now (words .entry)) ⌝ }
+    ensures { λ r. ⌜ now (words .exit) ≡ wordsTo profile (inArrays (now (from .entry)) (now (to .entry)) (now (cents .entry)) count) 20 ++ drop 62
+        (now (words .entry)) ⌝ }
 {
     words[0] = profile as u64;
     words[1] = count as u64;
@@ -82,7 +83,8 @@ fn put_words<'a>(
 // The levels of a dossier at an hour, as words in a lent list; worked out in an empty index.
 fn levels_words_in(d: &[u8], index: &mut [u16], hour: u32, words: &mut [u64]) -> Answer
     requires { ⌜ Empty (now index) ⌝ }
-    ensures { λ r. ⌜ (r ≡ wordsAnswer (now (d .entry)) hour (length (now (words .entry)))) × (now (words .exit) ≡ wordsAfter (now (d .entry)) hour (now (words .entry))) ⌝ }
+    ensures { λ r. ⌜ (r ≡ wordsAnswer (now (d .entry)) hour (length (now (words .entry))))
+        × (now (words .exit) ≡ wordsAfter (now (d .entry)) hour (now (words .entry))) ⌝ }
 {
     match acceptance::judge(d, index) {
         Answer::Accepted => {
@@ -105,7 +107,8 @@ fn levels_words_in(d: &[u8], index: &mut [u16], hour: u32, words: &mut [u64]) ->
 
 // The same of a dossier.
 pub fn levels_words(d: &[u8], hour: u32, words: &mut [u64]) -> Answer
-    ensures { λ r. ⌜ (r ≡ wordsAnswer (now (d .entry)) hour (length (now (words .entry)))) × (now (words .exit) ≡ wordsAfter (now (d .entry)) hour (now (words .entry))) ⌝ }
+    ensures { λ r. ⌜ (r ≡ wordsAnswer (now (d .entry)) hour (length (now (words .entry))))
+        × (now (words .exit) ≡ wordsAfter (now (d .entry)) hour (now (words .entry))) ⌝ }
 {
     match lookup::room_for(d) {
         Room::TooLong => Answer::Refused {
