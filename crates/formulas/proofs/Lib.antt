@@ -1,5 +1,7 @@
 pub mod Computed
 pub mod Cases
+pub mod CasesExact
+pub mod CasesLines
 pub mod Sums
 pub mod Rounding
 pub mod Exact

@@ -9,7 +9,7 @@ use borrow.Author.Needs.{needs}
 use Rattle.records.specs.Record.{mark, size}
 use Rattle.rules.specs.Fit.{fits}
 use Rattle.fit.specs.declared.Tried.{Tried}
-use Rattle.fit.proofs.Unfit.{Left, begin, finish, slot-below, its-length, refuses, goes-on}
+use Rattle.fit.proofs.Search.{Left, begin, finish, slot-below, its-length, refuses, goes-on}
 use Rattle.fit.proofs.first_unfit.Statement.{statement}
 use Rattle.fit.proofs.first_unfit.Tie as tie
 

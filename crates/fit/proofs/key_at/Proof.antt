@@ -1,5 +1,5 @@
 use native.Mathlib.Omega.{arith}
-use Rattle.fit.proofs.Unfit.{key-none, key-of, key-long}
+use Rattle.fit.proofs.Search.{key-none, key-of, key-long}
 use borrow.Author.Needs.{needs}
 use Rattle.fit.proofs.key_at.Statement.{statement}
 use Rattle.fit.proofs.key_at.Tie as tie

@@ -4,7 +4,7 @@ use Rattle.records.specs.Record.{size}
 use Rattle.records.proofs.Marks.{mark-lt}
 use Rattle.records.proofs.MarkShapes.{shape-size, shape-width}
 use Rattle.lookup.proofs.Lookup.{width-le}
-use Rattle.fit.proofs.Unfit.{fit-passes, slot-here, unfit-current}
+use Rattle.fit.proofs.Search.{fit-passes, slot-here, unfit-current}
 use borrow.Author.Needs.{needs}
 use Rattle.fit.proofs.not_fit.Statement.{statement}
 use Rattle.fit.proofs.not_fit.Tie as tie
