@@ -10,10 +10,8 @@ use borrow.Author.Tests.{leb-true, ltb-true, eqb-true, ne-eqb}
 use Rattle.lists.specs.Tests.{allBelow, everyOf}
 use Rattle.lists.proofs.Radix.{Under, none as no-more, more, product, rank, rank-lt, rank-same}
 use Rattle.lists.proofs.Tests.{below-at, everyOf-at}
-use Rattle.fields.specs.Numbers.{number}
 use Rattle.records.specs.declared.MarkShape.{MarkShape}
-use Rattle.records.specs.Table.{table, rowOf, kinds, AD, HR, CH, TH, FP}
-use Rattle.records.specs.Record.{mark}
+use Rattle.records.specs.Table.{table, rowOf, kinds, AD, CH, TH, FP}
 use Rattle.records.specs.MarkShapes.{shape, shapeOf}
 use Rattle.index.proofs.KeyBounds.{Span, Spans, none, InKey, at-mark}
 use Rattle.index.specs.Slots.{slot, short, narrow, wide, slotsEmpty}

@@ -3,7 +3,6 @@ use mathlib.Core.Path.{_≡_, refl, ap}
 use mathlib.Core.Bool.{true, false, cond}
 use mathlib.Core.List.{List, []}
 use Prim.Native.Nat.{ℕ, _≤_, _<_, _+_}
-use lib.ListN.{getD}
 use Rattle.lists.specs.Lists.{Each}
 use Rattle.records.specs.Table.{fieldOf}
 use Rattle.records.specs.Record.{size, isMoney, value, fault}

@@ -8,7 +8,7 @@ use native.Mathlib.Omega.{arith}
 use lib.ListN.{length, take, drop, length-take, length-drop, drop-of-length-le}
 use lib.Seq.{drop-drop, take-all}
 use borrow.Author.Tests.{eq-eqb}
-use Rattle.lists.specs.Lists.{Each, done, also}
+use Rattle.lists.specs.Lists.{Each, also}
 use Rattle.records.specs.Record.{mark, size, fault}
 use Rattle.records.specs.Dossier.{firstOf, restOf, recordsIn, records}
 use Rattle.records.specs.Walk.{Record, found}

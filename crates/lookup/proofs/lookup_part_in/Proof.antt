@@ -1,4 +1,3 @@
-use native.Mathlib.Omega.{arith}
 use Rattle.lookup.proofs.Parts.{slots-most}
 use borrow.Author.Needs.{needs}
 use Rattle.lookup.proofs.lookup_part_in.Statement.{statement}

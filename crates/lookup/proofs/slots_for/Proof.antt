@@ -1,4 +1,3 @@
-use mathlib.Core.Path.{sym}
 use borrow.Author.Tests.{eq-eqb, ne-eqb}
 use Rattle.lookup.proofs.slots_for.Statement.{statement}
 use Rattle.lookup.proofs.slots_for.Tie as tie
