@@ -13,7 +13,8 @@ use lib.Seq.{drop-cons}
 use borrow.Author.Tests.{ltb-false}
 use Rattle.lists.specs.Lists.{Each, done, also}
 use Rattle.formulas.specs.Sums.{sumOf, falling, sumFirst, sumHighest, fromTop, above, atLeast}
-use Rattle.formulas.proofs.Sums.{Falls, falling-sum, top, sorted, above-head, above-not, least-head, least-not, one-cond, falls-above, falls-least, fromTop-few, fromTop-enough}
+use Rattle.formulas.proofs.Sums.{Falls, falling-sum, top, sorted, above-head, above-not, least-head, least-not, one-cond, falls-above, falls-least}
+use Rattle.formulas.proofs.Sums.{fromTop-few, fromTop-enough}
 use Rattle.arithmetic.specs.Highest.{excess, inTurn, Threshold, PriceIn}
 
 -- ---- a loop that adds up f of each element

@@ -78,7 +78,8 @@ fn excess(s: &[u32], v: u32) -> u64
     sum
 }
 
-// A threshold of the n highest with no more than `most` above it, between two that lie on either side of it. Any is as good as another, so that the halving stops at the first middle that is one.
+// A threshold of the n highest with no more than `most` above it, between two that lie on either side of it. Any is as good as another, so that the halving
+// stops at the first middle that is one.
 fn threshold(s: &[u32], n: usize, most: usize, low: u32, high: u32) -> u32
     requires { ⌜ (length (now s) ≤ 65536) × (n ≤ most + 1) × (low ≤ high) × (n ≤ atLeast low (now s)) × (above high (now s) ≤ most) ⌝ }
     ensures { λ r. ⌜ Threshold n most r (now (s .entry)) × (low ≤ r) × (r ≤ high) ⌝ }

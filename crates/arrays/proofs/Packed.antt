@@ -18,8 +18,10 @@ use Rattle.rules.specs.Curve.{points}
 use Rattle.arrays.specs.declared.HourLevels.{HourLevels}
 use Rattle.arrays.specs.declared.SingleLevels.{SingleLevels}
 use Rattle.formulas.specs.Exact.{Sum, quotient, microDollars, cents}
-use Rattle.formulas.specs.Levels.{parametersIn, amountsIn, Line, amount, adders, startCost, noLoadCost, nuclearEnergy, storageEnergy, hydroEnergy, lamination, laminations, oneLamination, single, profile, linesOf, lines, levels, Shown, shownAs, shown}
-use Rattle.arrays.specs.Packed.{Arrays, arraysOf, laminationsFrom, singleOf, unpacked, energyLines, amountOf, padded, hourLevels, singleLevels, hourOf, packed, packedAt}
+use Rattle.formulas.specs.Levels.{parametersIn, amountsIn, Line, amount, adders, startCost, noLoadCost, nuclearEnergy, storageEnergy, hydroEnergy, lamination}
+use Rattle.formulas.specs.Levels.{laminations, oneLamination, single, profile, linesOf, lines, levels, Shown, shownAs, shown}
+use Rattle.arrays.specs.Packed.{Arrays, arraysOf, laminationsFrom, singleOf, unpacked, energyLines, amountOf, padded, hourLevels, singleLevels, hourOf}
+use Rattle.arrays.specs.Packed.{packed, packedAt}
 
 -- ---- an array filled from the front
 

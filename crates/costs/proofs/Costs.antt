@@ -5,7 +5,8 @@ use Rattle.station.specs.Parameters.{Parameters, Amounts, factor, startHeat, no
 use Rattle.rules.specs.Fit.{start, noLoad}
 use Rattle.rules.specs.Curve.{rise}
 use Rattle.formulas.specs.Exact.{quotient, microDollars}
-use Rattle.formulas.specs.Levels.{adders, additions, startMaintenance, thermalEnergy, heatCost, startCost, noLoadCost, nuclearEnergy, forecastPrice, hydroEnergy}
+use Rattle.formulas.specs.Levels.{adders, additions, startMaintenance, thermalEnergy, heatCost, startCost, noLoadCost, nuclearEnergy, forecastPrice}
+use Rattle.formulas.specs.Levels.{hydroEnergy}
 
 module _ (s : Parameters) (m : Amounts) (p : ℕ) {f e k : ℕ} (fuel-is : f ≡ fuel m p) (emission-is : e ≡ emission m p) (factor-is : k ≡ factor s) where
   pub heat-costs : (h : ℕ) {r : ℕ} → r ≡ quotient (h * f * k) 1000000 + quotient (h * e) 1000 → r ≡ microDollars (heatCost s m p h)

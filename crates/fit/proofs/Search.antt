@@ -23,7 +23,8 @@ use Rattle.records.proofs.Record.{size-ge}
 use Rattle.records.proofs.MarkShapes.{shape-width}
 use Rattle.records.proofs.Dossier.{scan-each}
 use Rattle.records.proofs.Read.{number-take, value-take}
-use Rattle.records.proofs.Over.{tail, Over, begins, ends, its-known, its-fault, its-mark, its-length as record-length, its-found, within, answers, goes-on as goes-over}
+use Rattle.records.proofs.Over.{tail, Over, begins, ends, its-known, its-fault, its-mark, its-length as record-length, its-found, within, answers}
+use Rattle.records.proofs.Over.{goes-on as goes-over}
 use Rattle.station.specs.Current.{current}
 use Rattle.index.specs.Slots.{slotAt, slot}
 use Rattle.index.proofs.KeyBounds.{in-key}

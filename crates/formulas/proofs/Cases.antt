@@ -9,7 +9,8 @@ use Rattle.records.specs.Table.{RS, HP, FU, AD, MM, HR, CH, FP, LC}
 use Rattle.station.specs.Parameters.{Parameters, Amounts, adderKey, itemKey}
 use Rattle.formulas.specs.Sums.{sumHighest, fromTop}
 use Rattle.formulas.specs.Exact.{quotient, microDollars, cents}
-use Rattle.formulas.specs.Levels.{adders, thermalEnergy, startCost, noLoadCost, nuclearEnergy, chargingCost, shortRunCost, opportunityCost, storageEnergy, hydroEnergy}
+use Rattle.formulas.specs.Levels.{adders, thermalEnergy, startCost, noLoadCost, nuclearEnergy, chargingCost, shortRunCost, opportunityCost}
+use Rattle.formulas.specs.Levels.{storageEnergy, hydroEnergy}
 use Rattle.formulas.proofs.Computed.{computed}
 
 -- a half goes up, as of half a cent (M2), less than a half down, and nothing is divided by 0

@@ -40,7 +40,8 @@ exact-halves = refl
 abbrev halfItem : ℕ → List Entry → List Entry
 halfItem j l = says MM (itemKey 1 j) 2 1 ∷ says MM (itemKey 1 j) 3 2 ∷ says MM (itemKey 1 j) 4 100000 ∷ l
 
--- a battery with eight such items, a charging cost of half a micro-dollar, fuel 124 and efficiency 501: 5,000 instead of 4,994.503 micro-dollars, which makes a cent
+-- a battery with eight such items, a charging cost of half a micro-dollar, fuel 124 and efficiency 501: 5,000 instead of 4,994.503 micro-dollars, which
+-- makes a cent
 far : List Entry
 far =
     halfItem 1 (halfItem 2 (halfItem 3 (halfItem 4 (halfItem 5 (halfItem 6 (halfItem 7 (halfItem 8 (

@@ -2,7 +2,10 @@
 use Prim.Native.Nat.{ℕ, _+_}
 use Rattle.rules.proofs.Computed.{computed as below}
 use Rattle.formulas.specs.Exact.{quotient, microDollars, cents, plus, sumOver, greaterOf, exact}
-use Rattle.formulas.specs.Levels.{covers, profileOf, profile, adders, maintenance, additions, startMaintenance, thermalEnergy, heatCost, startCost, noLoadCost, nuclearEnergy, totalEnergy, chargingSum, chargingCost, shortRunCost, highestSum, opportunityCost, storageEnergy, forecastPlace, forecastPrice, hydroEnergy, laminations, oneLamination, single, linesOf, lines, levels, hourAnswer}
+use Rattle.formulas.specs.Levels.{covers, profileOf, profile, adders, maintenance, additions, startMaintenance, thermalEnergy, heatCost, startCost}
+use Rattle.formulas.specs.Levels.{noLoadCost, nuclearEnergy, totalEnergy, chargingSum, chargingCost, shortRunCost, highestSum, opportunityCost}
+use Rattle.formulas.specs.Levels.{storageEnergy, forecastPlace, forecastPrice, hydroEnergy, laminations, oneLamination, single, linesOf, lines, levels}
+use Rattle.formulas.specs.Levels.{hourAnswer}
 use Rattle.formulas.specs.Sums.{sumTo, sumOf, listTo, insert, falling, sumFirst, sumHighest, fromTop}
 
 -- how many definitions there are to open

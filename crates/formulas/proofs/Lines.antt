@@ -14,9 +14,13 @@ use Rattle.station.specs.Parameters.{Parameters, Amounts, Higher, technology, e
 use Rattle.rules.specs.Curve.{fullHours}
 use Rattle.formulas.specs.Sums.{sumTo}
 use Rattle.formulas.specs.Exact.{Sum, whole, share}
-use Rattle.formulas.specs.Levels.{profile, adders, maintenance, additions, startMaintenance, thermalEnergy, heatCost, startCost, noLoadCost, nuclearEnergy, totalEnergy, chargingSum, chargingCost, shortRunCost, highestSum, opportunityCost, storageEnergy, forecastPlace, forecastPrice, hydroEnergy, Line, line, amount, NoLower, CloseLine, laminations, oneLamination, single, linesOf, lines}
+use Rattle.formulas.specs.Levels.{profile, adders, maintenance, additions, startMaintenance, thermalEnergy, heatCost, startCost, noLoadCost}
+use Rattle.formulas.specs.Levels.{nuclearEnergy, totalEnergy, chargingSum, chargingCost, shortRunCost, highestSum, opportunityCost, storageEnergy}
+use Rattle.formulas.specs.Levels.{forecastPlace, forecastPrice, hydroEnergy, Line, line, amount, NoLower, CloseLine, laminations, oneLamination, single}
+use Rattle.formulas.specs.Levels.{linesOf, lines}
 use Rattle.formulas.proofs.Sums.{sumTo-mono, listTo-mono, sumHighest-mono, fromTop-mono}
-use Rattle.formulas.proofs.Exact.{Below, wholes, shares, both, totals, perThousands, greaters, microDollars-mono, cents-mono, divisions, Efficient, close}
+use Rattle.formulas.proofs.Exact.{Below, wholes, shares, both, totals, perThousands, greaters, microDollars-mono, cents-mono, divisions, Efficient}
+use Rattle.formulas.proofs.Exact.{close}
 
 -- ---- each formula, part by part
 

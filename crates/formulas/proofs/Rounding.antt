@@ -1,7 +1,8 @@
 -- How a division rounds: the laws that know it, for every number and divisor.
 use mathlib.Core.Path.{_≡_, sym}
 use Prim.Native.Nat.{ℕ, zero, suc, _+_, _*_, _-_, _/_, _%_, _≤_, _<_}
-use native.Mathlib.Nat.{le-div-iff-mul-le, div-lt-iff-lt-mul, div-mul-le-self, lt-div-mul-add, le-trans, le-refl, div-zero, div-eq-of-lt-le, div-add-mod, mod-lt}
+use native.Mathlib.Nat.{le-div-iff-mul-le, div-lt-iff-lt-mul, div-mul-le-self, lt-div-mul-add, le-trans, le-refl, div-zero, div-eq-of-lt-le, div-add-mod}
+use native.Mathlib.Nat.{mod-lt}
 use native.Mathlib.Omega.{arith}
 use Rattle.formulas.specs.Exact.{quotient}
 

@@ -7,7 +7,9 @@ use lib.Dec.{leb, eqb}
 use Rattle.records.specs.Table.{thermal, nuclear, storage, hydro, RQ}
 use Rattle.records.specs.declared.Answer.{Answer}
 use Rattle.records.specs.Dossier.{records}
-use Rattle.station.specs.Parameters.{Parameters, Amounts, parameters, amounts, technology, capacity, factor, startHeat, noLoadHeat, incrementalFuel, efficiency, window, output, heat, fuel, emission, adder, costC, outputW, intervalT, hoursPerStartS, firstHour, lastHour, requested, hourPrice, chargePrice, chargeEnergy, placePrice, lastCost}
+use Rattle.station.specs.Parameters.{Parameters, Amounts, parameters, amounts, technology, capacity, factor, startHeat, noLoadHeat, incrementalFuel}
+use Rattle.station.specs.Parameters.{efficiency, window, output, heat, fuel, emission, adder, costC, outputW, intervalT, hoursPerStartS, firstHour, lastHour}
+use Rattle.station.specs.Parameters.{requested, hourPrice, chargePrice, chargeEnergy, placePrice, lastCost}
 use Rattle.rules.specs.Fit.{energy, start, noLoad, reserve}
 use Rattle.rules.specs.Curve.{points, rise, fullHours}
 use Rattle.rules.specs.Answer.{answer}

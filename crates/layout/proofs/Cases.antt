@@ -1,4 +1,5 @@
--- Worked buffers and lines: a report of three bytes and a lent buffer of five; the lines of all levels; and a small station's report, told, written and printed.
+-- Worked buffers and lines: a report of three bytes and a lent buffer of five; the lines of all levels; and a small station's report, told, written and
+-- printed.
 use mathlib.Core.Path.{_≡_, refl}
 use mathlib.Core.List.{List, [], _∷_, _++_}
 use Prim.Native.Nat.{ℕ}

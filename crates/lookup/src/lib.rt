@@ -13,7 +13,8 @@ ghost use Rattle.records.specs.Dossier.{records, scan};
 ghost use Rattle.station.specs.Current.{longest, current, readable, lookupBytes};
 ghost use Rattle.index.specs.declared.Passed.the-variants.{Ended};
 ghost use Rattle.index.specs.Slots.{slot, narrow};
-ghost use Rattle.lookup.specs.Parts.{isTooLong, fitsShort, slotsFor, held, scanned, placeIn, placeAt, partBytes, partAt, currentPart, lookupPart, Empty, Indexed, Complete, UpTo};
+ghost use Rattle.lookup.specs.Parts.{isTooLong, fitsShort, slotsFor, held, scanned, placeIn, placeAt, partBytes, partAt, currentPart, lookupPart};
+ghost use Rattle.lookup.specs.Parts.{Empty, Indexed, Complete, UpTo};
 use index::Passed;
 use records::Answer;
 

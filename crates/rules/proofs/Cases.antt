@@ -178,7 +178,8 @@ stations =
     ∷ station 0 0 0 0 0 0 0 []
     ∷ []
 
--- "HP is thermal only; HR and CH storage only. Emission is 0 unless thermal"; "S is 0 unless thermal"; FP is hydroelectric only, LC storage only, and fuel 0 at a hydroelectric station
+-- "HP is thermal only; HR and CH storage only. Emission is 0 unless thermal"; "S is 0 unless thermal"; FP is hydroelectric only, LC storage only, and fuel 0
+-- at a hydroelectric station
 abbrev others : List Fitting
 others =
     only HP (1 ∷ 0 ∷ 0 ∷ []) (thermal ∷ [])

@@ -7,7 +7,8 @@ use Rattle.records.specs.Answers.{orElse, refuseIf, drawn, isAccepted, answerNu
 use Rattle.records.specs.Made.{valuesIn, made, pair}
 use Rattle.records.specs.Dossier.{firstOf, restOf, recordsIn, records, moneyAtIn, moneyAt, firstDrawn, scan}
 use Rattle.records.specs.Raise.{limitOf}
-use Rattle.records.specs.Record.{markIn, mark, issue, widths, size, offsetIn, offset, keyIn, keyWidth, keyOf, moneyIn, moneyByte, read, value, inRange, agrees, rangesHold, fault}
+use Rattle.records.specs.Record.{markIn, mark, issue, widths, size, offsetIn, offset, keyIn, keyWidth, keyOf, moneyIn, moneyByte, read, value, inRange}
+use Rattle.records.specs.Record.{agrees, rangesHold, fault}
 use Rattle.records.specs.MarkShapes.{shape, shapes, shapeOf, keyField, keyFits, keyTest}
 use Rattle.records.specs.Table.{table, rowOf, fieldOf}
 use Rattle.station.specs.Current.{matches, better, currentFrom, current, startFrom, startOf, present, twin, anyTwin, twins, readable, lookup, lookupBytes}

@@ -6,7 +6,10 @@ use Rattle.fields.specs.Numbers.{number, biased}
 use Rattle.records.specs.Table.{table, rowOf, fieldOf, RS, HP, FU, AD, MM, RQ, HR, CH, TH, FP, LC}
 use Rattle.records.specs.Record.{offsetIn, offset, read, value}
 use Rattle.station.specs.Current.{current}
-use Rattle.station.specs.Parameters.{parameters, amounts, adderKey, itemKey, thresholdKey, technology, capacity, factor, startHeat, noLoadHeat, incrementalFuel, charge, efficiency, window, output, heat, fuel, emission, adder, costC, outputW, intervalT, hoursPerStartS, firstHour, lastHour, requested, hourPrice, chargePrice, chargeEnergy, percent, margin, floor, placePrice, lastCost}
+use Rattle.station.specs.Parameters.{parameters, amounts, adderKey, itemKey, thresholdKey, technology, capacity, factor, startHeat, noLoadHeat}
+use Rattle.station.specs.Parameters.{incrementalFuel, charge, efficiency, window, output, heat, fuel, emission, adder, costC, outputW, intervalT}
+use Rattle.station.specs.Parameters.{hoursPerStartS, firstHour, lastHour, requested, hourPrice, chargePrice, chargeEnergy, percent, margin, floor}
+use Rattle.station.specs.Parameters.{placePrice, lastCost}
 
 module _ (l : List (List ℕ)) where
   pub technology-at : technology (parameters l) ≡ number 6 1 (current RS 0 l)

@@ -244,7 +244,8 @@ prices-judged =
 
 -- ---- whole dossiers
 
--- a thermal unit without cost but for reserve's, 0.25, and from hour 5 on, in profile 2, an adder of 1.00 to energy; condition 1 has 50 percent, no margin and no floor for both
+-- a thermal unit without cost but for reserve's, 0.25, and from hour 5 on, in profile 2, an adder of 1.00 to energy; condition 1 has 50 percent, no margin
+-- and no floor for both
 abbrev unit : List ℕ
 unit =
     joined (made RS 1 (1 ∷ 1000 ∷ 1000 ∷ 0 ∷ 0 ∷ 0 ∷ 0 ∷ 0 ∷ 0 ∷ [])

@@ -1,7 +1,8 @@
 -- Every definition up to this layer, to compute with.
 use Prim.Native.Nat.{ℕ, _+_}
 use Rattle.formulas.proofs.Computed.{computed as below}
-use Rattle.verdicts.specs.Refusals.{levelRefusal, conditionRefusal, priceBefore, pairHolds, malformed, aboveCapacity, lengthRefusal, offerRefusal, priceRefusal}
+use Rattle.verdicts.specs.Refusals.{levelRefusal, conditionRefusal, priceBefore, pairHolds, malformed, aboveCapacity, lengthRefusal, offerRefusal}
+use Rattle.verdicts.specs.Refusals.{priceRefusal}
 use Rattle.verdicts.specs.Test.{limit, fails, failsUnder, failing, quantity, priceAt, before, overlap, offerFrom, priceTest}
 use Rattle.verdicts.specs.Verdict.{settle, numbers, offerVerdict, priceVerdict, onOffer, onPrice}
 

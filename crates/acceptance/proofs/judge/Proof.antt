@@ -15,7 +15,13 @@ indexed-answer-requires c κs =
     let s = c .before .before .before .before .before .before .before .scan .ensures in
     let i = s .1 _ _ g in
     let h = c .before .if1 .taken in
-    (i .0, up-to-complete (i .0) (i .1) (omega (arith, h, c .before .before .before .before .before .before .before .scan .kept)), i .1, λ e. sym (scan-rising _ _ (ap (λ (b : Bool). Ended b (c .before .before .before .rising .given .0 .1 .0)) (sym e) ∙ sym g ∙ s .0) (omega (arith, h, c .before .before .before .before .before .before .before .scan .kept)) (i .0)))
+    let k = c .before .before .before .before .before .before .before .scan .kept in
+    let m = c .before .before .before .rising .given .0 .1 .0 in (
+      i .0,
+      up-to-complete (i .0) (i .1) (omega (arith, h, k)),
+      i .1,
+      λ e. sym (scan-rising _ _ (ap (λ (b : Bool). Ended b m) (sym e) ∙ sym g ∙ s .0) (omega (arith, h, k)) (i .0)),
+    )
 
 judge-with-wider-index-requires : tie.Need-judge-with-wider-index-requires
 judge-with-wider-index-requires c κs =

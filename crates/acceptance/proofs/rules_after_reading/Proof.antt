@@ -43,13 +43,22 @@ returns-2 : tie.Need-returns-2
 returns-2 c =
     let a = c .before .before .before .before .before .before .before .before .before in
     let p = c .before .before .before .before .before .before in
-    the-rest (a .args .d .now) (a .pre .3) (one-there (records (a .args .d .now)) RS 0 (p .rs .ensures) (c .before .before .before .before .before .if1 .left)) (sym (c .before .enum-told .given .1) ∙ c .before .before .before .unfit-of .ensures ∙ ap (λ (t : ℕ). unfit t (records (a .args .d .now))) (c .before .before .before .before .u8-at .ensures ∙ ap (number 6 1) (p .rs .ensures) ∙ sym (technology-at (records (a .args .d .now))))) (c .unsupported-of .ensures)
+    let l = records (a .args .d .now) in
+    let q = c .before .before .before in
+    the-rest (a .args .d .now) (a .pre .3) (one-there l RS 0 (p .rs .ensures) (q .before .before .if1 .left))
+    (sym (c .before .enum-told .given .1) ∙ q .unfit-of .ensures
+    ∙ ap (λ (t : ℕ). unfit t l) (q .before .u8-at .ensures ∙ ap (number 6 1) (p .rs .ensures) ∙ sym (technology-at l)))
+    (c .unsupported-of .ensures)
 
 returns-3 : tie.Need-returns-3
 returns-3 c =
     let a = c .before .before .before .before .before .before .before .before .before in
     let p = c .before .before .before .before .before .before in
-    draws-6 (a .args .d .now) (a .pre .3) (one-there (records (a .args .d .now)) RS 0 (p .rs .ensures) (c .before .before .before .before .before .if1 .left)) _ _ (sym (c .before .number .given .1) ∙ c .before .before .before .unfit-of .ensures ∙ ap (λ (t : ℕ). unfit t (records (a .args .d .now))) (c .before .before .before .before .u8-at .ensures ∙ ap (number 6 1) (p .rs .ensures) ∙ sym (technology-at (records (a .args .d .now)))))
+    let l = records (a .args .d .now) in
+    let q = c .before .before .before in
+    draws-6 (a .args .d .now) (a .pre .3) (one-there l RS 0 (p .rs .ensures) (q .before .before .if1 .left)) _ _
+    (sym (c .before .number .given .1) ∙ q .unfit-of .ensures
+    ∙ ap (λ (t : ℕ). unfit t l) (q .before .u8-at .ensures ∙ ap (number 6 1) (p .rs .ensures) ∙ sym (technology-at l)))
 
 pub rules-after-reading-spec : {M : Type 1} → statement M
 rules-after-reading-spec =

@@ -34,8 +34,9 @@ is-hydro c =
 
 returns : tie.Need-returns
 returns c =
-    levels-packed
-    (c .before .before .before .before .before .before .before .before .before .before .before .before .before .before .before .before .before .before .pre .1) _ (c .before .before .before .before .before .before .before .before .before .before .before .before .profile .ensures .0) (c .before .before .before .before .before .before .thermal-levels .ensures)
+    let l = c .before .before .before .before .before .before in
+    let p = l .before .before .before .before .before .before in
+    levels-packed (p .before .before .before .before .before .before .pre .1) _ (p .profile .ensures .0) (l .thermal-levels .ensures)
 
 returns-2 : tie.Need-returns-2
 returns-2 c =

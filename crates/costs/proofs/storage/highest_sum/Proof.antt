@@ -28,9 +28,10 @@ returns : tie.Need-returns
 unfolding prices-of
 returns c =
     let p = c .before .before .before .before in
-    let a = p .before .before .before .before in (
+    let a = p .before .before .before .before in
+    let m = amounts (held (a .args .d .now) (a .args .index .now)) in (
       c .highest .ensures .0 ∙ ap (sumHighest (a .args .hours))
-          (prices-part 168 (hourPrice (amounts (held (a .args .d .now) (a .args .index .now)))) (prices-of p) (a .args .window) (a .pre .1) (p .prices .ensures)),
+          (prices-part 168 (hourPrice m) (prices-of p) (a .args .window) (a .pre .1) (p .prices .ensures)),
       c .highest .ensures .1,
     )
 

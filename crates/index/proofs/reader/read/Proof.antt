@@ -31,40 +31,49 @@ returns-4 c =
 returns-5 : tie.Need-returns-5
 unfolding markIn table
 returns-5 c =
+    let a = c .before .before .before .before .before .before .before .before .before .before in
     c .read-hr .ensures ∙ reading-as 72 82 HR _ refl refl
-    (c .before .before .before .before .before .before .before .before .before .before .before .before .before .if1 .left)
+    (a .before .before .before .if1 .left)
     (sym (c .before .before .is-mark4 .ensures) ∙ c .before .if5 .taken)
 
 returns-6 : tie.Need-returns-6
 unfolding markIn table
 returns-6 c =
+    let a = c .before .before .before .before .before .before .before .before .before .before in
     c .read-fp .ensures ∙ reading-as 70 80 FP _ refl refl
-    (c .before .before .before .before .before .before .before .before .before .before .before .before .before .before .before .before .if1 .left)
+    (a .before .before .before .before .before .before .if1 .left)
     (sym (c .before .before .is-mark5 .ensures) ∙ c .before .if6 .taken)
 
 returns-7 : tie.Need-returns-7
 unfolding markIn table
 returns-7 c =
+    let a = c .before .before .before .before .before .before .before .before .before .before in
     c .read-fu .ensures ∙ reading-as 70 85 FU _ refl refl
-    (c .before .before .before .before .before .before .before .before .before .before .before .before .before .before .before .before .before .before .before .if1 .left) (sym (c .before .before .is-mark6 .ensures) ∙ c .before .if7 .taken)
+    (a .before .before .before .before .before .before .before .before .before .if1 .left) (sym (c .before .before .is-mark6 .ensures) ∙ c .before .if7 .taken)
 
 returns-8 : tie.Need-returns-8
 unfolding markIn table
 returns-8 c =
+    let a = c .before .before .before .before .before .before .before .before .before .before in
+    let b = a .before .before .before .before .before .before .before .before .before .before in
     c .read-ad .ensures ∙ reading-as 65 68 AD _ refl refl
-    (c .before .before .before .before .before .before .before .before .before .before .before .before .before .before .before .before .before .before .before .before .before .before .if1 .left) (sym (c .before .before .is-mark7 .ensures) ∙ c .before .if8 .taken)
+    (b .before .before .if1 .left) (sym (c .before .before .is-mark7 .ensures) ∙ c .before .if8 .taken)
 
 returns-9 : tie.Need-returns-9
 unfolding markIn table
 returns-9 c =
+    let a = c .before .before .before .before .before .before .before .before .before .before in
+    let b = a .before .before .before .before .before .before .before .before .before .before in
     c .read-mm .ensures ∙ reading-as 77 77 MM _ refl refl
-    (c .before .before .before .before .before .before .before .before .before .before .before .before .before .before .before .before .before .before .before .before .before .before .before .before .before .if1 .left) (sym (c .before .before .is-mark8 .ensures) ∙ c .before .if9 .taken)
+    (b .before .before .before .before .before .if1 .left) (sym (c .before .before .is-mark8 .ensures) ∙ c .before .if9 .taken)
 
 returns-10 : tie.Need-returns-10
 unfolding markIn table
 returns-10 c =
+    let a = c .before .before .before .before .before .before .before .before .before .before in
+    let b = a .before .before .before .before .before .before .before .before .before .before in
     c .read-rq .ensures ∙ reading-as 82 81 RQ _ refl refl
-    (c .before .before .before .before .before .before .before .before .before .before .before .before .before .before .before .before .before .before .before .before .before .before .before .before .before .before .before .before .if1 .left) (sym (c .before .before .is-mark9 .ensures) ∙ c .before .if10 .taken)
+    (b .before .before .before .before .before .before .before .before .if1 .left) (sym (c .before .before .is-mark9 .ensures) ∙ c .before .if10 .taken)
 
 read-keyless-requires : tie.Need-read-keyless-requires
 read-keyless-requires c κs =
