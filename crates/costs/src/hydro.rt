@@ -11,25 +11,39 @@ use crate::maintenance::additions;
 
 // The prices of so many places from place 1 on, into the last places of an array, place 1 the very last.
 fn prices(d: &[u8], index: &[u16], places: usize, prices: &mut [u32])
-    requires { ⌜ Indexed (now d) (now index) × Complete (now d) (now index) × (places ≤ 4000) × (length (now prices) ≡ 4000) ⌝ }
-    ensures { λ r. ⌜ drop (4000 - places) (now (prices .exit)) ≡ listTo places (placePrice (amountsIn (now (d .entry)))) ⌝ }
+    requires { ⌜ Indexed (now d) (now index) × Complete (now d) (now index) × (places ≤ length (now prices)) × (length (now prices) ≤ 4000) ⌝ }
+    ensures { λ r. ⌜ drop (length (now (prices .exit)) - places) (now (prices .exit)) ≡ listTo places (placePrice (amountsIn (now (d .entry)))) ⌝ }
 {
+    let last = prices.len();
     let mut n = 0;
     while n < places {
-        prices[3999 - n] = parameters::place_price(d, index, n + 1);
+        prices[last - 1 - n] = parameters::place_price(d, index, n + 1);
         n += 1;
     }
 }
 
-// The price at a place from the top among them, plus 2^31.
+// The price at a place from the top among them, plus 2^31, through an array with room for all.
+fn price_from_top_in(d: &[u8], index: &[u16], places: usize, place: usize, table: &mut [u32]) -> u32
+    requires { ⌜ Indexed (now d) (now index) × Complete (now d) (now index) × (places ≤ length (now table)) × (length (now table) ≤ 4000) × (1 ≤ place)
+        × (place ≤ places) ⌝ }
+    ensures { λ r. ⌜ (r ≡ fromTop place (listTo places (placePrice (amountsIn (now (d .entry)))))) × (r ≤ 2147683648) ⌝ }
+{
+    prices(d, index, places, table);
+    let from = table.len() - places;
+    arithmetic::highest::from_top(&table[from..], place)
+}
+
+// The same. A short forecast would cost less than clearing an array for the longest.
 fn price_from_top(d: &[u8], index: &[u16], places: usize, place: usize) -> u32
     requires { ⌜ Indexed (now d) (now index) × Complete (now d) (now index) × (places ≤ 4000) × (1 ≤ place) × (place ≤ places) ⌝ }
     ensures { λ r. ⌜ (r ≡ fromTop place (listTo places (placePrice (amountsIn (now (d .entry)))))) × (r ≤ 2147683648) ⌝ }
 {
+    if places <= 400 {
+        let mut table = [0u32; 400];
+        return price_from_top_in(d, index, places, place, &mut table);
+    }
     let mut table = [0u32; 4000];
-    prices(d, index, places, &mut table);
-    let from = 4000 - places;
-    arithmetic::highest::from_top(&table[from..], place)
+    price_from_top_in(d, index, places, place, &mut table)
 }
 
 // The greater of 0 and the price at the forecast's place, in cents, through an index of every record.

@@ -1,5 +1,5 @@
 -- The index: a slot for each mark and key, which holds the current record so far.
-use mathlib.Core.Bool.{Bool, true, cond, _&&_, _||_}
+use mathlib.Core.Bool.{Bool, true, cond, _&&_, _||_, not}
 use mathlib.Core.List.{List}
 use Prim.Native.Nat.{ℕ, zero, suc, _+_, _*_, _/_, _%_}
 use lib.Dec.{leb, ltb, eqb}
@@ -92,3 +92,7 @@ slotsOf l (stopped n p) = l
 -- n slots from slot j on are empty
 unfoldable pub slotsEmpty : List ℕ → ℕ → ℕ → Bool
 slotsEmpty ix j n = allBelow n (λ i. eqb (getD ix (j + i) 0) 0)
+
+-- none of n slots from slot j on is
+unfoldable pub slotsFull : List ℕ → ℕ → ℕ → Bool
+slotsFull ix j n = allBelow n (λ i. not (eqb (getD ix (j + i) 0) 0))

@@ -4,10 +4,10 @@ pub mod reader;
 
 ghost use mathlib.Core.Path.{_≡_};
 ghost use mathlib.Core.Bool.{true};
-ghost use Prim.Native.Nat.{_+_, _≤_};
+ghost use Prim.Native.Nat.{_+_, _<_, _≤_};
 ghost use lib.ListN.{length};
 ghost use Rattle.records.specs.Walk.{walk};
-ghost use Rattle.index.specs.Slots.{heldIssue, newer, higher, kept, keepStep, passOf, slotsOf, slotsEmpty};
+ghost use Rattle.index.specs.Slots.{heldIssue, newer, higher, kept, keepStep, passOf, slotsOf, slotsEmpty, slotsFull};
 use crate::reader::read;
 
 // The slots of marks that every station may have and of HR; of all marks but FP; and with them.
@@ -114,4 +114,22 @@ pub fn slots_empty(index: &[u16], j: usize, n: usize) -> bool
         i += 1;
     }
     any == 0
+}
+
+// Whether none of n slots from slot j on is empty; a slot that the index lacks is. Where all are there nothing is asked of each, so that the compiler
+// takes several at a time.
+pub fn slots_full(index: &[u16], j: usize, n: usize) -> bool
+    requires { ⌜ (j < 65536) × (n < 65536) ⌝ }
+    ensures { λ r. ⌜ r ≡ slotsFull (now (index .entry)) j n ⌝ }
+{
+    if index.len() < j + n {
+        return n == 0;
+    }
+    let mut all = true;
+    let mut i = 0;
+    while i < n {
+        all = all & (index[j + i] != 0);
+        i += 1;
+    }
+    all
 }

@@ -1,18 +1,19 @@
 -- 9 and 17: the hours of the window and the places of the forecast.
-use mathlib.Core.Path.{_≡_, refl, ap, sym, _∙_}
+use mathlib.Core.Path.{_≡_, refl, ap, ap₂, sym, _∙_}
 use mathlib.Core.Bool.{Bool, true, false, _&&_, not}
 use mathlib.Core.List.{List, []}
-use Prim.Native.Nat.{ℕ, _≤_, _<_}
+use Prim.Native.Nat.{ℕ, zero, suc, _+_, _≤_, _<_}
 use native.Mathlib.Omega.{arith}
 use lib.Dec.{leb, ltb, eqb, lit≤, lit<}
-use lib.ListN.{length, getD}
-use borrow.Author.Tests.{eq-eqb, ne-eqb}
-use Rattle.lists.specs.Tests.{allTo}
+use lib.ListN.{length, getD, List·getD-eq-default}
+use borrow.Author.Tests.{ltb-true, ltb-false, eq-eqb, ne-eqb}
+use Rattle.lists.specs.Tests.{allBelow, allTo}
+use Rattle.lists.proofs.Tests.{split}
 use Rattle.records.specs.Table.{table, rowOf, HR, FP}
 use Rattle.records.specs.MarkShapes.{shape, shapeOf}
 use Rattle.records.specs.Dossier.{records}
 use Rattle.station.specs.Parameters.{Parameters, parameters, technology, window}
-use Rattle.index.specs.Slots.{slot}
+use Rattle.index.specs.Slots.{slot, slotsFull}
 use Rattle.index.proofs.KeyBounds.{InKey}
 use Rattle.lookup.specs.Parts.{Indexed, Complete}
 use Rattle.lookup.proofs.Parts.{one-field, slot-tells, beyond-index}
@@ -20,22 +21,36 @@ use Rattle.parameters.proofs.Points.{there-is, none-there}
 use Rattle.rules.specs.Curve.{fullHours, hoursHold, windowFits, placesHold, forecastFits}
 
 -- a key is there as its slot tells; one without a slot in a complete index is not
-module _ (d ix : List ℕ) (h : Indexed d ix) (k n : ℕ) {j : ℕ} (ej : j ≡ slot k n) where
-  pub key-beyond : Complete d ix → length ix ≤ j → false ≡ parameters (records d) .has k n
-  key-beyond c b = sym (none-there (records d) k n {r = []} (sym (beyond-index d ix h c k n (omega (arith, b, ej)))) refl)
+module _ (d ix : List ℕ) (h : Indexed d ix) (c : Complete d ix) (k n : ℕ) {j : ℕ} (ej : slot k n ≡ j) where
+  key-beyond : length ix ≤ j → not (eqb (getD ix j 0) 0) ≡ parameters (records d) .has k n
+  key-beyond b =
+      rw (List·getD-eq-default ix 0 b)
+      (sym (none-there (records d) k n {r = []} (sym (beyond-index d ix h c k n (omega (arith, b, ej)))) refl))
 
-  pub key-told : InKey k n → j < length ix → not (eqb (getD ix j 0) 0) ≡ parameters (records d) .has k n
-  key-told i b =
-      ap (λ (m : ℕ). not (eqb (getD ix m 0) 0)) ej ∙ sym (slot-tells d ix h k n i (omega (arith, b, ej))) ∙ there-is (records d) k n refl
+  key-within : InKey k n → j < length ix → not (eqb (getD ix j 0) 0) ≡ parameters (records d) .has k n
+  key-within i b =
+      ap (λ (m : ℕ). not (eqb (getD ix m 0) 0)) (sym ej) ∙ sym (slot-tells d ix h k n i (omega (arith, b, ej))) ∙ there-is (records d) k n refl
 
--- an hour of the window and a place of the forecast are keys
-pub hour-key : (n : ℕ) → 1 ≤ n → n ≤ 168 → InKey HR n
-unfolding shapeOf shape rowOf table
-hour-key n p q = one-field HR n (lit≤ tt) (lit< tt) refl p q
+  key-told : InKey k n → not (eqb (getD ix j 0) 0) ≡ parameters (records d) .has k n
+  key-told i = split (ltb j (length ix)) (λ e. key-within i (ltb-true j (length ix) e)) (λ e. key-beyond (ltb-false j (length ix) e))
 
-pub place-key : (n : ℕ) → 1 ≤ n → n ≤ 4000 → InKey FP n
-unfolding shapeOf shape rowOf table
-place-key n p q = one-field FP n (lit≤ tt) (lit< tt) refl p q
+-- keys that count from 1, their slots one behind the other, are all there if all their slots are full
+keys-told : (d ix : List ℕ) → Indexed d ix → Complete d ix → (k j : ℕ) → ((i : ℕ) → slot k (suc i) ≡ j + i) → (n : ℕ)
+    → ((i : ℕ) → i < n → InKey k (suc i)) → slotsFull ix j n ≡ allTo n (parameters (records d) .has k)
+unfolding slotsFull allBelow allTo
+keys-told d ix h c k j a zero g = refl
+keys-told d ix h c k j a (suc n) g =
+    ap₂ (λ (x y : Bool). x && y) (keys-told d ix h c k j a n (λ i l. g i (omega (arith, l)))) (key-told d ix h c k (suc n) (a n) (g n (omega arith)))
+
+-- so it is of the hours of the window and of the places of the forecast
+module _ (d ix : List ℕ) (h : Indexed d ix) (c : Complete d ix) (n : ℕ) {j : ℕ} where
+  pub hours-told : j ≡ slot HR 1 → n ≤ 168 → slotsFull ix j n ≡ allTo n (parameters (records d) .has HR)
+  unfolding slot shapeOf shape rowOf table
+  hours-told e w = keys-told d ix h c HR j (λ i. omega (arith, e)) n (λ i l. one-field HR (suc i) (lit≤ tt) (lit< tt) refl (omega arith) (omega arith))
+
+  pub places-told : j ≡ slot FP 1 → n ≤ 4000 → slotsFull ix j n ≡ allTo n (parameters (records d) .has FP)
+  unfolding slot shapeOf shape rowOf table
+  places-told e w = keys-told d ix h c FP j (λ i. omega (arith, e)) n (λ i l. one-field FP (suc i) (lit≤ tt) (lit< tt) refl (omega arith) (omega arith))
 
 module _ (s : Parameters) (t : ℕ) (et : t ≡ technology s) where
   -- what 9 asks

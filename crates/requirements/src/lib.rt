@@ -11,6 +11,7 @@ ghost use Rattle.requirements.specs.Segments.{fuelled};
 ghost use Rattle.rules.specs.Curve.{curveHolds, curveFits, fuelHolds, windowFits, forecastFits};
 ghost use Rattle.rules.specs.Answer.{unsupported};
 use index::slots_empty;
+use index::slots_full;
 use records::Answer;
 
 // What a curve rises by from one point to the next, 0 where it doesn't.
@@ -99,30 +100,12 @@ fn fuel_holds(d: &[u8], index: &[u16]) -> bool
     (0 < lookup::fu(d, index, 1).len()) & requests_fuelled(d, index)
 }
 
-// Whether an hour of the window is there, as its slot tells; an hour without a slot is not.
-fn hour_there(d: &[u8], index: &[u16], n: usize) -> bool
-    requires { ⌜ Indexed (now d) (now index) × Complete (now d) (now index) × (1 ≤ n) × (n ≤ 168) ⌝ }
-    ensures { λ r. ⌜ r ≡ parameters (records (now (d .entry))) .has HR n ⌝ }
-{
-    let j = index::keys::slot_hr(n);
-    if index.len() <= j {
-        return false;
-    }
-    index[j] != 0
-}
-
-// Whether hours 1 to n of the window are there.
+// Whether hours 1 to n of the window are there, as their slots tell; an hour without a slot is not.
 fn hours_there(d: &[u8], index: &[u16], n: usize) -> bool
     requires { ⌜ Indexed (now d) (now index) × Complete (now d) (now index) × (n ≤ 168) ⌝ }
     ensures { λ r. ⌜ r ≡ allTo n (parameters (records (now (d .entry))) .has HR) ⌝ }
 {
-    let mut ok = true;
-    let mut i = 0;
-    while i < n {
-        i += 1;
-        ok = ok & hour_there(d, index, i);
-    }
-    ok
+    slots_full(index, index::keys::slot_hr(1), n)
 }
 
 // What 9 asks.
@@ -138,30 +121,12 @@ fn window_fits(d: &[u8], index: &[u16]) -> bool
     (0 < hours) & (hours <= (window as u64)) & hours_there(d, index, window)
 }
 
-// The same of a place of the forecast.
-fn place_there(d: &[u8], index: &[u16], n: usize) -> bool
-    requires { ⌜ Indexed (now d) (now index) × Complete (now d) (now index) × (1 ≤ n) × (n ≤ 4000) ⌝ }
-    ensures { λ r. ⌜ r ≡ parameters (records (now (d .entry))) .has FP n ⌝ }
-{
-    let j = index::keys::slot_fp(n);
-    if index.len() <= j {
-        return false;
-    }
-    index[j] != 0
-}
-
-// Whether places 1 to n of the forecast are there.
+// The same of places 1 to n of the forecast.
 fn places_there(d: &[u8], index: &[u16], n: usize) -> bool
     requires { ⌜ Indexed (now d) (now index) × Complete (now d) (now index) × (n ≤ 4000) ⌝ }
     ensures { λ r. ⌜ r ≡ allTo n (parameters (records (now (d .entry))) .has FP) ⌝ }
 {
-    let mut ok = true;
-    let mut i = 0;
-    while i < n {
-        i += 1;
-        ok = ok & place_there(d, index, i);
-    }
-    ok
+    slots_full(index, index::keys::slot_fp(1), n)
 }
 
 // What 17 asks.

@@ -1,36 +1,20 @@
-use Rattle.lists.proofs.Tests.{to-next}
-use Rattle.records.specs.Table.{HR}
-use Rattle.lists.specs.Tests.{allTo}
-use Rattle.station.specs.Parameters.{parameters}
-use Rattle.records.specs.Dossier.{records}
-use Prim.Native.Nat.{ℕ, _≤_, _-_}
+use mathlib.Core.Path.{_∙_}
 use native.Mathlib.Omega.{arith}
-use mathlib.Core.Path.{_≡_, refl, ap, _∙_}
+use borrow.Author.Needs.{needs}
+use Rattle.records.specs.Table.{HR}
+use Rattle.index.specs.Slots.{slot}
+use Rattle.requirements.proofs.Window.{hours-told}
 use Rattle.requirements.proofs.hours_there.Statement.{statement}
 use Rattle.requirements.proofs.hours_there.Tie as tie
 
-abbrev Inv-loop : tie.InvT-loop
-Inv-loop d index n ok₀ i₀ ok i = (i ≤ n) × (ok ≡ allTo i (parameters (records d) .has HR))
+slots-full-requires : tie.Need-slots-full-requires
+unfolding slot
+slots-full-requires c κs = (omega (arith, c .slot-hr .ensures), omega arith)
 
-abbrev μ-loop : tie.MeasureT-loop
-μ-loop d index n ok₀ i₀ ok i = n - i
-
-loop-holds : tie.Need-loop-holds Inv-loop μ-loop
-loop-holds c = (omega arith, unfold allTo in refl)
-
-hour-there-requires : tie.Need-hour-there-requires Inv-loop μ-loop
-hour-there-requires c κs = (c .before .before .before .before .pre .0, c .before .before .before .before .pre .1, omega arith, omega arith)
-
-loop-again : tie.Need-loop-again Inv-loop μ-loop
-loop-again c = (
-  omega arith,
-  to-next (c .before .before .loop .i) (parameters (records (c .before .before .before .before .before .args .d .now)) .has HR)
-      (c .before .before .loop .inv .1) (c .hour-there .ensures),
-)
-
-returns : tie.Need-returns Inv-loop μ-loop
-returns c = c .before .loop .inv .1 ∙ ap (λ (i : ℕ). allTo i (parameters (records (c .before .before .before .before .args .d .now)) .has HR)) (omega arith)
+returns : tie.Need-returns
+returns c =
+    let p = c .before .before .before .before .pre in
+    c .slots-full .ensures ∙ hours-told _ _ (p .0) (p .1) _ (c .before .slot-hr .ensures) (p .2)
 
 pub hours-there-spec : {M : Type 1} → statement M
-hours-there-spec =
-    tie.close (tie.spec Inv-loop μ-loop loop-holds (λ c. omega arith) hour-there-requires (λ c. omega arith) loop-again returns)
+hours-there-spec = tie.close (tie.spec (λ c κs. search needs) slots-full-requires returns)

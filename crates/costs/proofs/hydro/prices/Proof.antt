@@ -1,5 +1,5 @@
 use borrow.Author.Needs.{needs}
-use mathlib.Core.Path.{_≡_}
+use mathlib.Core.Path.{_≡_, refl}
 use Prim.Native.Nat.{_-_, _≤_}
 use native.Mathlib.Omega.{arith}
 use lib.ListN.{length, drop, length-set}
@@ -11,27 +11,27 @@ use Rattle.costs.proofs.hydro.prices.Statement.{statement}
 use Rattle.costs.proofs.hydro.prices.Tie as tie
 
 abbrev Inv-loop : tie.InvT-loop
-Inv-loop d index places prices₀ n₀ prices n = (n ≤ places) × (length prices ≡ 4000) × (drop (4000 - n) prices ≡ listTo n (placePrice (amounts (records d))))
+Inv-loop d index places prices₀ last n₀ prices n =
+    (n ≤ places) × (length prices ≡ length prices₀) × (drop (length prices - n) prices ≡ listTo n (placePrice (amounts (records d))))
 
 abbrev μ-loop : tie.MeasureT-loop
-μ-loop d index places prices₀ n₀ prices n = places - n
+μ-loop d index places prices₀ last n₀ prices n = places - n
 
 loop-holds : tie.Need-loop-holds Inv-loop μ-loop
-loop-holds c = (search needs, search needs, prices-none 4000 _ (c .before .before .before .args .prices .now) (c .before .before .before .pre .3))
+loop-holds c = (search needs, search needs, prices-none _ _ (c .before .before .before .args .prices .now) refl)
 
 loop-again : tie.Need-loop-again Inv-loop μ-loop
 loop-again c =
     let l = c .before .before .loop in (
       omega arith,
       simp length-set (l .inv .1),
-      prices-more 4000 _ (l .prices) (l .n) _ _ (l .inv .1) (omega arith) (omega arith) (l .inv .2)
-          (c .place-price .ensures),
+      simp length-set (prices-more (length (l .prices)) _ (l .prices) (l .n) _ _ refl (omega arith) (omega arith) (l .inv .2) (c .place-price .ensures)),
     )
 
 returns : tie.Need-returns Inv-loop μ-loop
 returns c =
     let l = c .before .loop in
-    prices-end 4000 _ (l .prices) (l .n) _ (c .loop-test .left) (l .inv .0) (l .inv .2)
+    prices-end _ _ (l .prices) (l .n) _ (c .loop-test .left) (l .inv .0) (l .inv .2)
 
 pub prices-spec : {M : Type 1} → statement M
 prices-spec =
@@ -42,6 +42,7 @@ prices-spec =
     loop-holds
     (λ c. omega arith)
     (λ c κs. search needs)
+    (λ c. omega arith)
     (λ c. omega arith)
     (λ c. omega arith)
     (λ c. omega arith)
