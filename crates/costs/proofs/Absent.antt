@@ -12,7 +12,7 @@ use Rattle.station.proofs.Fields.{adder-at, costC-at}
 use Rattle.index.specs.Slots.{slot, slotsEmpty}
 use Rattle.index.proofs.Slots.{adder-slot}
 use Rattle.lookup.specs.Parts.{Indexed, held, parametersHeld, amountsHeld}
-use Rattle.lookup.proofs.Parts.{three-field, item-key}
+use Rattle.lookup.proofs.Keys.{adder-key, item-key}
 use Rattle.lookup.proofs.Held.{held-in-empty}
 use Rattle.formulas.specs.Sums.{sumTo}
 use Rattle.formulas.specs.Exact.{quotient, microDollars}
@@ -25,7 +25,7 @@ module _ {d ix : List ℕ} (h : Indexed d ix) (p : ℕ) (a : 1 ≤ p) (b : p ≤
     no-adder : (c : ℕ) → 1 ≤ c → c ≤ 5 → adder (amountsHeld d ix) p c v ≡ 0
     no-adder c u w =
         let n : ℕ = adderKey p c v in
-        let k = three-field p c v a b u w x y in
+        let k = adder-key p c v a b u w x y in
         let low = adder-slot p 1 1 (omega arith) (omega arith) in
         let own = adder-slot p c v (omega arith) (omega arith) in
         adder-at (held d ix) p c v

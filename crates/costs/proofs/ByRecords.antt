@@ -26,7 +26,8 @@ use Rattle.index.proofs.KeyBounds.{in-key}
 use Rattle.index.proofs.Slots.{slot-narrow, low, high, limits}
 use Rattle.lookup.specs.declared.Part.{Part}
 use Rattle.lookup.specs.Parts.{part, placeAt, currentPart, Indexed}
-use Rattle.lookup.proofs.Parts.{place-current, slot-tells, interval-key}
+use Rattle.lookup.proofs.Keys.{interval-key}
+use Rattle.lookup.proofs.Parts.{place-current, slot-tells}
 use Rattle.parameters.proofs.Bounds.{clean}
 use Rattle.formulas.specs.Sums.{sumTo}
 use Rattle.formulas.specs.Levels.{totalEnergy}

@@ -20,7 +20,8 @@ use Rattle.station.proofs.Fields.{chargeEnergy-at, lastCost-at}
 use Rattle.index.specs.Slots.{slot, narrow, slotsEmpty}
 use Rattle.index.proofs.Slots.{slot-narrow}
 use Rattle.lookup.specs.Parts.{part, partBytes, placeAt, partAt, fitsShort, Indexed}
-use Rattle.lookup.proofs.Parts.{current-in-empty, slot-tells, part-current, interval-key}
+use Rattle.lookup.proofs.Keys.{interval-key}
+use Rattle.lookup.proofs.Parts.{current-in-empty, slot-tells, part-current}
 use Rattle.lookup.proofs.Rooms.{short-none}
 use Rattle.formulas.specs.Sums.{sumTo}
 use Rattle.formulas.specs.Exact.{microDollars}

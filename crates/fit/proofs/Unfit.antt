@@ -32,7 +32,8 @@ use Rattle.index.specs.Slots.{narrow, slot, slotsEmpty}
 use Rattle.index.proofs.KeyBounds.{Spans, InKey, in-key, at-mark}
 use Rattle.index.proofs.Slots.{low, high, limits, in-empty}
 use Rattle.lookup.specs.Parts.{Indexed, Complete, UpTo}
-use Rattle.lookup.proofs.Parts.{current-none, current-in-empty, slot-fits, item-key}
+use Rattle.lookup.proofs.Keys.{item-key}
+use Rattle.lookup.proofs.Parts.{current-none, current-in-empty, slot-fits}
 use Rattle.rules.specs.Fit.{Known, holds, fits, isCurrent, unfit}
 use Rattle.fit.specs.BySlots.{fourthsEmpty, pointsFit, itemsFit, profilesFit, levelFits, proratedFit, pricedFit, allFit}
 use Rattle.rules.proofs.ByMark.{fits-rs, fits-hp, fits-fu, fits-mm, fits-rq, fits-hr, fits-ch, fits-fp, fits-lc, held-ad, held-th}
@@ -294,5 +295,5 @@ no-items t d ix p known h a b {j} q e = sym (at-to 8 (λ i. fits t MM (current M
     one : (i : ℕ) → 1 ≤ i → i ≤ 8 → fits t MM (current MM (p * 256 + i) (records d)) ≡ true
     one i c z =
         let k = item-key p i a b c z in
-        rw (current-in-empty d ix h 5 (p * 256 + i) k (slot-fits d ix h 5 (p * 256 + i) refl k refl) j 8 e (omega (arith, q)) (omega (arith, q)))
+        rw (current-in-empty d ix h MM (p * 256 + i) k (slot-fits d ix h MM (p * 256 + i) refl k refl) j 8 e (omega (arith, q)) (omega (arith, q)))
         (item-none t known)

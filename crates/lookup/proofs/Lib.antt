@@ -1,3 +1,4 @@
+pub mod Keys
 pub mod Parts
 pub mod Opening
 pub mod Lookup

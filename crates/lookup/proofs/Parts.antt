@@ -2,7 +2,7 @@
 use mathlib.Core.Path.{_≡_, refl, ap, ap₂, sym, subst, _∙_}
 use mathlib.Core.Bool.{Bool, true, false, cond, true≢false, _||_, not}
 use mathlib.Core.List.{List, []}
-use Prim.Native.Nat.{ℕ, _+_, _-_, _*_, _/_, _%_, _≤_, _<_}
+use Prim.Native.Nat.{ℕ, _+_, _-_, _≤_, _<_}
 use native.Mathlib.Nat.{add-sub-cancel-left}
 use native.Mathlib.Omega.{arith}
 use lib.Dec.{ltb, eqb, lit<, lit≤}
@@ -219,52 +219,6 @@ pub size-small : (k n : ℕ) → InKey k n → size k < 65536
 unfolding size widths rowOf table
 size-small k n p =
     at-mark (λ j. size j < 65536) k n p (lit< tt) (lit< tt) (lit< tt) (lit< tt) (lit< tt) (lit< tt) (lit< tt) (lit< tt) (lit< tt) (lit< tt) (lit< tt)
-
--- ---- keys by their fields
-
-module _ (k : ℕ) where
-  abbrev low : ℕ → ℕ
-  low i = getD (shapeOf k .lowest) i 0
-
-  abbrev high : ℕ → ℕ
-  high i = getD (shapeOf k .highest) i 0
-
-  pub one-field : (n : ℕ) → 1 ≤ k → k < kinds → eqb (high 1) 0 ≡ true → low 0 ≤ n → n ≤ high 0 → InKey k n
-  unfolding Spans
-  one-field n a b e p q = record { known = a; low = b; spans = rw e (p, q) }
-
-  pub two-field : (x y : ℕ) → 1 ≤ k → k < kinds → eqb (high 1) 0 ≡ false → eqb (high 2) 0 ≡ true → low 0 ≤ x → x ≤ high 0 → low 1 ≤ y → y ≤ high 1
-      → high 1 < 256 → InKey k (x * 256 + y)
-  unfolding Spans
-  two-field x y a b e f p q r s t =
-      let i : (x * 256 + y) / 256 ≡ x = omega arith in
-      let j : (x * 256 + y) % 256 ≡ y = omega arith in
-      record { known = a; low = b; spans = rw (e, f, i, j) ((p, q), (r, s)) }
-
-pub three-field : (x y z : ℕ) → 1 ≤ x → x ≤ 4 → 1 ≤ y → y ≤ 5 → 1 ≤ z → z ≤ 4 → InKey 4 (x * 65536 + y * 256 + z)
-unfolding Spans shapeOf shape rowOf table
-three-field x y z p q r s t u =
-    record { known = lit≤ tt; low = lit< tt; spans = ((omega arith, omega arith), (omega arith, omega arith), (omega arith, omega arith)) }
-
-pub point-key : (n : ℕ) → 1 ≤ n → n ≤ 21 → InKey 2 n
-unfolding shapeOf shape rowOf table
-point-key n a b = one-field 2 n (lit≤ tt) (lit< tt) refl a b
-
-pub item-key : (p j : ℕ) → 1 ≤ p → p ≤ 4 → 1 ≤ j → j ≤ 8 → InKey 5 (p * 256 + j)
-unfolding shapeOf shape rowOf table
-item-key p j a b x y = two-field 5 p j (lit≤ tt) (lit< tt) refl refl a b x y (lit< tt)
-
-pub request-key : (n : ℕ) → 1 ≤ n → n ≤ 16 → InKey 6 n
-unfolding shapeOf shape rowOf table
-request-key n a b = one-field 6 n (lit≤ tt) (lit< tt) refl a b
-
-pub interval-key : (n : ℕ) → 1 ≤ n → n ≤ 2016 → InKey 8 n
-unfolding shapeOf shape rowOf table
-interval-key n a b = one-field 8 n (lit≤ tt) (lit< tt) refl a b
-
-pub place-key : (n : ℕ) → 1 ≤ n → n ≤ 4000 → InKey FP n
-unfolding shapeOf shape rowOf table
-place-key n a b = one-field FP n (lit≤ tt) (lit< tt) refl a b
 
 -- ---- the slot by kind
 

@@ -15,7 +15,8 @@ use Rattle.station.specs.Current.{current, present}
 use Rattle.station.specs.Parameters.{parameters}
 use Rattle.index.specs.Slots.{slot}
 use Rattle.lookup.specs.Parts.{Indexed}
-use Rattle.lookup.proofs.Parts.{point-key, slot-tells, fits}
+use Rattle.lookup.proofs.Keys.{point-key}
+use Rattle.lookup.proofs.Parts.{slot-tells, fits}
 
 pub there-is : (l : List (List ℕ)) (k n : ℕ) {r : List ℕ} → r ≡ current k n l → ltb 0 (length r) ≡ parameters l .has k n
 unfolding parameters present

@@ -17,7 +17,8 @@ use Rattle.station.specs.Parameters.{parameters, requested, firstHour, lastHour
 use Rattle.station.proofs.Parameters.{says-high}
 use Rattle.index.specs.Slots.{slot, slotsEmpty}
 use Rattle.lookup.specs.Parts.{Indexed}
-use Rattle.lookup.proofs.Parts.{request-key, current-in-empty}
+use Rattle.lookup.proofs.Keys.{request-key}
+use Rattle.lookup.proofs.Parts.{current-in-empty}
 use Rattle.parameters.proofs.Points.{there-is}
 use Rattle.formulas.specs.Levels.{covers, profileOf, profile}
 

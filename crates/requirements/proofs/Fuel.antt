@@ -19,7 +19,8 @@ use Rattle.station.specs.Parameters.{parameters, requested}
 use Rattle.station.proofs.Fields.{requested-at}
 use Rattle.index.specs.Slots.{slot, slotsEmpty}
 use Rattle.lookup.specs.Parts.{held, Indexed}
-use Rattle.lookup.proofs.Parts.{request-key, current-in-empty, fits}
+use Rattle.lookup.proofs.Keys.{request-key}
+use Rattle.lookup.proofs.Parts.{current-in-empty, fits}
 use Rattle.lookup.proofs.Held.{held-always}
 use Rattle.parameters.proofs.Points.{there-is}
 use Rattle.rules.specs.Curve.{fuelHolds}

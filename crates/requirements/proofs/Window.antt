@@ -1,22 +1,22 @@
 -- 9 and 17: the hours of the window and the places of the forecast.
 use mathlib.Core.Path.{_≡_, refl, ap, ap₂, sym, _∙_}
-use mathlib.Core.Bool.{Bool, true, false, _&&_, not}
+use mathlib.Core.Bool.{Bool, true, _&&_, not}
 use mathlib.Core.List.{List, []}
 use Prim.Native.Nat.{ℕ, zero, suc, _+_, _≤_, _<_}
 use native.Mathlib.Omega.{arith}
-use lib.Dec.{leb, ltb, eqb, lit≤, lit<}
+use lib.Dec.{leb, ltb, eqb}
 use lib.ListN.{length, getD, List·getD-eq-default}
 use borrow.Author.Tests.{ltb-true, ltb-false, eq-eqb, ne-eqb}
 use Rattle.lists.specs.Tests.{allBelow, allTo}
 use Rattle.lists.proofs.Tests.{split}
-use Rattle.records.specs.Table.{table, rowOf, HR, FP}
-use Rattle.records.specs.MarkShapes.{shape, shapeOf}
+use Rattle.records.specs.Table.{HR, FP}
 use Rattle.records.specs.Dossier.{records}
 use Rattle.station.specs.Parameters.{Parameters, parameters, technology, window}
 use Rattle.index.specs.Slots.{slot, slotsFull}
 use Rattle.index.proofs.KeyBounds.{InKey}
 use Rattle.lookup.specs.Parts.{Indexed, Complete}
-use Rattle.lookup.proofs.Parts.{one-field, slot-tells, beyond-index}
+use Rattle.lookup.proofs.Keys.{hour-key, place-key}
+use Rattle.lookup.proofs.Parts.{slot-tells, beyond-index}
 use Rattle.parameters.proofs.Points.{there-is, none-there}
 use Rattle.rules.specs.Curve.{fullHours, hoursHold, windowFits, placesHold, forecastFits}
 
@@ -45,12 +45,12 @@ keys-told d ix h c k j a (suc n) g =
 -- so it is of the hours of the window and of the places of the forecast
 module _ (d ix : List ℕ) (h : Indexed d ix) (c : Complete d ix) (n : ℕ) {j : ℕ} where
   pub hours-told : j ≡ slot HR 1 → n ≤ 168 → slotsFull ix j n ≡ allTo n (parameters (records d) .has HR)
-  unfolding slot shapeOf shape rowOf table
-  hours-told e w = keys-told d ix h c HR j (λ i. omega (arith, e)) n (λ i l. one-field HR (suc i) (lit≤ tt) (lit< tt) refl (omega arith) (omega arith))
+  unfolding slot
+  hours-told e w = keys-told d ix h c HR j (λ i. omega (arith, e)) n (λ i l. hour-key (suc i) (omega arith) (omega arith))
 
   pub places-told : j ≡ slot FP 1 → n ≤ 4000 → slotsFull ix j n ≡ allTo n (parameters (records d) .has FP)
-  unfolding slot shapeOf shape rowOf table
-  places-told e w = keys-told d ix h c FP j (λ i. omega (arith, e)) n (λ i l. one-field FP (suc i) (lit≤ tt) (lit< tt) refl (omega arith) (omega arith))
+  unfolding slot
+  places-told e w = keys-told d ix h c FP j (λ i. omega (arith, e)) n (λ i l. place-key (suc i) (omega arith) (omega arith))
 
 module _ (s : Parameters) (t : ℕ) (et : t ≡ technology s) where
   -- what 9 asks

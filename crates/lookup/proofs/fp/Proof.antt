@@ -1,8 +1,9 @@
-use mathlib.Core.Path.{refl, sym, _∙_}
+use mathlib.Core.Path.{sym, _∙_}
 use native.Mathlib.Omega.{arith}
-use Rattle.records.specs.Table.{table, rowOf}
-use Rattle.records.specs.Record.{widths, size}
-use Rattle.lookup.proofs.Parts.{place-key, part-current, beyond-index}
+use Rattle.records.specs.Table.{FP}
+use Rattle.records.proofs.Record.{fp-size}
+use Rattle.lookup.proofs.Keys.{place-key}
+use Rattle.lookup.proofs.Parts.{part-current, beyond-index}
 use borrow.Author.Needs.{needs}
 use Rattle.lookup.proofs.fp.Statement.{statement}
 use Rattle.lookup.proofs.fp.Tie as tie
@@ -10,14 +11,13 @@ use Rattle.lookup.proofs.fp.Tie as tie
 returns : tie.Need-returns
 returns c =
     let p = c .before .before .before .before .before .pre in
-    sym (beyond-index _ _ (p .0) (p .1) 10 _ (omega (arith, c .before .if1 .taken, c .before .before .slot-fp .ensures)))
+    sym (beyond-index _ _ (p .0) (p .1) FP _ (omega (arith, c .before .if1 .taken, c .before .before .slot-fp .ensures)))
 
 returns-2 : tie.Need-returns-2
-unfolding size widths rowOf table
 returns-2 c =
     let p = c .before .before .before .before .before .pre in
     let e = c .before .before .slot-fp .ensures in
-    c .part-at .ensures ∙ part-current _ _ (p .0) 10 _ (place-key _ (p .2) (p .3)) (omega (arith, c .before .if1 .left, e)) e refl
+    c .part-at .ensures ∙ part-current _ _ (p .0) FP _ (place-key _ (p .2) (p .3)) (omega (arith, c .before .if1 .left, e)) e (sym fp-size)
 
 pub fp-spec : {M : Type 1} → statement M
 fp-spec =

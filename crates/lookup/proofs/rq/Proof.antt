@@ -1,7 +1,8 @@
-use mathlib.Core.Path.{refl, _∙_}
-use Rattle.records.specs.Table.{table, rowOf}
-use Rattle.records.specs.Record.{widths, size}
-use Rattle.lookup.proofs.Parts.{request-key, slot-fits, part-found}
+use mathlib.Core.Path.{refl, sym, _∙_}
+use Rattle.records.specs.Table.{RQ}
+use Rattle.records.proofs.Record.{rq-size}
+use Rattle.lookup.proofs.Keys.{request-key}
+use Rattle.lookup.proofs.Parts.{slot-fits, part-found}
 use borrow.Author.Needs.{needs}
 use Rattle.lookup.proofs.rq.Statement.{statement}
 use Rattle.lookup.proofs.rq.Tie as tie
@@ -9,13 +10,12 @@ use Rattle.lookup.proofs.rq.Tie as tie
 part-at-requires : tie.Need-part-at-requires
 part-at-requires c κs =
     let a = c .before .before .before in
-    (slot-fits _ _ (a .pre .0) 6 _ refl (request-key _ (a .pre .1) (a .pre .2)) (c .slot-rq .ensures), search needs)
+    (slot-fits _ _ (a .pre .0) RQ _ refl (request-key _ (a .pre .1) (a .pre .2)) (c .slot-rq .ensures), search needs)
 
 returns : tie.Need-returns
-unfolding size widths rowOf table
 returns c =
     let a = c .before .before .before .before in
-    c .part-at .ensures ∙ part-found _ _ (a .pre .0) 6 _ refl (request-key _ (a .pre .1) (a .pre .2)) (c .before .slot-rq .ensures) refl
+    c .part-at .ensures ∙ part-found _ _ (a .pre .0) RQ _ refl (request-key _ (a .pre .1) (a .pre .2)) (c .before .slot-rq .ensures) (sym rq-size)
 
 pub rq-spec : {M : Type 1} → statement M
 rq-spec = tie.close (tie.spec (λ c κs. search needs) part-at-requires returns)

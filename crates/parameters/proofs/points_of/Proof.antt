@@ -9,7 +9,8 @@ use Rattle.lists.proofs.Tests.{cond-holds}
 use Rattle.records.specs.Table.{HP}
 use Rattle.records.specs.Dossier.{records}
 use Rattle.station.specs.Parameters.{parameters}
-use Rattle.lookup.proofs.Parts.{point-key, slot-fits}
+use Rattle.lookup.proofs.Keys.{point-key}
+use Rattle.lookup.proofs.Parts.{slot-fits}
 use Rattle.rules.specs.Curve.{points}
 use Rattle.parameters.proofs.Points.{count-next, point-counted}
 use Rattle.parameters.proofs.points_of.Statement.{statement}
