@@ -12,7 +12,7 @@ use Rattle.lists.specs.Lists.{Each, done, also}
 use Rattle.lists.proofs.Lists.{each-map}
 use Rattle.lists.specs.Tests.{allBelow}
 use Rattle.lists.proofs.Tests.{split, or-false-right, below-at}
-use Rattle.records.specs.Table.{table, rowOf, CH, FP, LC, kinds}
+use Rattle.records.specs.Table.{table, rowOf, CH, FP, LC, kinds, HP, FU, AD, MM, RQ, HR, TH}
 use Rattle.records.specs.Record.{mark, size, keyOf, widths}
 use Rattle.records.specs.MarkShapes.{shape, shapeOf, keyTest}
 use Rattle.records.specs.declared.Answer.the-variants.{Accepted}
@@ -225,8 +225,8 @@ size-small k n p =
 pub slot-kind : {k j n m r : ℕ} → r ≡ slot k m → m ≡ n → j ≡ k → r ≡ slot j n
 slot-kind e f g = e ∙ ap₂ slot (sym g) f
 
-pub slot-none : (k n : ℕ) → k < kinds → (k ≡ 2 → ⊥) → (k ≡ 3 → ⊥) → (k ≡ 4 → ⊥) → (k ≡ 5 → ⊥) → (k ≡ 6 → ⊥) → (k ≡ 7 → ⊥) → (k ≡ 8 → ⊥) → (k ≡ 9 → ⊥)
-    → (k ≡ 10 → ⊥) → (k ≡ 11 → ⊥) → 0 ≡ slot k n
+pub slot-none : (k n : ℕ) → k < kinds → (k ≡ HP → ⊥) → (k ≡ FU → ⊥) → (k ≡ AD → ⊥) → (k ≡ MM → ⊥) → (k ≡ RQ → ⊥) → (k ≡ HR → ⊥) → (k ≡ CH → ⊥) → (k ≡ TH → ⊥)
+    → (k ≡ FP → ⊥) → (k ≡ LC → ⊥) → 0 ≡ slot k n
 unfolding slot
 slot-none k n l a b c d e f g h i j =
     split (eqb k 0)

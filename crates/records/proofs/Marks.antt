@@ -78,8 +78,8 @@ not-mark (suc k) s z h e =
 -- ---- its key
 
 -- a kind that is none of the marks with a key has no key
-pub no-key : (k : ℕ) → k < kinds → (k ≡ 2 → ⊥) → (k ≡ 3 → ⊥) → (k ≡ 4 → ⊥) → (k ≡ 5 → ⊥) → (k ≡ 6 → ⊥) → (k ≡ 7 → ⊥) → (k ≡ 8 → ⊥) → (k ≡ 9 → ⊥)
-    → (k ≡ 10 → ⊥) → keyWidth k ≡ 0
+pub no-key : (k : ℕ) → k < kinds → (k ≡ HP → ⊥) → (k ≡ FU → ⊥) → (k ≡ AD → ⊥) → (k ≡ MM → ⊥) → (k ≡ RQ → ⊥) → (k ≡ HR → ⊥) → (k ≡ CH → ⊥) → (k ≡ TH → ⊥)
+    → (k ≡ FP → ⊥) → keyWidth k ≡ 0
 unfolding keyWidth keyIn rowOf table
 no-key k l a b c d e f g h i =
     split (eqb k 0)
@@ -88,7 +88,7 @@ no-key k l a b c d e f g h i =
     (λ w. absurd (e w)) (λ w. absurd (f w)) (λ w. absurd (g w)) (λ w. absurd (h w)) (λ w. absurd (i w)) (λ w. refl) k (eqb-false k 0 z) l refl)
 
 -- one without a key that is not RS and not LC is none
-pub keyless : (k : ℕ) → k < kinds → keyWidth k ≡ 0 → (k ≡ 1 → ⊥) → (k ≡ 11 → ⊥) → k ≡ 0
+pub keyless : (k : ℕ) → k < kinds → keyWidth k ≡ 0 → (k ≡ RS → ⊥) → (k ≡ LC → ⊥) → k ≡ 0
 unfolding keyWidth keyIn rowOf table
 keyless k l w a b =
     split (eqb k 0)

@@ -9,7 +9,7 @@ use borrow.Author.Tests.{eqb-true}
 use Rattle.lists.specs.Tests.{allBelow, among, between}
 use Rattle.lists.proofs.Tests.{and-true, split, between-high}
 use Rattle.fields.specs.Numbers.{number}
-use Rattle.records.specs.Table.{table, rowOf, fieldOf}
+use Rattle.records.specs.Table.{table, rowOf, fieldOf, RS, HP, FU, AD, MM, RQ, HR, CH, TH, FP, LC}
 use Rattle.records.specs.Record.{offsetIn, offset, read, value, inRange, rangesHold}
 use Rattle.records.proofs.Record.{field-in}
 use Rattle.rules.specs.Fit.{Known, levelsOf, holds, fieldFits, ruleFits, fits}
@@ -64,7 +64,7 @@ module _ (t : ℕ) (s : List ℕ) (known : Known t) where
       && cond (eqb t 3) (not true || ltb 0 (number 23 4 s)) (eqb (number 23 4 s) 0)
       && cond (eqb t 3) (not true || ltb 0 (number 27 2 s)) (eqb (number 27 2 s) 0)
       && cond (eqb t 3 || eqb t 4) (not true || ltb 0 (number 29 2 s)) (eqb (number 29 2 s) 0)
-      ≡ fits t 1 s
+      ≡ fits t RS s
   unfolding fits ruleFits fieldFits allBelow among value read offset offsetIn fieldOf rowOf table
   fits-rs =
       by-technology
@@ -75,56 +75,56 @@ module _ (t : ℕ) (s : List ℕ) (known : Known t) where
       && cond (eqb t 3) (not true || ltb 0 (number 23 4 s)) (eqb (number 23 4 s) 0)
       && cond (eqb t 3) (not true || ltb 0 (number 27 2 s)) (eqb (number 27 2 s) 0)
       && cond (eqb t 3 || eqb t 4) (not true || ltb 0 (number 29 2 s)) (eqb (number 29 2 s) 0)
-      ≡ fits t 1 s)
+      ≡ fits t RS s)
       (sym (and-true _)) (sym (and-true _)) (sym (and-true _)) (sym (and-true _)) t known
 
-  pub fits-hp : eqb t 1 ≡ fits t 2 s
+  pub fits-hp : eqb t 1 ≡ fits t HP s
   unfolding fits ruleFits fieldFits allBelow among value read offset offsetIn fieldOf rowOf table
-  fits-hp = by-technology (λ t. eqb t 1 ≡ fits t 2 s) refl refl refl refl t known
+  fits-hp = by-technology (λ t. eqb t 1 ≡ fits t HP s) refl refl refl refl t known
 
-  pub fits-fu : (not (eqb t 4) || eqb (number 7 4 s) 0) && (eqb t 1 || eqb (number 11 4 s) 0) ≡ fits t 3 s
+  pub fits-fu : (not (eqb t 4) || eqb (number 7 4 s) 0) && (eqb t 1 || eqb (number 11 4 s) 0) ≡ fits t FU s
   unfolding fits ruleFits fieldFits allBelow among value read offset offsetIn fieldOf rowOf table
   fits-fu =
-      by-technology (λ t. (not (eqb t 4) || eqb (number 7 4 s) 0) && (eqb t 1 || eqb (number 11 4 s) 0) ≡ fits t 3 s) refl (sym (and-true _))
+      by-technology (λ t. (not (eqb t 4) || eqb (number 7 4 s) 0) && (eqb t 1 || eqb (number 11 4 s) 0) ≡ fits t FU s) refl (sym (and-true _))
       (sym (and-true _)) (sym (and-true _)) t known
 
-  pub fits-ad : holds t (number 8 1 s) && (not (eqb (number 7 1 s) 5) || (eqb t 2 && eqb (number 8 1 s) 1)) ≡ fits t 4 s
+  pub fits-ad : holds t (number 8 1 s) && (not (eqb (number 7 1 s) 5) || (eqb t 2 && eqb (number 8 1 s) 1)) ≡ fits t AD s
   unfolding fits ruleFits fieldFits allBelow among value read offset offsetIn fieldOf rowOf table
   fits-ad =
-      by-technology (λ t. holds t (number 8 1 s) && (not (eqb (number 7 1 s) 5) || (eqb t 2 && eqb (number 8 1 s) 1)) ≡ fits t 4 s)
+      by-technology (λ t. holds t (number 8 1 s) && (not (eqb (number 7 1 s) 5) || (eqb t 2 && eqb (number 8 1 s) 1)) ≡ fits t AD s)
       refl refl refl refl t known
 
-  pub fits-mm : eqb t 1 || eqb (number 22 2 s) 0 ≡ fits t 5 s
+  pub fits-mm : eqb t 1 || eqb (number 22 2 s) 0 ≡ fits t MM s
   unfolding fits ruleFits fieldFits allBelow among value read offset offsetIn fieldOf rowOf table
-  fits-mm = by-technology (λ t. eqb t 1 || eqb (number 22 2 s) 0 ≡ fits t 5 s) refl (sym (and-true _)) (sym (and-true _)) (sym (and-true _)) t known
+  fits-mm = by-technology (λ t. eqb t 1 || eqb (number 22 2 s) 0 ≡ fits t MM s) refl (sym (and-true _)) (sym (and-true _)) (sym (and-true _)) t known
 
-  pub fits-hr : eqb t 3 ≡ fits t 7 s
+  pub fits-hr : eqb t 3 ≡ fits t HR s
   unfolding fits ruleFits fieldFits allBelow among value read offset offsetIn fieldOf rowOf table
-  fits-hr = by-technology (λ t. eqb t 3 ≡ fits t 7 s) refl refl refl refl t known
+  fits-hr = by-technology (λ t. eqb t 3 ≡ fits t HR s) refl refl refl refl t known
 
-  pub fits-ch : eqb t 3 ≡ fits t 8 s
+  pub fits-ch : eqb t 3 ≡ fits t CH s
   unfolding fits ruleFits fieldFits allBelow among value read offset offsetIn fieldOf rowOf table
-  fits-ch = by-technology (λ t. eqb t 3 ≡ fits t 8 s) refl refl refl refl t known
+  fits-ch = by-technology (λ t. eqb t 3 ≡ fits t CH s) refl refl refl refl t known
 
-  pub fits-fp : eqb t 4 ≡ fits t 10 s
+  pub fits-fp : eqb t 4 ≡ fits t FP s
   unfolding fits ruleFits fieldFits allBelow among value read offset offsetIn fieldOf rowOf table
-  fits-fp = by-technology (λ t. eqb t 4 ≡ fits t 10 s) refl refl refl refl t known
+  fits-fp = by-technology (λ t. eqb t 4 ≡ fits t FP s) refl refl refl refl t known
 
-  pub fits-lc : eqb t 3 ≡ fits t 11 s
+  pub fits-lc : eqb t 3 ≡ fits t LC s
   unfolding fits ruleFits fieldFits allBelow among value read offset offsetIn fieldOf rowOf table
-  fits-lc = by-technology (λ t. eqb t 3 ≡ fits t 11 s) refl refl refl refl t known
+  fits-lc = by-technology (λ t. eqb t 3 ≡ fits t LC s) refl refl refl refl t known
 
-  pub fits-th : holds t (number 7 1 s) ≡ fits t 9 s
+  pub fits-th : holds t (number 7 1 s) ≡ fits t TH s
   unfolding fits ruleFits fieldFits allBelow among value read offset offsetIn fieldOf rowOf table
-  fits-th = by-technology (λ t. holds t (number 7 1 s) ≡ fits t 9 s) refl refl refl refl t known
+  fits-th = by-technology (λ t. holds t (number 7 1 s) ≡ fits t TH s) refl refl refl refl t known
 
   pub fits-none : true ≡ fits t 0 s
   unfolding fits ruleFits fieldFits allBelow among value read offset offsetIn fieldOf rowOf table
   fits-none = by-technology (λ t. true ≡ fits t 0 s) refl refl refl refl t known
 
-  pub fits-rq : true ≡ fits t 6 s
+  pub fits-rq : true ≡ fits t RQ s
   unfolding fits ruleFits fieldFits allBelow among value read offset offsetIn fieldOf rowOf table
-  fits-rq = by-technology (λ t. true ≡ fits t 6 s) refl refl refl refl t known
+  fits-rq = by-technology (λ t. true ≡ fits t RQ s) refl refl refl refl t known
 
 -- ---- AD and TH by their keys
 
@@ -134,7 +134,7 @@ nuclear-level v e = sym (or-false (eqb v 1)) ∙ e
 
 module _ (t : ℕ) (s : List ℕ) (known : Known t) where
   -- AD fits if its level is held and its cost is another than 5, or the station is nuclear
-  pub held-ad : rangesHold 4 s ≡ true → holds t (number 6 3 s % 256) ≡ true → (number 6 3 s / 256 % 256 ≡ 5 → t ≡ 2) → fits t 4 s ≡ true
+  pub held-ad : rangesHold AD s ≡ true → holds t (number 6 3 s % 256) ≡ true → (number 6 3 s / 256 % 256 ≡ 5 → t ≡ 2) → fits t AD s ≡ true
   unfolding inRange value read offset offsetIn fieldOf rowOf table number
   held-ad h e f =
       let c : between 1 5 (number 7 1 s) ≡ true = field-in 4 1 s h (lit< tt) in
@@ -149,7 +149,7 @@ module _ (t : ℕ) (s : List ℕ) (known : Known t) where
       (λ w. rw (g, w) refl)
 
   -- TH fits if its level is held
-  pub held-th : rangesHold 9 s ≡ true → holds t (number 6 2 s % 256) ≡ true → fits t 9 s ≡ true
+  pub held-th : rangesHold TH s ≡ true → holds t (number 6 2 s % 256) ≡ true → fits t TH s ≡ true
   unfolding inRange value read offset offsetIn fieldOf rowOf table number
   held-th h e =
       let v : between 1 4 (number 7 1 s) ≡ true = field-in 9 1 s h (lit< tt) in
