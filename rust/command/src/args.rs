@@ -59,7 +59,7 @@ impl Args {
         let value = match (valued, behind) {
             (false, Some(_)) => return Err(format!("--{name} takes no value")),
             (false, None) => Some(OsString::new()),
-            (true, behind) => behind.or_else(|| words.next().cloned()),
+            (true, behind) => behind.or_else(|| words.next().cloned().filter(is_value)),
         };
         let value = value.ok_or_else(|| format!("--{name} takes a value"))?;
         self.options.push((name, value));
@@ -99,6 +99,12 @@ impl Args {
         let value = self.get(name, read)?;
         value.ok_or_else(|| format!("--{name} is missing"))
     }
+}
+
+/// Whether a word may be the value of the option before it: what looks like an option is one, and a
+/// file of such a name stands behind `=`.
+fn is_value(word: &OsString) -> bool {
+    !word.as_bytes().starts_with(b"--")
 }
 
 /// What is said of an option that there isn't.
@@ -156,9 +162,18 @@ mod tests {
     }
 
     #[test]
+    fn values_that_look_like_options() {
+        let value = |words: &str| read(words).unwrap().value("hour").map(OsStr::to_owned);
+        assert_eq!(value("--hour=--json a"), Some("--json".into()));
+        assert_eq!(value("--hour -5 a"), Some("-5".into()));
+    }
+
+    #[test]
     fn wrong_use_is_said() {
         for words in [
             "--hour",
+            "--hour --json",
+            "--hour --",
             "--what 1",
             "-x",
             "--json=1",

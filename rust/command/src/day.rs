@@ -75,10 +75,10 @@ fn answer(input: &Input, question: &Question) -> Said {
 fn draw(args: &Args, input: &Input, question: &Question, day: &Day) -> Result<(), Stop> {
     let at = day.hours.iter().find(|h| h.hour == question.at);
     if let (Some(path), Some(hour)) = (args.value("svg"), at) {
-        output::write(path, drawn(input, hour, question).as_bytes(), args)?;
+        output::write(path, drawn(input, hour, question).as_bytes())?;
     }
     if let Some(path) = args.value("svg-day") {
-        output::write(path, drawn_day(input, question, day).as_bytes(), args)?;
+        output::write(path, drawn_day(input, question, day).as_bytes())?;
     }
     Ok(())
 }

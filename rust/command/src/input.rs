@@ -80,6 +80,7 @@ pub fn name(file: &OsStr) -> Name {
     let words = match file.to_str() {
         Some(STANDARD) => STANDARD_WORDS.to_string(),
         Some(STANDARD_WORDS) => format!("./{STANDARD_WORDS}"),
+        Some("") => "''".to_string(),
         _ => short(&shown(file, |c| c.is_control())),
     };
     let bytes = || file.as_bytes().iter().map(|b| format!("{b:02x}"));

@@ -11,6 +11,7 @@ use crate::form::Form;
 use crate::input::{is_cut, name, read, read_bytes, Input, Name};
 use crate::json::{object, Json};
 use crate::many::{count, counted, Progress};
+use crate::output::apart_from_standard_output;
 use crate::plain::{is_meant_as_text, is_utf_16};
 use crate::text::WrongLine;
 use crate::together::join;
@@ -25,6 +26,7 @@ pub fn run(args: &Args, streams: &mut Streams) -> Result<Status, Stop> {
     if lines.is_empty() {
         return Err(Stop::Use(format!("{} has no offer", name(&file))));
     }
+    apart_from_standard_output(&stations(&lines))?;
     write!(streams.out, "{}", form.head())?;
     let (mut status, mut counts, mut shelf) = (Status::Done, Vec::new(), Shelf::default());
     let mut progress = Progress::new(lines.len(), "offers");
@@ -45,6 +47,15 @@ pub fn run(args: &Args, streams: &mut Streams) -> Result<Status, Stop> {
         writeln!(streams.out, "{offers}: {}", counted(&counts))?;
     }
     Ok(status)
+}
+
+/// The files that the lines name.
+fn stations(lines: &[(usize, Result<Asked, String>)]) -> Vec<OsString> {
+    let asked = lines.iter().filter_map(|(_, asked)| asked.as_ref().ok());
+    let mut stations: Vec<OsString> = asked.flat_map(|asked| asked.stations.clone()).collect();
+    stations.sort_unstable();
+    stations.dedup();
+    stations
 }
 
 /// The text of an offers file.

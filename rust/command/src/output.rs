@@ -14,29 +14,32 @@ use std::path::{Path, PathBuf};
 /// The options that name a file to be written.
 const OPTIONS: [&str; 3] = ["out", "svg", "svg-day"];
 
-/// Whether the files that a call is to write have names, and each its own.
+/// Whether the files that a call is to write have names, each its own, and none is an input or has
+/// the answer. It is asked before anything is read, so that no call ends with half of its files.
 pub fn check(args: &Args) -> Result<(), Stop> {
-    let named = OPTIONS.map(|option| (option, args.value(option)));
-    let standard = named
-        .iter()
-        .find(|(_, path)| *path == Some(OsStr::new(STANDARD)));
-    if let Some((option, _)) = standard {
-        let says =
-            format!("--{option}: '{STANDARD}' would be standard output; it takes a file's name");
-        return Err(Stop::Use(says));
+    let mut places = Vec::new();
+    for option in OPTIONS {
+        let Some(path) = args.value(option) else {
+            continue;
+        };
+        if path == STANDARD {
+            return Err(Stop::Use(format!(
+                "--{option}: '{STANDARD}' would be standard output; it takes a file's name"
+            )));
+        }
+        apart(path, args)?;
+        let place = place(path);
+        if places.contains(&place) {
+            return Err(Stop::Use("two pictures can't go to one file".to_string()));
+        }
+        places.push(place);
     }
-    let mut paths: Vec<&OsStr> = named.iter().filter_map(|(_, path)| *path).collect();
-    let count = paths.len();
-    paths.sort_unstable();
-    paths.dedup();
-    match paths.len() == count {
-        true => Ok(()),
-        false => Err(Stop::Use("two pictures can't go to one file".to_string())),
-    }
+    Ok(())
 }
 
-/// Writes a file that a call asked for.
-pub fn write(path: &OsStr, bytes: &[u8], args: &Args) -> Result<(), Stop> {
+/// Whether a file that is to be written is neither an input nor standard output: what goes there
+/// would be gone with the file that is replaced.
+fn apart(path: &OsStr, args: &Args) -> Result<(), Stop> {
     let found = fs::metadata(path).ok();
     let inputs = named_or_standard(args);
     if let Some(input) = inputs.iter().find(|input| is_input(found.as_ref(), input)) {
@@ -44,12 +47,40 @@ pub fn write(path: &OsStr, bytes: &[u8], args: &Args) -> Result<(), Stop> {
         let says = format!("{path} is the input {input}: nothing is written over it");
         return Err(Stop::Failed(says));
     }
+    let standard = open(io::stdout().as_fd()).ok();
+    match same_file(found.as_ref(), standard.as_ref()) {
+        true => Err(Stop::Failed(format!(
+            "{} is standard output: nothing is written over it",
+            name(path)
+        ))),
+        false => Ok(()),
+    }
+}
+
+/// Where a file will lie, whatever it is called: its folder without links, and its name there.
+fn place(path: &OsStr) -> PathBuf {
+    let path = behind_links(Path::new(path));
+    match (folder_of(&path).canonicalize(), path.file_name()) {
+        (Ok(folder), Some(name)) => folder.join(name),
+        _ => path,
+    }
+}
+
+fn folder_of(path: &Path) -> &Path {
+    match path.parent() {
+        Some(folder) if folder != Path::new("") => folder,
+        _ => Path::new("."),
+    }
+}
+
+/// Writes a file that a call asked for.
+pub fn write(path: &OsStr, bytes: &[u8]) -> Result<(), Stop> {
     let says = |error| format!("{} can't be written: {error}", name(path));
     replace(Path::new(path), bytes).map_err(|error| Stop::Failed(says(error)))
 }
 
-/// Standard output sent to an input by the shell, which has perhaps emptied it by now: what is read
-/// there isn't what the person meant.
+/// Whether standard output is none of these inputs. The shell has perhaps emptied one by now, or what
+/// is answered comes to stand behind it: neither is what the person meant.
 pub fn apart_from_standard_output(inputs: &[OsString]) -> Result<(), Stop> {
     let found = open(io::stdout().as_fd()).ok();
     match inputs.iter().find(|input| is_input(found.as_ref(), input)) {
@@ -61,17 +92,19 @@ pub fn apart_from_standard_output(inputs: &[OsString]) -> Result<(), Stop> {
     }
 }
 
-/// Whether a file that was found is an input. Devices and pipes may be both.
+/// Whether a file that was found is an input.
 fn is_input(found: Option<&Metadata>, input: &OsStr) -> bool {
     let of_input = match input == STANDARD {
         true => open(io::stdin().as_fd()),
         false => fs::metadata(input),
     };
-    let (Some(found), Ok(of_input)) = (found, of_input) else {
-        return false;
-    };
+    same_file(found, of_input.ok().as_ref())
+}
+
+/// Whether two are one file. Devices and pipes may be read and written at once.
+fn same_file(one: Option<&Metadata>, other: Option<&Metadata>) -> bool {
     let which = |file: &Metadata| (file.dev(), file.ino());
-    found.is_file() && which(found) == which(&of_input)
+    one.is_some_and(|one| one.is_file() && other.is_some_and(|other| which(one) == which(other)))
 }
 
 /// What a stream is.
@@ -112,7 +145,7 @@ fn behind_links(path: &Path) -> PathBuf {
         let Ok(to) = fs::read_link(&path) else {
             break;
         };
-        path = path.parent().unwrap_or(Path::new("")).join(to);
+        path = folder_of(&path).join(to);
     }
     path
 }
@@ -120,11 +153,10 @@ fn behind_links(path: &Path) -> PathBuf {
 /// A new file in the folder of another. Its name is short, as that of the other may be as long as
 /// names can be.
 fn beside(path: &Path) -> io::Result<(PathBuf, File)> {
-    let folder = path.parent().unwrap_or(Path::new(""));
     let mut number = 0;
     loop {
         let name = format!(".bench-{}-{number}.tmp", std::process::id());
-        let at = folder.join(name);
+        let at = folder_of(path).join(name);
         match File::options().write(true).create_new(true).open(&at) {
             Err(error) if error.kind() == ErrorKind::AlreadyExists && number < 100 => number += 1,
             opened => return Ok((at, opened?)),

@@ -79,7 +79,7 @@ fn finish(
     result: Result<Vec<u8>, Said>,
 ) -> Result<Status, Stop> {
     match (result, args.value("out")) {
-        (Ok(bytes), Some(path)) => output::write(path, &bytes, args)?,
+        (Ok(bytes), Some(path)) => output::write(path, &bytes)?,
         (Ok(bytes), None) => print(streams, &bytes)?,
         (Err(said), _) => return Ok(one(&Form::Words, streams, name, &said)?),
     }

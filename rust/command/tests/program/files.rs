@@ -36,8 +36,10 @@ fn no_input_is_written_over() {
             format!("bench pack --out {out} < s.txt"),
             format!("bench day s.txt --from 0 --svg {out}"),
             format!("bench day - --from 0 --svg {out} < twin"),
+            format!("bench day s.txt --from 0 --svg new --svg-day {out}"),
         ] {
             let ended = shell(&folder, &line);
+            assert!(!Path::new(&folder.path("new")).exists(), "{line}");
             let says = text(&ended.stderr);
             assert_eq!(ended.status.code(), Some(2), "{line}: {says}");
             assert!(says.contains("is the input"), "{line}: {says}");
@@ -52,11 +54,61 @@ fn no_input_is_written_over() {
 /// The shell has emptied the file before the call begins: that must not look like a dossier.
 #[test]
 fn standard_output_is_no_input() {
-    for line in ["bench pack s.txt > s.txt", "bench unpack twin >> s.txt"] {
-        let ended = shell(&stations(), line);
+    for line in [
+        "bench pack s.txt > s.txt",
+        "bench unpack twin >> s.txt",
+        "echo station=link hour=0 condition=narrow offer=1@1 | bench offers >> s.txt",
+        "echo station=no station=twin hour=0 condition=narrow offer=1@1 | bench offers >> s.txt",
+    ] {
+        let folder = stations();
+        let ended = shell(&folder, line);
         assert_eq!(ended.status.code(), Some(2), "{line}");
         assert!(text(&ended.stderr).contains("is the input"), "{line}");
+        let left = fs::read_to_string(folder.path("s.txt")).expect("the station");
+        let emptied = line.contains(" > ");
+        assert!(emptied || left == example("thermal.txt"), "{line}");
     }
+}
+
+/// What goes to standard output would be gone with the file that is replaced.
+#[test]
+fn standard_output_is_no_other_output() {
+    for line in [
+        "bench day s.txt --from 0 --svg old >> old",
+        "bench day s.txt --from 0 --svg-day here/old >> old",
+        "bench pack s.txt --out /dev/stdout >> old",
+    ] {
+        let folder = stations();
+        folder.file("old", "kept");
+        let ended = shell(&folder, line);
+        let says = text(&ended.stderr);
+        assert_eq!(ended.status.code(), Some(2), "{line}: {says}");
+        assert!(says.contains("is standard output"), "{line}: {says}");
+        assert_eq!(fs::read(folder.path("old")).expect("old"), b"kept");
+    }
+}
+
+/// One file under two names doesn't hold two pictures.
+#[test]
+fn two_pictures_have_two_files() {
+    let folder = stations();
+    symlink("later", folder.path("to-later")).expect("a link");
+    let names = folder.names();
+    for [hour, day] in [
+        ["new", "new"],
+        ["new", "./new"],
+        ["here/new", "new"],
+        ["to-later", "later"],
+    ] {
+        let line = format!("bench day s.txt --from 0 --svg {hour} --svg-day {day}");
+        let ended = shell(&folder, &line);
+        assert_eq!(ended.status.code(), Some(2), "{line}");
+        assert!(text(&ended.stderr).contains("two pictures"), "{line}");
+        assert_eq!(folder.names(), names, "{line}");
+    }
+    let line = "bench day s.txt --from 0 --svg new --svg-day here/other";
+    assert_eq!(shell(&folder, line).status.code(), Some(0));
+    assert_eq!(folder.names().len(), names.len() + 2);
 }
 
 /// A file may not grow over 512 bytes, as if the disk was full.
@@ -141,6 +193,9 @@ fn names_that_are_no_output() {
         "pack s.txt --out -",
         "unpack s.txt --out=-",
         "day s.txt --from 0 --svg -",
+        "day s.txt --from 0 --svg-day -",
+        "day s.txt --from 0 --svg --json",
+        "pack s.txt --out ''",
     ] {
         let names = folder.names();
         let ended = shell(&folder, &format!("bench {call}"));
@@ -195,6 +250,8 @@ fn any_name_is_told() {
         let found = called(&folder, name);
         assert_eq!(found, (json.to_string(), words.to_string()));
     }
+    let ended = call(&["check", ""], b"");
+    assert!(text(&ended.stderr).starts_with("'': can't be read: "));
     let ended = call(&["check", "--json"], b"FU issue=1");
     assert!(text(&ended.stdout).starts_with(r#"{"file":"-","#));
     assert!(text(&ended.stderr).starts_with("standard input: "));
