@@ -1,10 +1,11 @@
 //! What a command says of an input: in a line, in words and in JSON, with the status it ends with.
 
 use crate::args::Args;
-use crate::explain::Explained;
+use crate::explain::{of_dossier, Explained};
 use crate::form::Form;
 use crate::input::{Name, NoInput, STANDARD};
 use crate::json::{object, Json};
+use crate::lines::Lines;
 use crate::output::apart_from_standard_output;
 use crate::text::{WrongLine, MOST_WRONG};
 use std::ffi::OsString;
@@ -90,6 +91,17 @@ pub fn refused(explained: &Explained) -> Said {
         line: explained.line(),
         words: explained.words(),
         json: object([("refused", explained.json())]),
+    }
+}
+
+/// Whether the library can read a dossier that has a record at all. What a later rule refuses has a
+/// text all the same, and needs one most; a file without a record is one that wasn't written.
+pub fn readable(dossier: &[u8], lines: &Lines) -> Result<(), Said> {
+    match bench::accept(dossier) {
+        Err(refusal) if dossier.is_empty() || !matches!(refusal.number, 4..=9 | 17) => {
+            Err(refused(&of_dossier(refusal, dossier, lines)))
+        }
+        _ => Ok(()),
     }
 }
 

@@ -1,4 +1,4 @@
-//! What a dossier lacks that draws 7, 8, 9 or 17, in words. The library has refused it; this looks
+//! What a dossier lacks that draws 5, 7, 8, 9 or 17, in words. The library has refused it; this looks
 //! at the same current records, through the library's lookup, to say what to mend.
 
 use crate::lines::Lines;
@@ -8,7 +8,10 @@ use crate::unit::MEGAWATTS;
 /// What to look at in a dossier that drew this number.
 pub fn lacks(dossier: &[u8], lines: &Lines, number: u8) -> Vec<String> {
     let Some(station) = current(dossier, "RS", 0) else {
-        return Vec::new();
+        return match number {
+            5 => vec![no_station(records(dossier).count())],
+            _ => Vec::new(),
+        };
     };
     let look = Look {
         dossier,
@@ -21,6 +24,15 @@ pub fn lacks(dossier: &[u8], lines: &Lines, number: u8) -> Vec<String> {
         9 => look.window(),
         17 => look.forecast(),
         _ => Vec::new(),
+    }
+}
+
+/// What is there in place of a station.
+fn no_station(count: usize) -> String {
+    match count {
+        0 => "there is no record at all".to_string(),
+        1 => "there is one record, and it is no RS".to_string(),
+        n => format!("there are {n} records, and none is an RS"),
     }
 }
 

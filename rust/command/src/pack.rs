@@ -1,12 +1,13 @@
 //! `bench pack` and `bench unpack`: a dossier from text, and text from a dossier.
 
-use crate::answer::{one, only_file, refused, wrong_lines, Said, Status, Stop, Streams};
+use crate::answer::{one, only_file, readable, refused, wrong_lines, Said, Status, Stop, Streams};
 use crate::args::Args;
 use crate::explain::of_dossier;
 use crate::form::Form;
 use crate::input::{is_cut, name, read_bytes, Name};
 use crate::lines::Lines;
 use crate::output;
+use crate::plain::has_record;
 use crate::text::{is_meant_as_text, is_text, pack as packed, unpack as unpacked};
 use crate::together::only;
 use bench::Refusal;
@@ -15,7 +16,7 @@ use bench::Refusal;
 pub fn pack(args: &Args, streams: &mut Streams) -> Result<Status, Stop> {
     let (name, packed) = match only(args)? {
         Ok(input) => {
-            let packed = readable(&input.dossier).map(|()| input.dossier);
+            let packed = readable(&input.dossier, &input.lines).map(|()| input.dossier);
             (input.name, packed)
         }
         Err((name, said)) => (name, Err(said)),
@@ -23,28 +24,23 @@ pub fn pack(args: &Args, streams: &mut Streams) -> Result<Status, Stop> {
     finish(args, streams, &name, packed)
 }
 
-/// Text from a dossier, and tidy text from text. What the library can read is a dossier, even one
-/// that looks like text.
+/// Text from a dossier, and tidy text from text.
 pub fn unpack(args: &Args, streams: &mut Streams) -> Result<Status, Stop> {
-    convert(args, streams, |input| match readable(input) {
-        Ok(()) => Ok(unpacked(input).into_bytes()),
-        Err(_) if is_meant_as_text(input) => {
-            let packed = packed(input).map_err(|lines| wrong_lines(&lines))?;
-            Ok(unpacked(&packed.dossier).into_bytes())
-        }
-        Err(said) => Err(said),
+    convert(args, streams, |input| {
+        let dossier = match is_text_here(input) {
+            true => packed(input).map_err(|lines| wrong_lines(&lines))?.dossier,
+            false => input.to_vec(),
+        };
+        readable(&dossier, &Lines::default())?;
+        Ok(unpacked(&dossier).into_bytes())
     })
 }
 
-/// Whether the library can read a dossier: 13 and 1 to 3. What it refuses later has a text all the
-/// same, and needs one most.
-fn readable(dossier: &[u8]) -> Result<(), Said> {
-    match bench::accept(dossier) {
-        Err(refusal) if matches!(refusal.number, 1..=3 | 13) => {
-            Err(refused(&of_dossier(refusal, dossier, &Lines::default())))
-        }
-        _ => Ok(()),
-    }
+/// Whether `unpack` takes an input for text. A dossier of LC alone may look like text; it is bytes if
+/// the library can read it and no line begins as that of a record.
+fn is_text_here(input: &[u8]) -> bool {
+    let is_bytes = || !has_record(input) && readable(input, &Lines::default()).is_ok();
+    is_meant_as_text(input) && !is_bytes()
 }
 
 /// Writes what becomes of the one input; nothing is opened for writing before it is all there.

@@ -27,10 +27,15 @@ fn looks_like_text(input: &[u8]) -> bool {
         .iter()
         .filter(|b| matches!(b, b' '..=b'~' | b'\t' | b'\n' | b'\r'))
         .count();
-    letters * 4 >= input.len() * 3 || lines(input).any(is_record)
+    letters * 4 >= input.len() * 3 || has_record(input)
 }
 
-/// Whether a line begins as that of a record does: a mark, a blank and the name of a field.
+/// Whether a line begins as that of a record does.
+pub fn has_record(input: &[u8]) -> bool {
+    lines(input).any(is_record)
+}
+
+/// Whether this is the beginning of such a line: a mark, a blank and the name of a field.
 fn is_record(line: &[u8]) -> bool {
     let line = line.trim_ascii_start();
     let Some((letters, rest)) = line.split_at_checked(2) else {

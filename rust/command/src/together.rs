@@ -3,9 +3,8 @@
 //! Each file is taken by itself before it is joined, so that neither a missing line end nor a cut
 //! record at the end of one can reach into the next.
 
-use crate::answer::{files, one, only_file, refused, Said, Status, Stop, Streams};
+use crate::answer::{files, one, only_file, readable, Said, Status, Stop, Streams};
 use crate::args::Args;
-use crate::explain::of_dossier;
 use crate::form::Form;
 use crate::input::{self, Input, Name};
 use crate::json::{object, Json};
@@ -83,15 +82,12 @@ pub fn join(files: &[OsString]) -> Result<Input, Said> {
     }
 }
 
-/// A file that is whole by itself: a text that packs, or bytes that the library can read.
+/// A file that is whole by itself: a text that packs, or bytes that the library can read, with a
+/// record at least.
 fn alone(file: &OsString) -> Result<Input, Said> {
     let input = input::read(file).map_err(|error| error.said())?;
-    match bench::accept(&input.dossier) {
-        Err(refusal) if matches!(refusal.number, 1..=3 | 13) => {
-            Err(refused(&of_dossier(refusal, &input.dossier, &input.lines)))
-        }
-        _ => Ok(input),
-    }
+    readable(&input.dossier, &input.lines)?;
+    Ok(input)
 }
 
 fn append(dossier: &mut Vec<u8>, lines: &mut Lines, input: Input) {

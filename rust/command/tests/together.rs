@@ -27,13 +27,15 @@ fn file(random: &mut Random, bytes: &[u8]) -> Kept {
     Kept::new(format!("{first}{text}").as_bytes())
 }
 
-/// A dossier's records dealt out to files, and the dossier that these form in their order.
+/// A dossier's records dealt out to files, none of them empty, and the dossier that these form in
+/// their order.
 fn dealt(random: &mut Random, dossier: &[u8]) -> (Vec<Kept>, Vec<u8>) {
     let mut parts = vec![Vec::new(); 1 + random.below(4) as usize];
     for record in records(dossier) {
         let at = random.below(parts.len() as u64) as usize;
         parts[at].extend(record.bytes);
     }
+    parts.retain(|part| !part.is_empty());
     let files = parts.iter().map(|part| file(random, part)).collect();
     (files, parts.concat())
 }
@@ -48,7 +50,8 @@ fn together(command: &str, files: &[Kept], more: &[&str]) -> Ended {
 fn sound(random: &mut Random) -> Vec<u8> {
     loop {
         let dossier = make::dossier(random);
-        if !bench::accept(&dossier).is_err_and(|r| matches!(r.number, 1..=3 | 13)) {
+        let unread = bench::accept(&dossier).is_err_and(|r| matches!(r.number, 1..=3 | 13));
+        if !unread && !dossier.is_empty() {
             return dossier;
         }
     }
@@ -106,6 +109,24 @@ fn a_cut_record_is_refused_in_its_file() {
     assert!(ended.err.contains(&cut), "{}", ended.err);
     let rest = format!("  {}: refused 1 at 0: ", second.name());
     assert!(ended.err.contains(&rest), "{}", ended.err);
+}
+
+/// A file without a record, perhaps of a price that didn't come, is no part of a station.
+#[test]
+fn a_file_without_a_record_is_told() {
+    let station = Kept::new(&make::written::r1());
+    for nothing in ["", "\n", "# no price today\n", "\u{feff}"] {
+        let none = Kept::new(nothing.as_bytes());
+        for order in [[&station, &none], [&none, &station]] {
+            let words = ["levels", order[0].name(), order[1].name(), "--together"];
+            let ended = call(&[&words[..], &["--hour=0"]].concat());
+            assert_eq!(ended.status, Status::Refused, "{nothing:?}");
+            assert_eq!(ended.out, "");
+            let told = format!("\n  {}: refused 5 at 0: ", none.name());
+            assert!(ended.err.contains(&told), "{}", ended.err);
+            assert!(ended.err.contains("no record at all"), "{}", ended.err);
+        }
+    }
 }
 
 /// A refused record is told with its file, and its line or its place there.

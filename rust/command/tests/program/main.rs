@@ -68,17 +68,23 @@ fn an_input_without_end_is_too_long() {
     }
 }
 
-/// A refused call leaves the file alone that it would have written.
+/// A refused call leaves the file alone that it would have written. An input without a record is one
+/// that wasn't written, and no dossier.
 #[test]
 fn nothing_is_lost() {
     let folder = Folder::new();
     let out = &folder.file("out", "kept")[..];
     for (words, input) in [
         (&["pack", "--out", out][..], &b"FU issue=1"[..]),
+        (&["pack", "--out", out], b""),
+        (&["pack", "--out", out], b"# nothing yet\n"),
         (&["unpack", "--out", out], b"FU issue=1"),
+        (&["unpack", "--out", out], b"LC issue=1"),
+        (&["unpack", "--out", out], b""),
+        (&["unpack", "--out", out], b"\xEF\xBB\xBF\r\n"),
         (&["day", "--from", "0", "--svg", out], b""),
     ] {
-        assert_ne!(call(words, input).status.code(), Some(0));
+        assert_eq!(call(words, input).status.code(), Some(1), "{words:?}");
         assert_eq!(std::fs::read(out).expect("still there"), b"kept");
     }
     let day = ["day", "--from", "0", "--svg", out];
