@@ -49,7 +49,7 @@ pub fn of_dossier(refusal: Refusal, dossier: &[u8], lines: &Lines) -> Explained 
     Explained {
         refusal,
         rule: rule(refusal.number),
-        details: match (record, text) {
+        details: match (record, &text) {
             (Some(record), _) => of_record(refusal.number, dossier, lines, &record),
             (None, Some((start, line))) => vec![format!(
                 "from byte {start} on it is text, not bytes: {}; join texts, or bytes",

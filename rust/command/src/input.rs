@@ -26,7 +26,7 @@ pub enum NoInput {
 
 /// The most that is read of an input. A text with comments may be longer than its dossier; what is
 /// longer than this, perhaps without end, draws 13 as the dossier it would be.
-const MOST: u64 = 16 << 20;
+pub const MOST: u64 = 16 << 20;
 
 /// What stands for standard input among the files.
 pub const STANDARD: &str = "-";

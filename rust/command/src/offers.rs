@@ -8,11 +8,11 @@ use crate::args::Args;
 use crate::conduct::test;
 use crate::csv;
 use crate::form::Form;
-use crate::input::{is_cut, name, read, read_bytes, Input, Name};
+use crate::input::{is_cut, name, read, read_bytes, Input, Name, MOST};
 use crate::json::{object, Json};
 use crate::many::{count, counted, Progress};
 use crate::output::apart_from_standard_output;
-use crate::plain::{is_meant_as_text, is_utf_16};
+use crate::plain::{encoding, is_meant_as_text};
 use crate::text::WrongLine;
 use crate::together::join;
 use line::Asked;
@@ -61,9 +61,13 @@ fn stations(lines: &[(usize, Result<Asked, String>)]) -> Vec<OsString> {
 /// The text of an offers file.
 fn text(file: &OsString) -> Result<Vec<u8>, String> {
     let bytes = read_bytes(file)?;
-    match is_cut(&bytes) || is_utf_16(&bytes) || !is_meant_as_text(&bytes) {
-        true => Err("no UTF-8 text with an offer a line".to_string()),
-        false => Ok(bytes),
+    if is_cut(&bytes) {
+        return Err(format!("it has more than {} MiB", MOST >> 20));
+    }
+    match (encoding(&bytes), is_meant_as_text(&bytes)) {
+        (Some(encoding), _) => Err(format!("the text is {encoding}: save it as UTF-8")),
+        (None, false) => Err("it is no text with an offer a line".to_string()),
+        (None, true) => Ok(bytes),
     }
 }
 

@@ -5,12 +5,9 @@
 
 use crate::marks::{listed, Field, Mark, MARKS};
 use crate::near::hint;
-use crate::plain::{clean, is_utf_16, lines};
-pub use crate::plain::{is_meant_as_text, is_text};
+use crate::plain::{bytes_behind, clean, encoding, lines};
+pub use crate::plain::{is_meant_as_text, is_text, BOM};
 use crate::record::records;
-
-/// What some programs write before a text, to say that it is UTF-8.
-pub const BOM: &[u8] = b"\xEF\xBB\xBF";
 
 /// The longest dossier, in bytes.
 pub const LONGEST: usize = 60_000;
@@ -19,7 +16,7 @@ pub const LONGEST: usize = 60_000;
 pub const MOST_WRONG: usize = 100;
 
 /// A dossier, and the line that each of its records came from.
-#[derive(Clone, Debug, PartialEq, Eq)]
+#[derive(Clone, Debug, Default, PartialEq, Eq)]
 pub struct Packed {
     pub dossier: Vec<u8>,
     pub lines: Vec<usize>,
@@ -34,23 +31,38 @@ pub struct WrongLine {
 
 /// The dossier of a text, or the wrong lines of it, up to [`MOST_WRONG`].
 pub fn pack(text: &[u8]) -> Result<Packed, Vec<WrongLine>> {
-    if !is_text(text) && is_utf_16(text) {
-        let says = "the text is UTF-16: save it as UTF-8".to_string();
+    if let Some(encoding) = encoding(text).filter(|_| !is_text(text)) {
+        let says = format!("the text is {encoding}: save it as UTF-8");
         return Err(vec![WrongLine { line: 1, says }]);
     }
-    let (mut dossier, mut of_records, mut wrong) = (Vec::new(), Vec::new(), Vec::new());
     let text = text.strip_prefix(BOM).unwrap_or(text);
+    let behind = bytes_behind(text);
+    let text = &text[..behind.as_ref().map_or(text.len(), |(line, _)| *line)];
+    let (packed, mut wrong) = read_lines(text);
+    if let Some((_, says)) = behind.filter(|_| wrong.len() < MOST_WRONG) {
+        let line = lines(text).count();
+        wrong.push(WrongLine { line, says });
+    }
+    match wrong.is_empty() {
+        true => Ok(packed),
+        false => Err(wrong),
+    }
+}
+
+/// The records of a text's lines, and what is wrong with the others.
+fn read_lines(text: &[u8]) -> (Packed, Vec<WrongLine>) {
+    let (mut packed, mut wrong) = (Packed::default(), Vec::new());
     for (line, content) in (1..).zip(lines(text)) {
         match record(content) {
             Ok(bytes) if bytes.is_empty() => {}
-            Ok(bytes) if dossier.len() + bytes.len() > LONGEST => {
+            Ok(bytes) if packed.dossier.len() + bytes.len() > LONGEST => {
                 let says = format!("with this record the dossier is longer than {LONGEST} bytes");
                 wrong.push(WrongLine { line, says });
                 break;
             }
             Ok(bytes) => {
-                dossier.extend(bytes);
-                of_records.push(line);
+                packed.dossier.extend(bytes);
+                packed.lines.push(line);
             }
             Err(says) => wrong.push(WrongLine { line, says }),
         }
@@ -58,13 +70,7 @@ pub fn pack(text: &[u8]) -> Result<Packed, Vec<WrongLine>> {
             break;
         }
     }
-    match wrong.is_empty() {
-        true => Ok(Packed {
-            dossier,
-            lines: of_records,
-        }),
-        false => Err(wrong),
-    }
+    (packed, wrong)
 }
 
 /// The text of a dossier that draws none of 13 and 1 to 3.
@@ -172,7 +178,11 @@ pub fn quoted(word: &str) -> String {
 
 /// A word of the text that is safe to show: no control characters, and not longer than a line.
 pub fn shortened(word: &str) -> String {
-    let mut shown: String = word.chars().take(40).flat_map(char::escape_debug).collect();
+    let letter = |c: char| match c {
+        '\'' | '"' => String::from(c),
+        c => c.escape_debug().collect(),
+    };
+    let mut shown: String = word.chars().take(40).map(letter).collect();
     if word.chars().nth(40).is_some() {
         shown.push('…');
     }

@@ -277,6 +277,9 @@ fn text_and_bytes_in_one_input_are_told() {
         "# newer\nFU issue=3 profile=1 fuel=5.00 emission=1.00\n",
         "\n\nFU issue=3 profile=1 fuel=5.00 emission=1.00",
         "LC issue=3 cost=21.40\n",
+        "\u{feff}FU issue=3 profile=1 fuel=5.00 emission=1.00\n",
+        "# newer\x0c\nFU issue=3 profile=1 fuel=5.00 emission=1.00\n",
+        "FU issue=3 profile=1 fuel=5.00 emission=1.00\nFU\0\0\0\x01\x01\0\0\0\0\0\0\0\0",
     ] {
         let file = Kept::new(&[&r1[..], text.as_bytes()].concat());
         let ended = call(&["check", file.name()]);
@@ -288,7 +291,16 @@ fn text_and_bytes_in_one_input_are_told() {
     let price = "# newer\nFU issue=3 profile=1 fuel=5.00 emission=1.00\n";
     let file = Kept::new(&[price.as_bytes(), &r1].concat());
     let ended = call(&["check", file.name()]);
-    let told = "line 3: byte 1 begins a record RS in bytes, behind text";
+    let told = ": line 3: byte 1 begins a record RS in bytes, behind text: join texts, or bytes\n";
+    assert!(ended.err.ends_with(told), "{}", ended.err);
+}
+
+/// A blank of another encoding isn't taken for the first byte of a record in bytes.
+#[test]
+fn a_blank_of_windows_1252_is_told() {
+    let file = Kept::new(b"FU\xa0issue=3 profile=1 fuel=5.00 emission=1.00\n");
+    let ended = call(&["check", file.name()]);
+    let told = ": line 1: byte 3 is 160, which is no UTF-8: ";
     assert!(ended.err.contains(told), "{}", ended.err);
 }
 

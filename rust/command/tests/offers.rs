@@ -142,6 +142,17 @@ fn a_file_without_an_offer_is_wrong() {
     }
 }
 
+/// An offers file in another encoding is told as that.
+#[test]
+fn another_encoding_is_told() {
+    let line = format!("station={EXAMPLES}thermal.txt hour=0 condition=narrow offer=1@1\n");
+    let wide: Vec<u8> = line.encode_utf16().flat_map(u16::to_le_bytes).collect();
+    let file = Kept::new(&wide);
+    let ended = call(&["offers", file.name()]);
+    assert_eq!(ended.status, Status::Wrong);
+    assert!(ended.err.contains("the text is UTF-16"), "{}", ended.err);
+}
+
 #[test]
 fn objects_and_tables_have_a_row_a_line() {
     let lines = format!(

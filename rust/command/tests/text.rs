@@ -264,6 +264,8 @@ fn what_is_no_text_is_named_with_line_and_byte() {
         (b"\x0c", "byte 4 is a form feed"),
         (b"\x1b", "byte 4 is an escape"),
         (b"\x07", "byte 4 is the control character 7"),
+        (b"\xc2\x85", "byte 4 is U+0085, which ends no line here"),
+        (b"\xe2\x80\xa8", "byte 4 is U+2028, which ends no line here"),
     ] {
         for (line, at) in [(1, 3), (2, 15)] {
             let mut input = text.as_bytes().to_vec();
@@ -278,16 +280,53 @@ fn what_is_no_text_is_named_with_line_and_byte() {
 }
 
 #[test]
-fn utf_16_is_named() {
+fn other_encodings_are_named() {
     let text = unpack(&make::written::r1());
-    for bom in [true, false] {
-        for bytes in [u16::to_le_bytes, u16::to_be_bytes] {
-            let bom = bom.then_some(0xFEFF).into_iter();
-            let input: Vec<u8> = bom.chain(text.encode_utf16()).flat_map(bytes).collect();
+    for text in [format!("\u{feff}{text}"), text] {
+        let (short, long) = (|| text.encode_utf16(), || text.chars().map(u32::from));
+        let inputs: [(Vec<u8>, &str); 4] = [
+            (short().flat_map(u16::to_le_bytes).collect(), "UTF-16"),
+            (short().flat_map(u16::to_be_bytes).collect(), "UTF-16"),
+            (long().flat_map(u32::to_le_bytes).collect(), "UTF-32"),
+            (long().flat_map(u32::to_be_bytes).collect(), "UTF-32"),
+        ];
+        for (input, encoding) in inputs {
             assert!(is_meant_as_text(&input));
             let wrong = pack(&input).expect_err("no UTF-8");
             assert_eq!((wrong.len(), wrong[0].line), (1, 1), "{wrong:?}");
-            assert!(wrong[0].says.contains("UTF-16"), "{wrong:?}");
+            assert!(wrong[0].says.contains(encoding), "{wrong:?}");
+        }
+    }
+}
+
+/// A mark of byte order within a text, as two texts in one file have it.
+#[test]
+fn a_second_mark_of_byte_order_is_told() {
+    let line = "LC issue=1 cost=1.00\n";
+    for (text, at) in [
+        (format!("\u{feff}{line}\u{feff}{line}"), 2),
+        (format!("\u{feff}\u{feff}{line}"), 1),
+    ] {
+        let wrong = pack(text.as_bytes()).expect_err("two marks");
+        assert_eq!((wrong.len(), wrong[0].line), (1, at), "{wrong:?}");
+        let told = "byte 1 is a mark of byte order";
+        assert!(wrong[0].says.starts_with(told), "{wrong:?}");
+    }
+}
+
+/// Bytes behind text are told once, where they begin, whatever line ends lie in them.
+#[test]
+fn bytes_behind_text_are_told_where_they_begin() {
+    let text = "# newer\nFU issue=3 profile=1 fuel=5.00 emission=1.00";
+    for (end, line, byte) in [("\n", 3, 1), ("\r", 3, 1), ("", 2, 45), ("\n\n \t", 4, 3)] {
+        let text = format!("{text}{end}").replace('\n', if end == "\r" { "\r" } else { "\n" });
+        for dossier in [make::written::r1(), make::written::r1()[31..].to_vec()] {
+            let input = [text.as_bytes(), &dossier].concat();
+            assert!(is_meant_as_text(&input));
+            let wrong = pack(&input).expect_err("text and bytes");
+            assert_eq!((wrong.len(), wrong[0].line), (1, line), "{wrong:?}");
+            let told = format!("byte {byte} begins a record ");
+            assert!(wrong[0].says.starts_with(&told), "{wrong:?}");
         }
     }
 }
