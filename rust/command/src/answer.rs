@@ -79,6 +79,14 @@ pub struct Said {
     pub json: Json,
 }
 
+impl Said {
+    /// The same with more members behind those that it has.
+    pub fn with(self, members: Json) -> Said {
+        let json = self.json.and(members);
+        Said { json, ..self }
+    }
+}
+
 /// A refusal of an input as an answer.
 pub fn refused(explained: &Explained) -> Said {
     let (status, counts_as) = match explained.rule.is_known() {

@@ -7,7 +7,7 @@ use crate::explain::of_offer;
 use crate::form::Form;
 use crate::input::Input;
 use crate::json::{object, Json};
-use crate::levels::{dollars, megawatts};
+use crate::levels::{at, dollars, megawatts};
 use crate::many::each;
 use crate::offer::{self, highest_for, highest_in, Pair};
 use crate::unit::{CONDITION, DOLLARS, LEVEL, MEGAWATTS};
@@ -62,14 +62,11 @@ impl Question {
             Offered::Energy(_) => 1,
             Offered::Price { level, .. } => level,
         };
-        object([
-            ("hour", Json::whole(self.hour as usize)),
-            (
-                "condition",
-                Json::text(CONDITION.write(self.condition.into())),
-            ),
+        let condition = CONDITION.write(self.condition.into());
+        at(self.hour).and(object([
+            ("condition", Json::text(condition)),
             ("level", Json::text(LEVEL.write(level.into()))),
-        ])
+        ]))
     }
 }
 
@@ -92,11 +89,7 @@ pub fn test(input: &Input, question: &Question) -> Said {
         }
     };
     match verdict {
-        Err(refusal) => {
-            let said = refused(&of_offer(refusal, dossier, lines, pairs));
-            let json = said.json.and(question.json());
-            Said { json, ..said }
-        }
+        Err(refusal) => refused(&of_offer(refusal, dossier, lines, pairs)).with(question.json()),
         Ok(Verdict::Passes) => judged(input, question, None),
         Ok(Verdict::Fails(failing)) => judged(input, question, Some(failing)),
     }

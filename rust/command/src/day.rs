@@ -8,7 +8,7 @@ use crate::explain::{of_dossier, of_offer};
 use crate::form::Form;
 use crate::input::Input;
 use crate::json::{object, Json};
-use crate::levels::{dollars, json, megawatts, others};
+use crate::levels::{self, dollars, json, megawatts, others};
 use crate::many::each;
 use crate::offer::{self, highest_in, Pair};
 use crate::output;
@@ -151,10 +151,13 @@ fn tested(input: &Input, hour: u32, condition: u8, pairs: &[Pair]) -> Result<Ver
 }
 
 fn said(input: &Input, day: &Day) -> Said {
-    let status = match day.hours.iter().any(|h| h.fails().is_some()) {
-        _ if !day.refused.is_empty() => Status::Refused,
-        true => Status::Fails,
-        false => Status::Done,
+    let fails = day.hours.iter().any(|h| h.fails().is_some());
+    let offered = day.hours.iter().any(|h| h.verdict.is_some());
+    let (status, counts_as) = match (day.refused.is_empty(), fails, offered) {
+        (false, ..) => (Status::Refused, "refused at some hours"),
+        (true, true, _) => (Status::Fails, "fail"),
+        (true, false, true) => (Status::Done, "pass"),
+        (true, false, false) => (Status::Done, "with levels"),
     };
     let refusals = day.refused.iter().map(|(hour, refusal)| {
         let explained = of_dossier(*refusal, &input.dossier, &input.lines);
@@ -164,14 +167,13 @@ fn said(input: &Input, day: &Day) -> Said {
     hours.extend(day.hours.iter().map(|hour| (hour.hour, hour.json())));
     for (hour, explained) in refusals {
         words += &format!("hour {hour}: {}\n", explained.line());
-        let json = object([("hour", Json::whole(hour as usize))]);
-        hours.push((hour, json.with("refused", explained.json())));
+        hours.push((hour, levels::at(hour).with("refused", explained.json())));
     }
     hours.sort_by_key(|(hour, _)| *hour);
     let hours = hours.into_iter().map(|(_, json)| json).collect();
     Said {
         status,
-        counts_as: "with levels",
+        counts_as,
         line: String::new(),
         words,
         json: object([("hours", Json::List(hours))]),

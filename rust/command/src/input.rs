@@ -50,8 +50,8 @@ impl Name {
         let names: Vec<String> = files.iter().map(|file| name(file).words).collect();
         let words = names.join(" + ");
         Name {
-            file: Json::text(&words),
-            words,
+            words: short(&words),
+            file: Json::Text(words),
             bytes: None,
         }
     }

@@ -27,12 +27,13 @@ fn levels(input: &Input, hour: u32) -> Said {
             words: report,
             json: json(hour, &levels),
         },
-        Err(refusal) => {
-            let said = refused(&of_dossier(refusal, dossier, lines));
-            let json = said.json.with("hour", Json::whole(hour as usize));
-            Said { json, ..said }
-        }
+        Err(refusal) => refused(&of_dossier(refusal, dossier, lines)).with(at(hour)),
     }
+}
+
+/// The hour as a member of an answer.
+pub fn at(hour: u32) -> Json {
+    object([("hour", Json::whole(hour as usize))])
 }
 
 /// The report, as the library writes it.
@@ -87,12 +88,11 @@ pub fn json(hour: u32, levels: &Levels) -> Json {
     let energy = levels.energy.iter().enumerate().map(lamination).collect();
     let [start, no_load, reserve] =
         others(levels).map(|(_, level)| level.map_or(Json::Null, |cents| number(dollars(cents))));
-    object([
-        ("hour", Json::whole(hour as usize)),
+    at(hour).and(object([
         ("profile", Json::whole(levels.profile.into())),
         ("energy", Json::List(energy)),
         ("start", start),
         ("no-load", no_load),
         ("reserve", reserve),
-    ])
+    ]))
 }

@@ -14,7 +14,7 @@ use crate::many::{count, counted, Progress};
 use crate::output::apart_from_standard_output;
 use crate::plain::{encoding, is_meant_as_text};
 use crate::text::WrongLine;
-use crate::together::join;
+use crate::together::{join, told, with_files};
 use line::Asked;
 use std::ffi::OsString;
 
@@ -87,7 +87,7 @@ impl Shelf {
             self.station = None;
             self.station = Some(match files {
                 [file] => read(file).map_err(|error| error.said())?,
-                files => join(files)?,
+                files => join(files).map_err(|said| with_files(files, said))?,
             });
         }
         self.station.as_ref().ok_or_else(|| wrong_lines(&[]))
@@ -119,7 +119,7 @@ impl Answer {
             line,
             station: Some(Name::joined(&asked.stations)),
             said: match shelf.station(&asked.stations) {
-                Ok(input) => test(input, &asked.question),
+                Ok(input) => told(input, test(input, &asked.question)),
                 Err(said) => said,
             },
         }

@@ -13,7 +13,7 @@ use crate::args::{hour, Args};
 use crate::explain::{of_dossier, of_offer, standing, Standing};
 use crate::form::Form;
 use crate::input::Input;
-use crate::levels::others;
+use crate::levels::{at, others};
 use crate::many::each;
 use crate::offer::read_level;
 use crate::unit::LEVEL;
@@ -102,12 +102,13 @@ pub fn run(args: &Args, streams: &mut Streams) -> Result<Status, Stop> {
 }
 
 fn explain(input: &Input, hour: u32, level: Option<u8>) -> Said {
-    if let Some(refusal) = level.and_then(|level| unheld(&input.dossier, hour, level)) {
-        return refused(&of_offer(refusal, &input.dossier, &input.lines, &[]));
+    let Input { dossier, lines, .. } = input;
+    if let Some(refusal) = level.and_then(|level| unheld(dossier, hour, level)) {
+        return refused(&of_offer(refusal, dossier, lines, &[])).with(at(hour));
     }
     match Explanation::of(input, hour) {
         Ok(explanation) => explanation.only(level).said(),
-        Err(refusal) => refused(&of_dossier(refusal, &input.dossier, &input.lines)),
+        Err(refusal) => refused(&of_dossier(refusal, dossier, lines)).with(at(hour)),
     }
 }
 

@@ -51,7 +51,8 @@ pub fn only(args: &Args) -> Result<Result<Input, (Name, Said)>, Stop> {
     Ok(input::read(&file).map_err(wrong))
 }
 
-fn with_files(files: &[OsString], said: Said) -> Said {
+/// What is said of files that form no station, with their names.
+pub fn with_files(files: &[OsString], said: Said) -> Said {
     with_names(files.iter().map(|file| input::name(file).file), said)
 }
 
@@ -117,13 +118,14 @@ fn all_wrong(wrong: Vec<(Name, Said)>) -> Said {
         1 => "a file can't be taken".to_string(),
         n => format!("{n} files can't be taken"),
     };
-    let status = wrong.iter().map(|(_, said)| said.status).max();
+    let weightiest = wrong.iter().map(|(_, said)| said);
+    let weightiest = weightiest.max_by_key(|said| said.status);
     let first = wrong.first().map_or(String::new(), |(name, said)| {
         format!(", {name}: {}", said.line)
     });
     Said {
-        status: status.unwrap_or(Status::Wrong),
-        counts_as: "refused",
+        status: weightiest.map_or(Status::Wrong, |said| said.status),
+        counts_as: weightiest.map_or("refused", |said| said.counts_as),
         line: format!("{head}{first}"),
         words: format!("{head}{words}\n"),
         json: self::object([("wrong-files", Json::List(objects))]),

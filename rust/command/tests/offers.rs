@@ -161,10 +161,7 @@ fn objects_and_tables_have_a_row_a_line() {
     );
     let ended = offers(&lines, &["--json"]);
     assert_eq!(ended.out.lines().count(), 3);
-    ended
-        .out
-        .lines()
-        .for_each(|line| json::check(line).unwrap());
+    json::check(&ended.out).unwrap();
     let ended = offers(&lines, &["--csv"]);
     let rows: Vec<&str> = ended.out.lines().collect();
     assert_eq!(rows.len(), 4);
@@ -194,4 +191,21 @@ fn a_station_from_several_files() {
     assert_eq!(of(&station), Status::Fails);
     assert_eq!(of(&format!("{station} {today}")), Status::Done);
     assert_eq!(of(&format!("{today} {station}")), Status::Done);
+}
+
+/// The files of such a station are told one by one, and one that can't be read is counted as that.
+#[test]
+fn several_files_are_told_one_by_one() {
+    let line = format!("station={EXAMPLES}thermal.txt station=no-such-file hour=0");
+    let line = format!("{line} condition=narrow offer=75.0@71.85");
+    let ended = offers(&line, &[]);
+    assert_eq!(ended.status, Status::Wrong);
+    assert_eq!(ended.out.lines().last(), Some("1 offer: 1 unreadable"));
+    let price = Kept::new(b"FU issue=3 profile=1 fuel=5.00 emission=1.00");
+    for other in ["no-such-file", price.name()] {
+        let ended = offers(&line.replace("no-such-file", other), &["--json"]);
+        let files = format!("\"files\":[\"{EXAMPLES}thermal.txt\",\"{other}\"],");
+        assert!(ended.out.contains(&files), "{}", ended.out);
+        json::check(&ended.out).unwrap();
+    }
 }

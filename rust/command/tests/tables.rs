@@ -164,10 +164,19 @@ fn a_day_of_many_files() {
     );
     let ended = call(&[&words[..], &["--json"]].concat());
     assert_eq!(ended.out.lines().count(), 3);
-    ended
-        .out
-        .lines()
-        .for_each(|line| json::check(line).unwrap());
+    json::check(&ended.out).unwrap();
+}
+
+/// Of many files with an offer those are counted that pass and that fail.
+#[test]
+fn a_day_of_many_files_with_an_offer() {
+    let station = |name: &str| format!("{}/../../examples/{name}", env!("CARGO_MANIFEST_DIR"));
+    let [thermal, nuclear] = ["thermal.txt", "nuclear.txt"].map(station);
+    let offer = ["--from=0", "--condition=narrow", "--offer=40.0@60.00"];
+    let ended = call(&[&["day", &thermal, &nuclear][..], &offer].concat());
+    assert_eq!(ended.status, Status::Fails);
+    let count = ended.out.lines().last();
+    assert_eq!(count, Some("2 files: 1 pass, 1 fail"));
 }
 
 /// A picture is of one station, and a call that is refused writes none.

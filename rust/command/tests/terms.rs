@@ -164,3 +164,16 @@ fn a_level_that_is_not_held_is_refused() {
         );
     }
 }
+
+/// A refusal in JSON has the hour behind it, as those of other commands have.
+#[test]
+fn a_refusal_has_its_hour() {
+    let none = Kept::new(b"LC issue=1 cost=1.00\n");
+    let nuclear = concat!(env!("CARGO_MANIFEST_DIR"), "/../../examples/nuclear.txt");
+    for (file, more) in [(none.name(), &[][..]), (nuclear, &["--level=start"])] {
+        let words = ["explain", file, "--hour=7", "--json"];
+        let ended = call(&[&words, more].concat());
+        assert_eq!(ended.status, Status::Refused);
+        assert!(ended.out.ends_with("},\"hour\":7}\n"), "{}", ended.out);
+    }
+}

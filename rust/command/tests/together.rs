@@ -221,3 +221,19 @@ fn files_that_cannot_be_taken_are_all_told() {
         assert_eq!(ended.out.contains("no-such-file"), !more.is_empty());
     }
 }
+
+/// The names of many files don't fill the screen; in JSON they are all there.
+#[test]
+fn many_names_are_told_in_short() {
+    let station = Kept::new(&make::written::r1());
+    let files = [station.name(); 50];
+    let words = [&["check", "--together", "--json"], &files[..]].concat();
+    let ended = call(&words);
+    assert_eq!(ended.status, Status::Refused);
+    let first = ended.err.lines().next().expect("a line");
+    assert!(first.contains('…') && first.len() < 400, "{first}");
+    // In `file`, in `files`, with the record and with its twin.
+    let told = ended.out.matches(station.name()).count();
+    assert_eq!(told, 50 + 50 + 2, "{}", ended.out);
+    json::check(&ended.out).unwrap();
+}

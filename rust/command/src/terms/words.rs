@@ -3,7 +3,7 @@
 use super::{Explanation, Level, Place, Side, Term};
 use crate::explain::Standing;
 use crate::json::{object, Json};
-use crate::levels::megawatts;
+use crate::levels::{at, megawatts};
 use crate::unit::{decimal, parts, DOLLARS, FINE_DOLLARS, LEVEL};
 
 /// Micro-dollars with all their places.
@@ -88,8 +88,7 @@ impl Explanation {
             level.json().with("library", library)
         });
         let cited = |record: &Option<Standing>| record.as_ref().map_or(Json::Null, Standing::json);
-        object([
-            ("hour", Json::whole(self.hour as usize)),
+        at(self.hour).and(object([
             ("profile", Json::whole(self.profile.into())),
             ("request", cited(&self.request)),
             ("station", cited(&self.station)),
@@ -98,7 +97,7 @@ impl Explanation {
                 "differences",
                 Json::List(differences.iter().map(Json::text).collect()),
             ),
-        ])
+        ]))
     }
 }
 

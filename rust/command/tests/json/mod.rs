@@ -1,8 +1,15 @@
-//! Whether a text is JSON.
+//! Whether each line of a text is JSON.
 
-/// One value, and nothing but white space behind it.
+/// One value a line, at least one, and nothing behind it.
 pub fn check(text: &str) -> Result<(), String> {
-    match value(text.trim()) {
+    match text.is_empty() {
+        true => Err("no JSON".to_string()),
+        false => text.lines().try_for_each(check_line),
+    }
+}
+
+fn check_line(text: &str) -> Result<(), String> {
+    match value(text) {
         Some("") => Ok(()),
         Some(rest) => Err(format!("{rest:?} stands behind the JSON")),
         None => Err(format!("no JSON: {text:?}")),
