@@ -121,12 +121,18 @@ fn legend(picture: &Picture, lines: &Lines, axis: &Axis) -> Vec<(Mark, String)> 
     if let Some(Failure { name, price, .. }) = failure(picture, lines) {
         legend.push((Mark::Failure, format!("{name}, {price}")));
     }
-    if axis.unit.is_some() {
-        legend.push((Mark::Nothing, "The price axis is logarithmic.".into()));
-    } else if axis.low > 0 {
-        legend.push((Mark::Nothing, "The price axis doesn't start at 0.".into()));
-    }
+    legend.extend(note("price", axis));
     legend
+}
+
+/// What is to be known of an axis that isn't even, or doesn't start at 0.
+fn note(name: &str, axis: &Axis) -> Option<(Mark, String)> {
+    let says = match (axis.unit, axis.low) {
+        (Some(_), _) => "is logarithmic",
+        (None, 1..) => "doesn't start at 0",
+        _ => return None,
+    };
+    Some((Mark::Nothing, format!("The {name} axis {says}.")))
 }
 
 fn offer_legend(offer: &Offer, lines: &Lines, axis: &Axis) -> Vec<(Mark, String)> {

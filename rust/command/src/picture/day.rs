@@ -4,7 +4,7 @@
 use super::axis::{round_step, Axis};
 use super::sheet::*;
 use super::words::{megawatts, money, width};
-use super::{places, range, rows, Lines, Run};
+use super::{note, places, range, rows, Lines, Run};
 use bench::{Levels, Refusal};
 
 /// What a day's picture shows: hours in a row, each with its levels or its refusal.
@@ -43,10 +43,12 @@ pub fn svg(day: &Day) -> String {
     let stretches = stretches(day);
     let energy = energy(&stretches);
     let others = others(&stretches);
-    let legend = legend(day, &stretches, &energy);
+    let axis = Axis::of(&lines(&energy));
+    let mut legend = legend(day, &stretches, &energy);
+    legend.extend(note("energy", &axis));
     let places = places(&legend);
     let bottom = HEIGHT - FOOT - ROW * rows(&places);
-    let plots = plots(day, &energy, &others, bottom);
+    let plots = plots(day, (&energy, axis), &others, bottom);
     let mut sheet = Sheet::open(day.title, &description(day, &stretches));
     sheet.bands(&plots, &stretches);
     let courses = [&energy[..]].into_iter().chain(others.chunks(1));
@@ -144,15 +146,23 @@ fn joined(runs: Vec<Run>) -> Vec<Run> {
     all
 }
 
-/// The plot of energy, and below it one for each other level, all as wide.
-fn plots(day: &Day, energy: &[Course], others: &[Course], bottom: f64) -> Vec<Plot> {
-    let lines = |courses: &[Course]| Lines {
+fn lines(courses: &[Course]) -> Lines {
+    Lines {
         levels: courses.iter().flat_map(|c| c.runs.clone()).collect(),
         prices: Vec::new(),
         limits: Vec::new(),
-    };
+    }
+}
+
+/// The plot of energy, and below it one for each other level, all as wide.
+fn plots(
+    day: &Day,
+    (energy, axis): (&[Course], Axis),
+    others: &[Course],
+    bottom: f64,
+) -> Vec<Plot> {
     let highest = |course: &Course| course.runs.iter().map(|run| run.2).max();
-    let mut axes = vec![Axis::of(&lines(energy))];
+    let mut axes = vec![axis];
     axes.extend(
         others
             .iter()
@@ -395,11 +405,33 @@ mod tests {
         ] {
             assert!(out.contains(part), "{part} in {out}");
         }
-        // Two stretches of profile 2, each a line of its own in each plot.
-        assert_eq!(
-            out.matches(">profile 2<").count(),
-            2 + usize::from(out.contains("zzz"))
-        );
+        // Above the plots and in the legend.
+        assert_eq!(out.matches(">profile 2<").count(), 2);
+    }
+
+    /// An axis that isn't even or doesn't start at 0 is told: the steps look other than they are.
+    #[test]
+    fn the_axis_is_told() {
+        let [low, high] = [(100, 10), (900_000, 100)].map(|(first, step)| {
+            let mut levels = levels(1, 4, false);
+            for (lamination, i) in levels.energy.iter_mut().zip(0..) {
+                lamination.level = first + step * i;
+            }
+            levels
+        });
+        let even = levels(1, 20, true);
+        for (hours, told) in [
+            (vec![&low, &high, &low], "The energy axis is logarithmic."),
+            (
+                vec![&high, &high],
+                "The energy axis doesn&#39;t start at 0.",
+            ),
+            (vec![&even, &even], ""),
+        ] {
+            let out = drawn(0, hours.into_iter().map(Ok).collect());
+            assert!(out.contains(told), "{told} in {out}");
+            assert_eq!(out.contains("axis"), !told.is_empty(), "{out}");
+        }
     }
 
     #[test]
