@@ -171,11 +171,16 @@ fn command(word: &OsString) -> Option<&'static Command> {
 /// Pages of help beside those of the commands.
 const PAGES: [&str; 2] = ["fields", "records"];
 
+/// What may stand in place of a command.
+const OTHERS: [&str; 3] = ["help", "--help", "--version"];
+
 /// What a call prints that asks for nothing but help or the version.
 fn page(words: &[OsString]) -> Option<String> {
     let words = words.iter().take(2).map(|word| word.to_str().unwrap_or(""));
     match words.collect::<Vec<&str>>()[..] {
-        ["--help" | "-h", ..] | ["help"] => Some(help::ALL.to_string()),
+        ["--help" | "-h", ..] | ["help"] | ["help", "help" | "--help" | "-h"] => {
+            Some(help::ALL.to_string())
+        }
         ["--version" | "-V", ..] => Some(format!("bench {}\n", env!("CARGO_PKG_VERSION"))),
         ["help", "fields"] => Some(help::fields()),
         ["help", "records"] => Some(new::page()),
@@ -207,8 +212,12 @@ fn called(words: &[OsString], streams: &mut Streams) -> Result<Status, Stop> {
 /// What is said of a command that there isn't, or of a page of help.
 fn no_command(word: &OsString, help: bool) -> Stop {
     let word = word.to_string_lossy();
-    let pages = PAGES.iter().filter(|_| help).copied();
-    let names: Vec<&str> = COMMANDS.iter().map(|c| c.name).chain(pages).collect();
+    let others = if help { &PAGES[..] } else { &OTHERS };
+    let names = COMMANDS
+        .iter()
+        .map(|c| c.name)
+        .chain(others.iter().copied());
+    let names: Vec<&str> = names.collect();
     let (shown, meant) = (text::quoted(&word), near::hint(&word, &names));
     Stop::Use(format!("no command is called {shown}{meant}"))
 }

@@ -457,6 +457,18 @@ fn wrong_use_is_told_in_short_with_a_hint() {
             "no command is called 'feilds' (did you mean fields?)",
         ),
         (
+            &["--versoin"],
+            "no command is called '--versoin' (did you mean --version?)",
+        ),
+        (
+            &["version"],
+            "no command is called 'version' (did you mean --version?)",
+        ),
+        (
+            &["halp"],
+            "no command is called 'halp' (did you mean help?)",
+        ),
+        (
             &["levels", "--huor", "1"],
             "no option is called '--huor' (did you mean --hour?)",
         ),

@@ -53,7 +53,14 @@ fn help_is_there_for_every_command() {
             let help = text(&call(words, b"").stdout);
             assert!(help.starts_with(&format!("bench {command} ")), "{help}");
         }
-        assert!(text(&call(&["--help"], b"").stdout).contains(&format!("bench {command} ")));
+        for words in [
+            &["--help"][..],
+            &["help"],
+            &["help", "help"],
+            &["help", "-h"],
+        ] {
+            assert!(text(&call(words, b"").stdout).contains(&format!("bench {command} ")));
+        }
     }
 }
 
