@@ -6,7 +6,7 @@ mod json;
 use bench::Levels;
 use calls::{call, Kept};
 use command::answer::Status;
-use model::cases::{run, same};
+use model::cases::{run, same, Check};
 use model::make;
 
 /// The cells of a line without quotes.
@@ -59,32 +59,28 @@ fn rows_are_the_levels_of_the_library() {
             .flat_map(|(h, l)| expected(h, l))
             .collect();
         let start = from.to_string();
-        for (words, columns, expected) in [
-            (
-                vec!["levels", "--hour", &start],
-                12,
-                &expected(from, &levels[0]),
-            ),
-            (vec!["day", "--hours", "3", "--from", &start], 15, &day),
-        ] {
-            let ended = call(&[&words[..], &[file.name(), "--csv"]].concat());
-            let mut lines = ended.out.lines();
-            same(
-                "columns",
-                lines.next().map(|head| cells(head).len()),
-                Some(columns),
-            )?;
-            let rows: Vec<Vec<&str>> = lines.map(cells).collect();
-            same("cells", rows.iter().all(|row| row.len() == columns), true)?;
-            let shown: Vec<String> = rows.iter().map(|row| row[1..9].join(",")).collect();
-            same("rows", &shown, expected)?;
-            let empty = rows
-                .iter()
-                .all(|row| row[9..].iter().all(|cell| cell.is_empty()));
-            same("the rest is empty", empty, true)?;
-        }
-        Ok(())
+        let hour = ["levels", "--hour", &start, file.name()];
+        shows(&hour, 12, &expected(from, &levels[0]))?;
+        shows(
+            &["day", "--hours", "3", "--from", &start, file.name()],
+            15,
+            &day,
+        )
     });
+}
+
+/// Whether a call's table has so many columns and these rows, with nothing behind the levels.
+fn shows(words: &[&str], columns: usize, expected: &[String]) -> Check {
+    let ended = call(&[words, &["--csv"]].concat());
+    let mut lines = ended.out.lines();
+    let head = lines.next().map(|head| cells(head).len());
+    same("columns", head, Some(columns))?;
+    let rows: Vec<Vec<&str>> = lines.map(cells).collect();
+    same("cells", rows.iter().all(|row| row.len() == columns), true)?;
+    let shown: Vec<String> = rows.iter().map(|row| row[1..9].join(",")).collect();
+    same("rows", &shown[..], expected)?;
+    let empty = |row: &Vec<&str>| row[9..].iter().all(|cell| cell.is_empty());
+    same("the rest is empty", rows.iter().all(empty), true)
 }
 
 /// A name with a comma or a quote doesn't part a row.

@@ -150,7 +150,6 @@ fn spoilt(random: &mut Random, line: &str) -> (String, String) {
     let field = &mark.fields[at - 1];
     let (name, range) = (field.name, field.range());
     let value = |value: &str| format!("{name}={value}");
-    let above = field.unit.write(field.highest + 1);
     let named = match random.below(7) {
         0 => {
             words.remove(at);
@@ -178,8 +177,8 @@ fn spoilt(random: &mut Random, line: &str) -> (String, String) {
             format!("'{name}' is no field: name=value")
         }
         _ => {
-            words[at] = value(&above);
-            format!("{}: {range}", value(&above))
+            words[at] = value(&field.unit.write(field.highest + 1));
+            format!("{}: {range}", words[at])
         }
     };
     (words.join(" "), named)

@@ -1,6 +1,7 @@
 //! Files that a call writes: never one that it reads, and the old one or the whole new one is there.
 
-use crate::process::{call, example, text, Folder, PROGRAM};
+use crate::example::example;
+use crate::process::{call, text, Folder, PROGRAM};
 use std::ffi::OsStr;
 use std::fs;
 use std::os::unix::ffi::OsStrExt;

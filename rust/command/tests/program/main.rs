@@ -1,11 +1,14 @@
 //! The command as people run it: a process with files, pipes and a status.
 
+#[path = "../example/mod.rs"]
+mod example;
 mod files;
 mod pipes;
 mod process;
 
+use example::example;
 use model::make::written::r1;
-use process::{call, example, text, Folder, PROGRAM};
+use process::{call, text, Folder, PROGRAM};
 use std::io::Read;
 use std::path::Path;
 use std::process::{Command, Stdio};

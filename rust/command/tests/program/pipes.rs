@@ -1,7 +1,8 @@
 //! A reader that has gone changes no status: a refusal, a failing offer and a file that can't be
 //! read never end as if all was done.
 
-use crate::process::{example, text, Folder, PROGRAM};
+use crate::example::example;
+use crate::process::{text, Folder, PROGRAM};
 use std::process::{Command, Stdio};
 
 /// The status of a call whose standard output, or standard error, nobody reads.
