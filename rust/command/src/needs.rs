@@ -116,6 +116,14 @@ const HYDRO_STATION: &str =
 const HYDRO_ITEM: &str =
     "MM issue=1 profile=1 item=1 cost=900000.00 output=45.0 interval=43800 start-hours=0.0";
 
+/// At a station that holds energy and reserve.
+const TWO_THRESHOLDS: Need = may(
+    "TH",
+    THRESHOLDS,
+    &[("level", ENERGY_AND_RESERVE)],
+    &[THRESHOLD],
+);
+
 pub static TECHNOLOGIES: [Technology; 4] = [
     Technology {
         name: "thermal",
@@ -255,12 +263,7 @@ pub static TECHNOLOGIES: [Technology; 4] = [
                 &[],
                 &["CH issue=1 interval=13 price=20.00 energy=1000"],
             ),
-            may(
-                "TH",
-                THRESHOLDS,
-                &[("level", ENERGY_AND_RESERVE)],
-                &[THRESHOLD],
-            ),
+            TWO_THRESHOLDS,
             may("LC", "one", &[], &["LC issue=1 cost=21.40"]),
         ],
     },
@@ -296,12 +299,7 @@ pub static TECHNOLOGIES: [Technology; 4] = [
             ),
             may("MM", ITEMS, &[("start-hours", ZERO)], &[HYDRO_ITEM]),
             REQUESTS,
-            may(
-                "TH",
-                THRESHOLDS,
-                &[("level", ENERGY_AND_RESERVE)],
-                &[THRESHOLD],
-            ),
+            TWO_THRESHOLDS,
             must(
                 "FP",
                 "one for each place from 1 to the window",

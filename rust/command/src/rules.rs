@@ -84,7 +84,7 @@ pub static RULES: [Rule; 17] = [
     Rule {
         number: 12,
         means: "a level that isn't 1 to 4, that the technology doesn't hold, or energy put to the single-price test",
-        wants: "a level that the technology holds: thermal all four, nuclear energy, storage and hydro energy and reserve; an offer for energy is given as pairs",
+        wants: "a level that the technology holds: thermal all four, nuclear energy, storage and hydro energy and reserve; energy is offered in pairs",
         who: DESK,
     },
     Rule {

@@ -97,6 +97,13 @@ impl Costs<'_, '_> {
         terms
     }
 
+    /// A side of energy that adders and items join.
+    fn joined(&self, name: &'static str, first: Term) -> Side {
+        let mut terms = vec![first];
+        terms.extend(self.energy_added());
+        Side { name, terms }
+    }
+
     /// Energy in one lamination, from 0 to the capacity.
     fn whole(&self, sides: Vec<Side>) -> Level {
         let capacity = u16::try_from(self.station.get("capacity")).unwrap_or(u16::MAX);
@@ -191,12 +198,8 @@ impl Costs<'_, '_> {
         let (price, factor) = (self.fuel.value("fuel"), self.station.value("factor"));
         let working = format!("{used} mg / 1000000 × {price} × {factor}");
         let records = [self.station, self.fuel];
-        let mut terms = vec![self.term("fuel", share(amount, 1_000_000_000), working, &records)];
-        terms.extend(self.energy_added());
-        Side {
-            name: "cost",
-            terms,
-        }
+        let fuel = self.term("fuel", share(amount, 1_000_000_000), working, &records);
+        self.joined("cost", fuel)
     }
 
     /// The short-run cost, which adders and items join, and the opportunity cost.
@@ -214,10 +217,7 @@ impl Costs<'_, '_> {
             &records,
         );
         stored.steps.push(charging);
-        let mut terms = vec![stored];
-        terms.extend(self.energy_added());
-        let name = "short-run cost";
-        vec![Side { name, terms }, self.opportunity()]
+        vec![self.joined("short-run cost", stored), self.opportunity()]
     }
 
     /// The mean price of the energy that was charged; the last charging cost where none was.
@@ -280,11 +280,7 @@ impl Costs<'_, '_> {
             cents(price)
         );
         let records: Vec<Record> = at.into_iter().copied().collect();
-        let mut terms = vec![self.term("forecast", price.max(0) * 10_000, working, &records)];
-        terms.extend(self.energy_added());
-        Side {
-            name: "cost",
-            terms,
-        }
+        let forecast = self.term("forecast", price.max(0) * 10_000, working, &records);
+        self.joined("cost", forecast)
     }
 }
