@@ -151,6 +151,24 @@ fn one_level_alone() {
         .ends_with(" 3300.00  to the cent, half up; the library's level is 3300.00\n"));
 }
 
+/// Amounts of any size stand below each other.
+#[test]
+fn amounts_stand_below_each_other() {
+    let text =
+        "MM issue=9 profile=1 item=1 cost=1000000000.00 output=0.1 interval=1 start-hours=1000.0";
+    let [station, item] = [&make::written::r1()[..], text.as_bytes()].map(Kept::new);
+    let words = ["explain", station.name(), item.name(), "--together"];
+    let ended = call(&[&words[..], &["--hour=0", "--level=start"]].concat());
+    let is_amount = |line: &&str| line.contains("  sum") || line.contains(" = ");
+    let ends = ended.out.lines().filter(is_amount).map(|line| {
+        let point = line.find('.').expect("an amount");
+        point + ".000000".len()
+    });
+    let ends: Vec<usize> = ends.collect();
+    assert_eq!(ends.len(), 4, "{}", ended.out);
+    assert!(ends.iter().all(|end| *end == ends[0]), "{}", ended.out);
+}
+
 /// A level that the technology doesn't hold is refused by the library's number.
 #[test]
 fn a_level_that_is_not_held_is_refused() {

@@ -101,23 +101,31 @@ impl Explanation {
     }
 }
 
+/// How wide the column of amounts is at least.
+const WIDTH: usize = 14;
+
 impl Level {
+    /// The sides below the level's name. No amount is longer than the greatest sum, as none is below 0.
     fn words(&self, library: Option<i128>) -> String {
-        let sides: String = self
+        let sums = self.sides.iter().map(|side| micro(side.sum()).len());
+        let width = sums.fold(WIDTH, usize::max);
+        let sides = self
             .sides
             .iter()
-            .map(|side| side.words(self.sides.len()))
-            .collect();
+            .map(|side| side.words(self.sides.len(), width));
+        let sides: String = sides.collect();
         let taken = match (self.sides.len(), self.taken()) {
             (2.., Some(side)) => {
-                format!("  {:>14}  the greater, {}\n", micro(self.sum()), side.name)
+                let (sum, name) = (micro(self.sum()), side.name);
+                format!("  {sum:>width$}  the greater, {name}\n")
             }
             _ => String::new(),
         };
         let library = library.map_or("none".to_string(), cents);
-        let place = self.place.words();
-        let level = cents(self.cents());
-        format!("\n{place}\n{sides}{taken}  {level:>14}  to the cent, half up; the library's level is {library}\n")
+        let (place, level) = (self.place.words(), cents(self.cents()));
+        let level =
+            format!("  {level:>width$}  to the cent, half up; the library's level is {library}\n");
+        format!("\n{place}\n{sides}{taken}{level}")
     }
 
     fn json(&self) -> Json {
@@ -136,13 +144,14 @@ impl Level {
 
 impl Side {
     /// The terms and their sum; with its name where there is another side.
-    fn words(&self, sides: usize) -> String {
-        let terms: String = self.terms.iter().map(|term| term.words("")).collect();
+    fn words(&self, sides: usize, width: usize) -> String {
+        let terms = self.terms.iter().map(|term| term.words("", width));
+        let terms: String = terms.collect();
         let (name, of) = match sides {
             1 => (String::new(), String::new()),
             _ => (format!("  {}:\n", self.name), format!(", {}", self.name)),
         };
-        format!("{name}{terms}  {:>14}  sum{of}\n", micro(self.sum()))
+        format!("{name}{terms}  {:>width$}  sum{of}\n", micro(self.sum()))
     }
 
     fn json(&self) -> Json {
@@ -159,14 +168,14 @@ impl Side {
 
 impl Term {
     /// The amount, how it comes about, and the records under it.
-    fn words(&self, inset: &str) -> String {
+    fn words(&self, inset: &str, width: usize) -> String {
         let (amount, name) = (micro(self.amount), &self.name);
         let working = match self.working.is_empty() {
             true => String::new(),
             false => format!(" = {}", self.working),
         };
-        let mut words = format!("  {inset}{amount:>14}  {name}{working}\n");
-        let gap = format!("  {inset}{:>14}    ", "");
+        let mut words = format!("  {inset}{amount:>width$}  {name}{working}\n");
+        let gap = format!("  {inset}{:>width$}    ", "");
         // The station's record stands in the head.
         let told: Vec<&Standing> = self.records.iter().filter(|r| r.mark != "RS").collect();
         for record in told.iter().take(MOST) {
@@ -177,12 +186,8 @@ impl Term {
             words += &format!("{gap}and {more} more, which --json lists\n");
         }
         let inset = format!("  {inset}");
-        words
-            + &self
-                .steps
-                .iter()
-                .map(|step| step.words(&inset))
-                .collect::<String>()
+        let steps = self.steps.iter().map(|step| step.words(&inset, width));
+        words + &steps.collect::<String>()
     }
 
     fn json(&self) -> Json {
