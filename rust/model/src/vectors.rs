@@ -33,6 +33,35 @@ pub enum Vector {
     },
 }
 
+impl Vector {
+    /// What these tests of an offer and of a price find, beside the expected verdict; nothing for a
+    /// case of another kind.
+    pub fn judged<V>(
+        &self,
+        energy: impl Fn(&[u8], u32, u8, &[u8]) -> V,
+        single: impl Fn(&[u8], u32, u8, u8, i32) -> V,
+    ) -> Option<(V, &Result<Verdict, Refusal>)> {
+        match self {
+            Vector::Energy {
+                dossier,
+                hour,
+                condition,
+                offer,
+                verdict,
+            } => Some((energy(dossier, *hour, *condition, offer), verdict)),
+            Vector::Price {
+                dossier,
+                hour,
+                level,
+                condition,
+                price,
+                verdict,
+            } => Some((single(dossier, *hour, *level, *condition, *price), verdict)),
+            _ => None,
+        }
+    }
+}
+
 /// The vectors in the repository's data folder.
 pub fn read() -> Vec<Vector> {
     let path = concat!(env!("CARGO_MANIFEST_DIR"), "/../../data/request-3.txt");

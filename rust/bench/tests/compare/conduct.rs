@@ -7,7 +7,7 @@ use model::make::written::{r1, record};
 use model::make::{self, sound};
 use model::raise::raised;
 use model::random::Random;
-use model::vectors::{read, Vector};
+use model::vectors::read;
 use model::{Failing, Verdict};
 
 type Answer = Result<Verdict, model::Refusal>;
@@ -117,29 +117,8 @@ fn levels_and_conditions() {
 #[test]
 fn every_vector() {
     for vector in read() {
-        match &vector {
-            Vector::Energy {
-                dossier,
-                hour,
-                condition,
-                offer,
-                verdict,
-            } => {
-                let found = energy(dossier, *hour, *condition, offer);
-                assert_eq!(found, *verdict, "{vector:?}");
-            }
-            Vector::Price {
-                dossier,
-                hour,
-                level,
-                condition,
-                price,
-                verdict,
-            } => {
-                let found = single(dossier, *hour, *level, *condition, *price);
-                assert_eq!(found, *verdict, "{vector:?}");
-            }
-            _ => {}
+        if let Some((found, expected)) = vector.judged(energy, single) {
+            assert_eq!(found, *expected, "{vector:?}");
         }
     }
 }
