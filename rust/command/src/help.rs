@@ -42,15 +42,16 @@ Writes the dossier of a text, one record a line, to standard output or to OUT:
   FU issue=3 profile=1 fuel=4.00 emission=1.00
 
 Every field of a record is written, in any order. A wrong line is refused with its number, the field
-and its range, and nothing is written. 'bench help fields' lists the fields. With --together the files
-are joined record by record.
+and its range, and nothing is written; so is an input without a record. 'bench help fields' lists the
+fields. With --together the files are joined record by record.
 ";
 
 pub const UNPACK: &str = "\
 bench unpack [FILE] [--out OUT]
 
 Writes a dossier as text, one record a line, to standard output or to OUT. 'bench pack' makes the same
-bytes of it again. A dossier that draws 1, 2, 3 or 13 can't be read and is refused.
+bytes of it again. A dossier that draws 1, 2, 3 or 13 can't be read and is refused, and so is an input
+without a record.
 ";
 
 pub const CHECK: &str = "\
