@@ -36,7 +36,7 @@ pub const STANDARD: &str = "-";
 pub struct Name {
     words: String,
     /// The value of an object's member `file`.
-    pub file: Json,
+    file: Json,
     /// Its bytes, where they are no text.
     bytes: Option<Json>,
 }
@@ -54,6 +54,18 @@ impl Name {
             file: Json::Text(words),
             bytes: None,
         }
+    }
+
+    /// The members of an object that name several files one by one.
+    pub fn list(names: &[Name]) -> Json {
+        let files = names.iter().map(|name| name.file.clone());
+        let files = object([("files", Json::List(files.collect()))]);
+        if names.iter().all(|name| name.bytes.is_none()) {
+            return files;
+        }
+        let bytes = |name: &Name| name.bytes.clone().unwrap_or(Json::Null);
+        let bytes = names.iter().map(bytes).collect();
+        files.with("files-bytes", Json::List(bytes))
     }
 
     /// The members of an object that name it.

@@ -28,9 +28,10 @@ pub fn ask(
 
 /// What is said of a station, with the names of its files where there are several.
 pub fn told(input: &Input, said: Said) -> Said {
-    match &input.lines.parts[..] {
+    let names = input.lines.parts.iter().map(|part| part.name.clone());
+    match &names.collect::<Vec<Name>>()[..] {
         [] => said,
-        parts => with_names(parts.iter().map(|part| part.name.file.clone()), said),
+        names => with_names(names, said),
     }
 }
 
@@ -53,13 +54,13 @@ pub fn only(args: &Args) -> Result<Result<Input, (Name, Said)>, Stop> {
 
 /// What is said of files that form no station, with their names.
 pub fn with_files(files: &[OsString], said: Said) -> Said {
-    with_names(files.iter().map(|file| input::name(file).file), said)
+    let names: Vec<Name> = files.iter().map(|file| input::name(file)).collect();
+    with_names(&names, said)
 }
 
 /// The names of the files in an answer's object, before what is said of them.
-fn with_names(names: impl Iterator<Item = Json>, said: Said) -> Said {
-    let names = object([("files", Json::List(names.collect()))]);
-    let json = names.and(said.json);
+fn with_names(names: &[Name], said: Said) -> Said {
+    let json = Name::list(names).and(said.json);
     Said { json, ..said }
 }
 

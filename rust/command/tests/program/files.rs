@@ -258,6 +258,20 @@ fn any_name_is_told() {
     assert!(text(&ended.stderr).starts_with("standard input: "));
 }
 
+/// Of several files in one answer too.
+#[test]
+fn names_of_several_files_are_told() {
+    let folder = stations();
+    let name = OsStr::from_bytes(b"\xff");
+    fs::write(folder.0.join(name), example("newer.price")).expect("a file");
+    let mut program = Command::new(PROGRAM);
+    program.current_dir(&folder.0).args(["check", "s.txt"]);
+    let ended = program.arg(name).args(["--together", "--json"]).output();
+    let shown = text(&ended.expect("the command runs").stdout);
+    let named = r#","files":["s.txt","\\xff"],"files-bytes":[null,"ff"],"accepted":"#;
+    assert!(shown.contains(named), "{shown}");
+}
+
 #[test]
 fn outputs_may_have_any_name() {
     let folder = stations();
