@@ -33,7 +33,7 @@ fn price_from_top_in(d: &[u8], index: &[u16], places: usize, place: usize, table
     arithmetic::highest::from_top(&table[from..], place)
 }
 
-// The same. A short forecast would cost less than clearing an array for the longest.
+// The same. A short forecast has a short array: to clear one for the longest would be a seventh of its time.
 fn price_from_top(d: &[u8], index: &[u16], places: usize, place: usize) -> u32
     requires { ⌜ Indexed (now d) (now index) × Complete (now d) (now index) × (places ≤ 4000) × (1 ≤ place) × (place ≤ places) ⌝ }
     ensures { λ r. ⌜ (r ≡ fromTop place (listTo places (placePrice (amountsIn (now (d .entry)))))) × (r ≤ 2147683648) ⌝ }

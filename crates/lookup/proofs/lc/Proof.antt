@@ -15,7 +15,8 @@ part-at-requires c κs =
 returns : tie.Need-returns
 returns c =
     let p = c .before .before .before .before .pre in
-    c .part-at .ensures ∙ part-current _ _ (p .0) LC _ last-cost-key (narrow-fits _ _ (p .0) (p .1) LC _ last-cost-key refl) (c .before .slot-lc .ensures) (sym lc-size)
+    let fits = narrow-fits _ _ (p .0) (p .1) LC _ last-cost-key refl in
+    c .part-at .ensures ∙ part-current _ _ (p .0) LC _ last-cost-key fits (c .before .slot-lc .ensures) (sym lc-size)
 
 pub lc-spec : {M : Type 1} → statement M
 lc-spec = tie.close (tie.spec (λ c κs. search needs) part-at-requires returns)

@@ -16,7 +16,8 @@ part-at-requires c κs =
 returns : tie.Need-returns
 returns c =
     let a = c .before .before .before .before in
-    c .part-at .ensures ∙ held-found (a .pre .0) MM _ refl (item-key _ _ (a .pre .1) (a .pre .2) (a .pre .3) (a .pre .4)) (c .before .slot-mm .ensures) (sym mm-size)
+    let key = item-key _ _ (a .pre .1) (a .pre .2) (a .pre .3) (a .pre .4) in
+    c .part-at .ensures ∙ held-found (a .pre .0) MM _ refl key (c .before .slot-mm .ensures) (sym mm-size)
 
 pub mm-spec : {M : Type 1} → statement M
 mm-spec = tie.close (tie.spec (λ c κs. search needs) part-at-requires returns)

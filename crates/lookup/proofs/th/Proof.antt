@@ -15,7 +15,8 @@ part-at-requires c κs =
 returns : tie.Need-returns
 returns c =
     let a = c .before .before .before .before in
-    c .part-at .ensures ∙ part-found _ _ (a .pre .0) TH _ refl (threshold-key _ _ (a .pre .1) (a .pre .2) (a .pre .3) (a .pre .4)) (c .before .slot-th .ensures) (sym th-size)
+    let key = threshold-key _ _ (a .pre .1) (a .pre .2) (a .pre .3) (a .pre .4) in
+    c .part-at .ensures ∙ part-found _ _ (a .pre .0) TH _ refl key (c .before .slot-th .ensures) (sym th-size)
 
 pub th-spec : {M : Type 1} → statement M
 th-spec = tie.close (tie.spec (λ c κs. search needs) part-at-requires returns)
