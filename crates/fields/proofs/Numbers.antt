@@ -9,9 +9,9 @@ use lib.Dec.{ltb}
 use lib.IntN.{pos, negsuc, _+ℤ_}
 use lib.ListN.{getD, drop}
 use lib.Seq.{getD-drop}
-use borrow.Author.Tests.{ltb-true, ltb-false, le-ltb}
+use borrow.Author.Tests.{ltb-true, ltb-false, lt-ltb, le-ltb}
 use Rattle.lists.specs.Lists.{Each, done, also}
-use Rattle.fields.specs.Numbers.{number, bytesOnto, bytesOf, bias, biased, biasedOf, signed}
+use Rattle.fields.specs.Numbers.{number, bytesOnto, bytesOf, bias, biased, biasedOf, unbiased, signed}
 
 -- alike in its bytes, a number is the same
 pub number-same : (o w : ℕ) (r s : List ℕ) → ((i : ℕ) → o ≤ i → i < o + w → getD r i 0 ≡ getD s i 0) → number o w r ≡ number o w s
@@ -84,6 +84,30 @@ unfolding biased biasedOf signed
 biasedOf-signed n h = go (ltb n 2147483648) refl
   where
     go : (b : Bool) → ltb n 2147483648 ≡ b → biasedOf (cond b (pos n) (negsuc (4294967295 - n))) ≡ (n + 2147483648) % 4294967296
+    go true e = omega (arith, ltb-true n 2147483648 e)
+    go false e = omega (arith, ltb-false n 2147483648 e)
+
+-- the other way
+pub unbiased-biased : (n : ℕ) → n < 4294967296 → unbiased (biased n) ≡ signed n
+unfolding biased unbiased signed
+unbiased-biased n h = go (ltb n 2147483648) refl
+  where
+    go : (b : Bool) → ltb n 2147483648 ≡ b
+        → cond (ltb ((n + 2147483648) % 4294967296) 2147483648) (negsuc (2147483647 - (n + 2147483648) % 4294967296)) (pos
+        ((n + 2147483648) % 4294967296 - 2147483648))
+        ≡ cond b (pos n) (negsuc (4294967295 - n))
+    go true e =
+        let z : (n + 2147483648) % 4294967296 ≡ n + 2147483648 = omega (arith, ltb-true n 2147483648 e) in
+        rw (z, le-ltb (n + 2147483648) 2147483648 (omega arith)) (ap pos (omega arith))
+    go false e =
+        let z : (n + 2147483648) % 4294967296 ≡ n - 2147483648 = omega (arith, ltb-false n 2147483648 e) in
+        rw (z, lt-ltb (n - 2147483648) 2147483648 (omega arith)) (ap negsuc (omega (arith, ltb-false n 2147483648 e)))
+
+pub biasedOf-unbiased : (n : ℕ) → biasedOf (unbiased n) ≡ n
+unfolding biasedOf unbiased
+biasedOf-unbiased n = go (ltb n 2147483648) refl
+  where
+    go : (b : Bool) → ltb n 2147483648 ≡ b → biasedOf (cond b (negsuc (2147483647 - n)) (pos (n - 2147483648))) ≡ n
     go true e = omega (arith, ltb-true n 2147483648 e)
     go false e = omega (arith, ltb-false n 2147483648 e)
 

@@ -37,3 +37,7 @@ biased n = (n + 2147483648) % 4294967296
 unfoldable pub biasedOf : ℤ → ℕ
 biasedOf (pos n) = n + 2147483648
 biasedOf (negsuc n) = 2147483647 - n
+
+-- the signed number that is held plus the bias; the law `unbiased-biased` says that it is the one that four bytes mean
+unfoldable pub unbiased : ℕ → ℤ
+unbiased n = cond (ltb n 2147483648) (negsuc (2147483647 - n)) (pos (n - 2147483648))

@@ -6,7 +6,8 @@ use Rattle.formulas.specs.Levels.{covers, profileOf, profile, adders, ma
 use Rattle.formulas.specs.Levels.{noLoadCost, nuclearEnergy, totalEnergy, chargingSum, chargingCost, shortRunCost, highestSum, opportunityCost}
 use Rattle.formulas.specs.Levels.{storageEnergy, forecastPlace, forecastPrice, hydroEnergy, laminations, oneLamination, single, linesOf, lines, levels}
 use Rattle.formulas.specs.Levels.{hourAnswer}
-use Rattle.formulas.specs.Sums.{sumTo, sumOf, listTo, insert, falling, sumFirst, sumHighest, fromTop}
+use Rattle.lists.specs.Sums.{sumTo}
+use Rattle.formulas.specs.Sums.{sumOf, listTo, insert, falling, sumFirst, sumHighest, fromTop}
 
 -- how many definitions there are to open
 unfoldable pub computed : ℕ

@@ -12,13 +12,14 @@ use Rattle.lists.proofs.Tests.{cond-holds, cond-relates}
 use Rattle.records.specs.Table.{FU, AD, MM, HR, CH, FP, LC}
 use Rattle.station.specs.Parameters.{Parameters, Amounts, Higher, technology, efficiency, window, chargeEnergy, chargePrice, lastCost, adderKey, itemKey}
 use Rattle.rules.specs.Curve.{fullHours}
-use Rattle.formulas.specs.Sums.{sumTo}
+use Rattle.lists.specs.Sums.{sumTo}
 use Rattle.formulas.specs.Exact.{Sum, whole, share}
 use Rattle.formulas.specs.Levels.{profile, adders, maintenance, additions, startMaintenance, thermalEnergy, heatCost, startCost, noLoadCost}
 use Rattle.formulas.specs.Levels.{nuclearEnergy, totalEnergy, chargingSum, chargingCost, shortRunCost, highestSum, opportunityCost, storageEnergy}
 use Rattle.formulas.specs.Levels.{forecastPlace, forecastPrice, hydroEnergy, Line, line, amount, NoLower, CloseLine, laminations, oneLamination, single}
 use Rattle.formulas.specs.Levels.{linesOf, lines}
-use Rattle.formulas.proofs.Sums.{sumTo-mono, listTo-mono, sumHighest-mono, fromTop-mono}
+use Rattle.lists.proofs.Sums.{sumTo-mono}
+use Rattle.formulas.proofs.Sums.{listTo-mono, sumHighest-mono, fromTop-mono}
 use Rattle.formulas.proofs.Exact.{Below, wholes, shares, both, totals, perThousands, greaters, microDollars-mono, cents-mono, divisions, Efficient}
 use Rattle.formulas.proofs.Exact.{close}
 

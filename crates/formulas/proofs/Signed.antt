@@ -4,7 +4,8 @@ use Prim.Native.Nat.{ℕ, zero, suc, _+_, _*_, _-_}
 use native.Mathlib.Omega.{arith}
 use Rattle.fields.specs.Numbers.{bias}
 use Rattle.station.specs.Parameters.{Parameters, Amounts, window, chargePrice, chargeEnergy, placePrice}
-use Rattle.formulas.specs.Sums.{sumTo, listTo, fromTop}
+use Rattle.lists.specs.Sums.{sumTo}
+use Rattle.formulas.specs.Sums.{listTo, fromTop}
 use Rattle.formulas.specs.Levels.{totalEnergy, chargingSum, forecastPlace, forecastPrice}
 
 -- a held price is the bias and what is paid, less what is received

@@ -2,19 +2,18 @@
 use mathlib.Core.Path.{_≡_, refl, ap, sym, subst, _∙_}
 use mathlib.Core.Bool.{Bool, true, false, cond}
 use mathlib.Core.List.{List, [], _∷_}
-use Prim.Native.Nat.{ℕ, zero, suc, _+_, _*_, _-_, _≤_, _<_, max, min}
+use Prim.Native.Nat.{ℕ, zero, suc, _+_, _-_, _≤_, _<_, max, min}
 use native.Mathlib.Nat.{le-refl, le-trans, add-le-add, add-comm, max-eq-left, max-eq-right, min-eq-left, min-eq-right}
-use native.Mathlib.Decide.{decLe, ℕ-discrete}
+use native.Mathlib.Decide.{decLe}
 use native.Mathlib.Numerals.{add-one}
 use native.Mathlib.Omega.{arith}
-use lib.Arith.{lt-of-le-ne}
 use lib.Dec.{eqb, leb, ltb}
 use lib.ListN.{length, getD}
 use borrow.Author.Tests.{eqb-true, lt-ltb, le-ltb, le-leb, lt-leb, eq-eqb, ne-eqb}
 use mir.Val.{boolByte}
 use Rattle.lists.specs.Lists.{Each, done, also, Pairwise, none, more, Member, here, there}
 use Rattle.lists.specs.Tests.{countTo}
-use Rattle.formulas.specs.Sums.{sumTo, sumOf, listTo, insert, falling, sumFirst, sumHighest, fromTop, above, atLeast}
+use Rattle.formulas.specs.Sums.{sumOf, listTo, insert, falling, sumFirst, sumHighest, fromTop, above, atLeast}
 
 -- a test as a number
 pub one-if : (b : Bool) → boolByte b ≡ cond b 1 0
@@ -35,51 +34,7 @@ max-mono h g = omega arith
 pub min-mono : {a b c d : ℕ} → a ≤ b → c ≤ d → min a c ≤ min b d
 min-mono h g = omega arith
 
-pub sumTo-mono : (n : ℕ) {f g : ℕ → ℕ} → ((k : ℕ) → f k ≤ g k) → sumTo n f ≤ sumTo n g
-unfolding sumTo
-sumTo-mono zero h = le-refl 0
-sumTo-mono (suc n) h = add-le-add (sumTo-mono n h) (h (suc n))
-
--- parts that are 0 add nothing
-pub sumTo-zeros : (f : ℕ → ℕ) (n m : ℕ) → ((i : ℕ) → i < m → f (suc (n + i)) ≡ 0) → sumTo (n + m) f ≡ sumTo n f
-unfolding sumTo
-sumTo-zeros f n zero h =
-    let e : n + 0 ≡ n = omega arith in
-    rw e refl
-sumTo-zeros f n (suc m) h =
-    let e : n + suc m ≡ suc (n + m) = omega arith in
-    rw (e, h m (omega arith), sumTo-zeros f n m (λ i q. h i (omega arith))) (omega arith)
-
--- parts that are the same, and parts of which one is x higher
-pub sumTo-same : (n : ℕ) (f g : ℕ → ℕ) → ((k : ℕ) → 1 ≤ k → k ≤ n → f k ≡ g k) → sumTo n f ≡ sumTo n g
-unfolding sumTo
-sumTo-same zero f g h = refl
-sumTo-same (suc n) f g h = rw (sumTo-same n f g (λ k a b. h k a (omega arith)), h (suc n) (omega arith) (omega arith)) refl
-
-pub sumTo-moved : (n m x : ℕ) (f g : ℕ → ℕ) → 1 ≤ m → m ≤ n → ((k : ℕ) → 1 ≤ k → k ≤ n → (k ≡ m → ⊥) → f k ≡ g k) → f m ≡ g m + x → sumTo n f ≡ sumTo n g + x
-unfolding sumTo
-sumTo-moved zero m x f g a b h e = absurd (omega arith)
-sumTo-moved (suc n) m x f g a b h e = go (ℕ-discrete m (suc n)) (λ c. sumTo-moved n m x f g a c (λ k u v w. h k u (omega arith) w) e)
-  where
-    go : Dec (m ≡ suc n) → (m ≤ n → sumTo n f ≡ sumTo n g + x) → sumTo n f + f (suc n) ≡ sumTo n g + g (suc n) + x
-    go (yes z) i = rw (sumTo-same n f g (λ k c d. h k c (omega arith) (λ w. omega arith)), ← z, e) (omega arith)
-    go (no z) i = rw (i (omega (arith, lt-of-le-ne b z)), h (suc n) (omega arith) (omega arith) (λ w. z (sym w))) (omega arith)
-
--- parts of b at most
-pub sumTo-within : (n b : ℕ) (f : ℕ → ℕ) → ((k : ℕ) → f k ≤ b) → sumTo n f ≤ n * b
-unfolding sumTo
-sumTo-within zero b f h = omega arith
-sumTo-within (suc n) b f h = omega (arith, sumTo-within n b f h, h (suc n))
-
--- one more turn of a loop that sums, and its end
-pub sum-more : (f : ℕ → ℕ) (n s x : ℕ) → s ≡ sumTo n f → x ≡ f (n + 1) → s + x ≡ sumTo (n + 1) f
-unfolding sumTo
-sum-more f n s x e g = rw (add-one n, e, rw (add-one n) at g) refl
-
-pub sum-ends : (f : ℕ → ℕ) (n k s : ℕ) → k ≤ n → n ≤ k → s ≡ sumTo n f → s ≡ sumTo k f
-sum-ends f n k s p q e = e ∙ ap (λ (j : ℕ). sumTo j f) (omega arith)
-
--- the same of a loop that counts
+-- one more turn of a loop that counts, and its end
 pub count-more : (f : ℕ → Bool) (n c : ℕ) (b : Bool) → c ≡ countTo n f → b ≡ f (n + 1) → c + boolByte b ≡ countTo (n + 1) f
 unfolding countTo
 count-more f n c b e g = rw (add-one n, e, one-if b, rw (add-one n) at g) refl

@@ -3,7 +3,7 @@
 use mathlib.Core.Bool.{cond}
 use Prim.Native.Nat.{ℕ, zero, suc, _+_, _*_, _/_, _≤_, _<_, max}
 use lib.Dec.{leb, eqb}
-use Rattle.formulas.specs.Sums.{sumTo}
+use Rattle.lists.specs.Sums.{sumTo}
 
 infixl 60 _⊕_
 -- a sum of micro-dollars, as the paper's formulas build it

@@ -13,7 +13,8 @@ use Rattle.station.specs.Parameters.{requested, hourPrice, chargePrice, chargeE
 use Rattle.rules.specs.Fit.{energy, start, noLoad, reserve}
 use Rattle.rules.specs.Curve.{points, rise, fullHours}
 use Rattle.rules.specs.Answer.{answer}
-use Rattle.formulas.specs.Sums.{sumTo, listTo, sumHighest, fromTop}
+use Rattle.lists.specs.Sums.{sumTo}
+use Rattle.formulas.specs.Sums.{listTo, sumHighest, fromTop}
 use Rattle.formulas.specs.Exact.{Sum, whole, share, _⊕_, total, perThousand, greater, microDollars, exact, cents, Close}
 
 -- ---- what a dossier's current records say

@@ -1,14 +1,9 @@
--- Sums over keys, and the highest of a list or its place from the top.
+-- The highest of a list, or its place from the top.
 use mathlib.Core.Bool.{cond}
 use mathlib.Core.List.{List, [], _∷_}
 use Prim.Native.Nat.{ℕ, zero, suc, _+_, max, min}
 use lib.Dec.{leb, ltb}
 use lib.ListN.{getD}
-
--- f 1 + … + f n
-unfoldable pub sumTo : ℕ → (ℕ → ℕ) → ℕ
-sumTo zero f = 0
-sumTo (suc n) f = sumTo n f + f (suc n)
 
 -- f of each element of a list, added up
 unfoldable pub sumOf : (ℕ → ℕ) → List ℕ → ℕ

@@ -13,7 +13,7 @@ use Rattle.records.specs.declared.Answer.the-variants.{Accepted, Refused
 use Rattle.records.specs.Record.{mark, size, fault}
 use Rattle.records.specs.Answers.{orElse, drawn}
 use Rattle.records.specs.Dossier.{firstOf, restOf, recordsIn, records, firstDrawn, scan}
-use Rattle.records.specs.Walk.{Record, Faulty, found, Step, Walked, ended, stopped, folded, walkFrom, walk}
+use Rattle.records.specs.Walk.{Record, Faulty, found, Step, Walked, ended, stopped, folded, walkFrom, walk, Rest}
 use Rattle.records.proofs.Answers.{orElse-assoc, orElse-none}
 use Rattle.records.proofs.Dossier.{first-length}
 use Rattle.records.proofs.Record.{size-ge}
@@ -88,10 +88,6 @@ module _ {A : Type 0} (step : Step A) where
   unfolding walk records
   walk-is-fold a d = walk-in (length d) 0 a d
 
-  -- the loops of the code: enough fuel is left, and from here the walk gives what it gives of the whole
-  abbrev pub Rest : A → List ℕ → ℕ → A → Type 0
-  Rest a₀ d p a = (f : ℕ) × (length d ≤ p + f) × (walkFrom step f p a (drop p d) ≡ walk step a₀ d)
-
   one : (f p : ℕ) (a : A) (s : List ℕ) → 0 < length s → fault (firstOf s) ≡ 0
       → walkFrom step (suc f) p a s ≡ walkFrom step f (p + size (mark s)) (step a p (firstOf s)) (restOf s)
   unfolding walkFrom
@@ -110,14 +106,15 @@ module _ {A : Type 0} (step : Step A) where
   halt f p a (b ∷ s) h e = rw (ne-eqb (fault (firstOf (b ∷ s))) 0 e) refl
 
   module _ (a₀ : A) (d : List ℕ) where
-    pub start : Rest a₀ d 0 a₀
+    pub start : Rest step a₀ d 0 a₀
     unfolding walk
     start = (length d, omega arith, refl)
 
     left : (p : ℕ) → p < length d → 0 < length (drop p d)
     left p h = simp length-drop (omega arith)
 
-    pub next : (p : ℕ) (a : A) (k n : ℕ) → p < length d → Rest a₀ d p a → found (drop p d) ≡ Record k n → Rest a₀ d (p + n) (step a p (take n (drop p d)))
+    pub next : (p : ℕ) (a : A) (k n : ℕ) → p < length d → Rest step a₀ d p a → found (drop p d) ≡ Record k n
+        → Rest step a₀ d (p + n) (step a p (take n (drop p d)))
     unfolding firstOf restOf
     next p a k n h (zero, b, e) r = absurd (omega arith)
     next p a k n h (suc f, b, e) r =
@@ -130,11 +127,11 @@ module _ {A : Type 0} (step : Step A) where
               (sym (drop-drop (size (mark (drop p d))) p d)) ∙ sym (one f p a (drop p d) (left p h) (z .2)) ∙ e,
         )
 
-    pub stop : (p : ℕ) (a : A) (m : ℕ) → p < length d → Rest a₀ d p a → found (drop p d) ≡ Faulty m → walk step a₀ d ≡ stopped m p
+    pub stop : (p : ℕ) (a : A) (m : ℕ) → p < length d → Rest step a₀ d p a → found (drop p d) ≡ Faulty m → walk step a₀ d ≡ stopped m p
     stop p a m h (zero, b, e) r = absurd (omega arith)
     stop p a m h (suc f, b, e) r =
         let z = found-fault (drop p d) m r in
         sym e ∙ halt f p a (drop p d) (left p h) (z .1) ∙ ap (λ (x : ℕ). stopped x p) (sym (z .0))
 
-    pub end : (p : ℕ) (a : A) → length d ≤ p → Rest a₀ d p a → walk step a₀ d ≡ ended a
+    pub end : (p : ℕ) (a : A) → length d ≤ p → Rest step a₀ d p a → walk step a₀ d ≡ ended a
     end p a h (f, b, e) = sym e ∙ none-left f p a (drop p d) (simp length-drop (omega arith))

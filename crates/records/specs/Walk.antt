@@ -1,10 +1,11 @@
 -- How code goes through a dossier: it finds one record at the front of the rest, takes a step with it, and goes on.
 -- No paper speaks of this; `walk-is-fold` ties it to the list of records.
+use mathlib.Core.Path.{_≡_}
 use mathlib.Core.Bool.{cond}
 use mathlib.Core.List.{List, [], _∷_}
-use Prim.Native.Nat.{ℕ, zero, suc, _+_}
+use Prim.Native.Nat.{ℕ, zero, suc, _+_, _≤_}
 use lib.Dec.{eqb}
-use lib.ListN.{length}
+use lib.ListN.{length, drop}
 use Rattle.records.specs.Record.{mark, size, fault}
 use Rattle.records.specs.Dossier.{firstOf, restOf}
 
@@ -42,3 +43,7 @@ walkFrom step (suc f) p a (b ∷ s) =
 -- over a dossier
 unfoldable pub walk : {A : Type 0} → Step A → A → List ℕ → Walked A
 walk step a d = walkFrom step (length d) 0 a d
+
+-- the loops of the code: from place p with state a the walk gives what it gives of the whole with a₀
+abbrev pub Rest : {A : Type 0} → Step A → A → List ℕ → ℕ → A → Type 0
+Rest step a₀ d p a = (f : ℕ) × (length d ≤ p + f) × (walkFrom step f p a (drop p d) ≡ walk step a₀ d)

@@ -4,3 +4,4 @@ pub mod Fit
 pub mod ByMark
 pub mod Draws
 pub mod Sound
+pub mod Week

@@ -3,3 +3,4 @@ pub mod Current
 pub mod Twins
 pub mod Parameters
 pub mod Fields
+pub mod Week

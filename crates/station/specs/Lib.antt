@@ -1,3 +1,4 @@
 pub mod Current
 pub mod Declared
 pub mod Parameters
+pub mod Week
