@@ -3,3 +3,6 @@ pub mod Slots
 pub mod Holds
 pub mod Turn
 pub mod Entries
+pub mod Intervals
+pub mod HeldSums
+pub mod Runs

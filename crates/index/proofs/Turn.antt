@@ -1,6 +1,6 @@
 -- One turn of the pass.
 use mathlib.Core.Path.{_≡_, refl, ap, ap₂, subst, _∙_}
-use mathlib.Core.Bool.{Bool, true, _&&_}
+use mathlib.Core.Bool.{Bool, _&&_}
 use mathlib.Core.List.{List, [], _∷_}
 use Prim.Native.Nat.{ℕ, zero, suc, _+_, _-_, _≤_, _<_}
 use native.Mathlib.Omega.{arith}
@@ -14,12 +14,12 @@ use Rattle.fields.specs.Numbers.{number}
 use Rattle.records.specs.Record.{mark, size, issue, keyWidth, keyOf, fault}
 use Rattle.records.specs.MarkShapes.{shortest}
 use Rattle.records.specs.Dossier.{firstOf}
-use Rattle.records.specs.Walk.{Record, found}
+use Rattle.records.specs.Walk.{Record, found, Rest}
 use Rattle.records.proofs.Record.{mark-take, size-ge, key-ends, faultless}
 use Rattle.records.proofs.Marks.{mark-lt, size-least}
-use Rattle.records.proofs.Walk.{found-record, found-within, Rest, next}
+use Rattle.records.proofs.Walk.{found-record, found-within, next}
 use Rattle.records.proofs.Read.{number-take}
-use Rattle.index.specs.Slots.{slotAt, slot, wide, heldIssue, newer, higher, kept, keepStep}
+use Rattle.index.specs.Slots.{slotAt, slot, wide, heldIssue, newer, higher, Kept, kept, keepStep}
 use Rattle.index.proofs.KeyBounds.{in-key}
 use Rattle.index.proofs.Slots.{slot-lt}
 
@@ -73,15 +73,15 @@ set-beyond [] i x h = refl
 set-beyond (y ∷ l) zero x h = absurd (omega arith)
 set-beyond (y ∷ l) (suc i) x h = ap (λ (m : List ℕ). y ∷ m) (set-beyond l i x (omega arith))
 
-module _ (d ix₀ ix : List ℕ) (at k n : ℕ) (b : Bool) (c : ℕ) (h : at < length d) (r : Rest (keepStep d) (kept ix₀ true 0) d at (kept ix b c))
+module _ (d : List ℕ) (x : Kept) (ix : List ℕ) (at k n : ℕ) (b : Bool) (c : ℕ) (h : at < length d) (r : Rest (keepStep d) x d at (kept ix b c))
     (e : found (drop at d) ≡ Record k n) {j : ℕ} (ej : j ≡ slotAt k (take (length d - at) (drop at d))) where
-  after : Rest (keepStep d) (kept ix₀ true 0) d (at + n)
+  after : Rest (keepStep d) x d (at + n)
       (kept (set ix (slotAt k (drop at d)) (newer (heldIssue d (getD ix (slotAt k (drop at d)) 0)) (number 2 4 (drop at d) + 1)
       (getD ix (slotAt k (drop at d)) 0) (at + 1))) (b && ltb (heldIssue d (getD ix (slotAt k (drop at d)) 0)) (number 2 4 (drop at d) + 1))
       (higher c (slotAt k (drop at d))))
   after =
-      subst (Rest (keepStep d) (kept ix₀ true 0) d (at + n)) (step-is (drop at d) k n e d ix b c at)
-      (next (keepStep d) (kept ix₀ true 0) d at (kept ix b c) k n h r e)
+      subst (Rest (keepStep d) x d (at + n)) (step-is (drop at d) k n e d ix b c at)
+      (next (keepStep d) x d at (kept ix b c) k n h r e)
 
   ej′ : j ≡ slotAt k (drop at d)
   ej′ = ej ∙ ap (slotAt k) (tail d at)
@@ -89,21 +89,21 @@ module _ (d ix₀ ix : List ℕ) (at k n : ℕ) (b : Bool) (c : ℕ) (h : at < l
   -- a record with a slot in the index
   pub turn : {w a g m : ℕ} → w ≡ number 2 4 (take (length d - at) (drop at d)) → a ≡ heldIssue d (getD ix j 0) → g ≡ newer a (w + 1) (getD ix j 0) (at + 1)
       → m ≡ higher c j
-      → Rest (keepStep d) (kept ix₀ true 0) d (at + n) (kept (set ix j g) (b && ltb a (w + 1)) m)
+      → Rest (keepStep d) x d (at + n) (kept (set ix j g) (b && ltb a (w + 1)) m)
   turn ew ea eg em =
       let ew′ = ew ∙ ap (number 2 4) (tail d at) in
       rw (em, eg, ea, ej′, ew′) after
 
   -- one without
-  pub turn-beyond : {m : ℕ} → length ix ≤ j → m ≡ higher c j → Rest (keepStep d) (kept ix₀ true 0) d (at + n) (kept ix b m)
+  pub turn-beyond : {m : ℕ} → length ix ≤ j → m ≡ higher c j → Rest (keepStep d) x d (at + n) (kept ix b m)
   unfolding heldIssue
   turn-beyond z em =
       let q : ℕ = slotAt k (drop at d) in
       let m : length ix ≤ q = rw ej′ at z in
       let v : getD ix q 0 ≡ 0 = List·getD-eq-default ix 0 {n = q} m in
-      let x : b && ltb (heldIssue d (getD ix q 0)) (number 2 4 (drop at d) + 1) ≡ b = rw (v, lt-ltb 0 (number 2 4 (drop at d) + 1) (omega arith))
+      let u : b && ltb (heldIssue d (getD ix q 0)) (number 2 4 (drop at d) + 1) ≡ b = rw (v, lt-ltb 0 (number 2 4 (drop at d) + 1) (omega arith))
       (and-true b) in
-      rw (em, ej′) (rw (set-beyond ix q (newer (heldIssue d (getD ix q 0)) (number 2 4 (drop at d) + 1) (getD ix q 0) (at + 1)) m, x) at after)
+      rw (em, ej′) (rw (set-beyond ix q (newer (heldIssue d (getD ix q 0)) (number 2 4 (drop at d) + 1) (getD ix q 0) (at + 1)) m, u) at after)
 
 pub below : (d : List ℕ) (at k n : ℕ) {j : ℕ} → found (drop at d) ≡ Record k n → j ≡ slotAt k (take (length d - at) (drop at d)) → j < wide
 below d at k n e ej = rw (ej, tail d at) (slot-below (drop at d) k n e)

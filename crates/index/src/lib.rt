@@ -1,4 +1,5 @@
 // One pass over a dossier fills an index: for each mark and key the place of the current record.
+pub mod charging;
 pub mod keys;
 pub mod reader;
 
@@ -7,7 +8,9 @@ ghost use mathlib.Core.Bool.{true};
 ghost use Prim.Native.Nat.{_+_, _<_, _≤_};
 ghost use lib.ListN.{length};
 ghost use Rattle.records.specs.Walk.{walk};
+ghost use Rattle.index.specs.Intervals.{HeldIn};
 ghost use Rattle.index.specs.Slots.{heldIssue, newer, higher, kept, keepStep, passOf, slotsOf, slotsEmpty, slotsFull};
+use crate::charging::Run;
 use crate::reader::read;
 
 // The slots of marks that every station may have and of HR; of all marks but FP; and with them.
@@ -64,38 +67,58 @@ fn higher_of(a: usize, b: usize) -> usize
 
 // A slot holds the place of its record plus 1, 0 for none: two bytes, so that an empty index is soon made. The issue is read where the record lies.
 // Few dossiers have the marks whose slots come last, so an index may end before them; a record without a slot is passed over, as the highest slot tells.
-pub fn pass(d: &[u8], index: &mut [u16]) -> Passed
-    requires { ⌜ length (now d) ≤ 60000 ⌝ }
+// The records of charging intervals are read in runs, which keep the week's sums; those of an empty index are 0.
+pub fn pass(d: &[u8], index: &mut [u16], sums: &mut [u64]) -> Passed
+    requires { ⌜ (length (now d) ≤ 60000) × (length (now sums) ≡ 2) × HeldIn (now d) (now index) (now sums) ⌝ }
     ensures { λ r. ⌜ (r ≡ passOf (walk (keepStep (now (d .entry))) (kept (now (index .entry)) true 0) (now (d .entry))))
-        × (now (index .exit) ≡ slotsOf (now (index .exit)) (walk (keepStep (now (d .entry))) (kept (now (index .entry)) true 0) (now (d .entry)))) ⌝ }
+        × (now (index .exit) ≡ slotsOf (now (index .exit)) (walk (keepStep (now (d .entry))) (kept (now (index .entry)) true 0) (now (d .entry))))
+        × HeldIn (now (d .entry)) (now (index .exit)) (now (sums .exit)) ⌝ }
 {
     let mut at = 0;
     let mut rising = true;
     let mut top = 0;
     while at < d.len() {
         let rest = &d[at..];
-        match read(rest) {
-            Reading::Whole(entry) => {
-                // never so: it tells the compiler that the issue's bytes are there
-                if rest.len() < 6 {
-                    return Passed::Stopped {
-                        number: 2,
-                        place: at,
-                    };
-                }
-                let j = entry.slot;
-                top = higher_of(top, j);
-                if j < index.len() {
-                    let issue = (fields::u32_at(rest, 2) as u64) + 1;
-                    let v = index[j];
-                    let held = issue_held(d, v);
-                    rising = rising & (held < issue);
-                    index[j] = newer_of(held, issue, v, (at as u16) + 1);
-                }
-                at += entry.len;
+        if reader::begins_interval(rest) {
+            let before = Run {
+                end: at,
+                rising,
+                top,
+            };
+            let run = charging::intervals_from(d, before, index, sums);
+            if run.end == at {
+                return Passed::Stopped {
+                    number: reader::interval_fault(rest),
+                    place: at,
+                };
             }
-            Reading::Fault(number) => {
-                return Passed::Stopped { number, place: at };
+            at = run.end;
+            rising = run.rising;
+            top = run.top;
+        } else {
+            match read(rest) {
+                Reading::Whole(entry) => {
+                    // never so: it tells the compiler that the issue's bytes are there
+                    if rest.len() < 6 {
+                        return Passed::Stopped {
+                            number: 2,
+                            place: at,
+                        };
+                    }
+                    let j = entry.slot;
+                    top = higher_of(top, j);
+                    if j < index.len() {
+                        let issue = (fields::u32_at(rest, 2) as u64) + 1;
+                        let v = index[j];
+                        let held = issue_held(d, v);
+                        rising = rising & (held < issue);
+                        index[j] = newer_of(held, issue, v, (at as u16) + 1);
+                    }
+                    at += entry.len;
+                }
+                Reading::Fault(number) => {
+                    return Passed::Stopped { number, place: at };
+                }
             }
         }
     }

@@ -1,10 +1,14 @@
 // The record reader: one record at the front of the rest of a dossier, with its length and slot.
 ghost use mathlib.Core.Path.{_≡_};
+ghost use mathlib.Core.Bool.{true, false, _&&_};
 ghost use Prim.Native.Nat.{_≤_};
+ghost use lib.Dec.{leb};
 ghost use lib.ListN.{length, getD};
 ghost use Rattle.records.specs.Table.{RS, HP, FU, AD, MM, RQ, HR, CH, TH, FP, LC};
 ghost use Rattle.records.specs.Record.{mark, keyWidth};
 ghost use Rattle.records.specs.MarkShapes.{begins};
+ghost use Rattle.index.specs.Intervals.{isInterval};
+ghost use Rattle.index.specs.declared.Reading.the-variants.{Fault};
 ghost use Rattle.index.specs.Entries.{entryAs, checked, readingAs, readingOf};
 use crate::Entry;
 use crate::Reading;
@@ -276,10 +280,31 @@ fn entry_keyless(rest: &[u8]) -> Entry
 
 // Whether a rest begins with a mark, byte by byte: CH, the commonest, is tried by itself so, before the others, which the compiler tries together. A
 // battery is read a tenth sooner.
-fn begins_with(rest: &[u8], m: &[u8; 2]) -> bool
+pub fn begins_with(rest: &[u8], m: &[u8; 2]) -> bool
     ensures { λ r. ⌜ r ≡ begins (now (rest .entry)) (getD (now (m .entry)) 0 0) (getD (now (m .entry)) 1 0) ⌝ }
 {
     (fields::byte_at(rest, 0) == m[0]) & (fields::byte_at(rest, 1) == m[1])
+}
+
+// Whether a CH begins a rest.
+pub fn begins_interval(s: &[u8]) -> bool
+    ensures { λ r. ⌜ r ≡ leb 2 (length (now (s .entry))) && begins (now (s .entry)) 67 72 ⌝ }
+{
+    if s.len() < 2 {
+        return false;
+    }
+    begins_with(s, b"CH")
+}
+
+// The fault of a CH that has one: it is cut off, or out of range.
+pub fn interval_fault(rest: &[u8]) -> u8
+    requires { ⌜ (2 ≤ length (now rest)) × (begins (now rest) 67 72 ≡ true) × (isInterval (now rest) ≡ false) ⌝ }
+    ensures { λ r. ⌜ readingOf (now (rest .entry)) ≡ Fault r ⌝ }
+{
+    if rest.len() < records::CH.length {
+        return 2;
+    }
+    3
 }
 
 // The record reader: the rest of a dossier, starting at the cursor, is tried for its mark, its length and its ranges.

@@ -5,7 +5,7 @@ use Prim.Native.Nat.{ℕ, _+_, _*_, _/_, _%_, _≤_, _<_}
 use native.Mathlib.Omega.{arith}
 use lib.Dec.{eqb, lit≤, lit<}
 use lib.ListN.{getD}
-use Rattle.records.specs.Table.{table, rowOf, kinds, RS, HP, FU, AD, MM, RQ, HR, CH, TH, FP, LC}
+use Rattle.records.specs.Table.{table, rowOf, kinds, RS, HP, FU, AD, MM, RQ, HR, TH, FP, LC}
 use Rattle.records.specs.MarkShapes.{shape, shapeOf}
 use Rattle.index.proofs.KeyBounds.{InKey, Spans}
 
@@ -55,10 +55,6 @@ request-key n a b = one-field RQ n (lit≤ tt) (lit< tt) refl a b
 pub hour-key : (n : ℕ) → 1 ≤ n → n ≤ 168 → InKey HR n
 unfolding shapeOf shape rowOf table
 hour-key n a b = one-field HR n (lit≤ tt) (lit< tt) refl a b
-
-pub interval-key : (n : ℕ) → 1 ≤ n → n ≤ 2016 → InKey CH n
-unfolding shapeOf shape rowOf table
-interval-key n a b = one-field CH n (lit≤ tt) (lit< tt) refl a b
 
 pub place-key : (n : ℕ) → 1 ≤ n → n ≤ 4000 → InKey FP n
 unfolding shapeOf shape rowOf table

@@ -4,3 +4,4 @@ pub mod Opening
 pub mod Lookup
 pub mod Rooms
 pub mod Held
+pub mod Week

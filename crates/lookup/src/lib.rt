@@ -13,6 +13,7 @@ ghost use Rattle.records.specs.Dossier.{records, scan};
 ghost use Rattle.station.specs.Current.{longest, current, readable, lookupBytes};
 ghost use Rattle.index.specs.declared.Passed.the-variants.{Ended};
 ghost use Rattle.index.specs.Slots.{slot, narrow};
+ghost use Rattle.index.specs.Intervals.{HeldIn};
 ghost use Rattle.lookup.specs.Parts.{isTooLong, fitsShort, slotsFor, held, scanned, placeIn, placeAt, partBytes, partAt, currentPart, lookupPart};
 ghost use Rattle.lookup.specs.Parts.{Empty, Indexed, Complete, UpTo};
 use index::Passed;
@@ -96,11 +97,12 @@ pub fn fits_short(d: &[u8]) -> bool
     true
 }
 
-// The first part of it: 13, 1 to 3, and the index.
-pub fn scan(d: &[u8], index: &mut [u16]) -> Passed
-    requires { ⌜ Empty (now index) ⌝ }
+// The first part of it: 13, 1 to 3, the index, and the sums of the charging week.
+pub fn scan(d: &[u8], index: &mut [u16], sums: &mut [u64]) -> Passed
+    requires { ⌜ Empty (now index) × (now sums ≡ 0 ∷ 0 ∷ []) ⌝ }
     ensures { λ r. ⌜ (r ≡ scanned (length (now (index .entry))) (now (d .entry)))
-        × ((b : Bool) (m : ℕ) → r ≡ Ended b m → Indexed (now (d .entry)) (now (index .exit)) × UpTo (now (d .entry)) m) ⌝ }
+        × ((b : Bool) (m : ℕ) → r ≡ Ended b m → Indexed (now (d .entry)) (now (index .exit)) × UpTo (now (d .entry)) m
+        × HeldIn (now (d .entry)) (now (index .exit)) (now (sums .exit))) ⌝ }
 {
     if LONGEST < d.len() {
         return Passed::Stopped {
@@ -108,7 +110,7 @@ pub fn scan(d: &[u8], index: &mut [u16]) -> Passed
             place: 0,
         };
     }
-    index::pass(d, index)
+    index::pass(d, index, sums)
 }
 
 // The index alone, of a dossier that is known to draw none of 13 and 1 to 3.
@@ -116,16 +118,18 @@ pub fn fill(d: &[u8], index: &mut [u16])
     requires { ⌜ Empty (now index) × (length (now d) ≤ 60000) × (scan 0 (records (now d)) ≡ Accepted) ⌝ }
     ensures { λ r. ⌜ Indexed (now (d .entry)) (now (index .exit)) ⌝ }
 {
-    index::pass(d, index);
+    let mut sums = [0u64; 2];
+    index::pass(d, index, &mut sums);
 }
 
-// A dossier is read: 13, 1 to 4, and its index. `judge` does the same by itself: the search for twins, called from two functions, keeps
+// A dossier is read: 13, 1 to 4, its index, and the sums. `judge` does the same by itself: the search for twins, called from two functions, keeps
 // a frame of its own, and its tables cost nothing where every issue rose.
-pub fn open(d: &[u8], index: &mut [u16]) -> Answer
-    requires { ⌜ Empty (now index) ⌝ }
-    ensures { λ r. ⌜ (r ≡ readable (now (d .entry))) × (r ≡ Accepted → Indexed (now (d .entry)) (now (index .exit))) ⌝ }
+pub fn open(d: &[u8], index: &mut [u16], sums: &mut [u64]) -> Answer
+    requires { ⌜ Empty (now index) × (now sums ≡ 0 ∷ 0 ∷ []) ⌝ }
+    ensures { λ r. ⌜ (r ≡ readable (now (d .entry)))
+        × (r ≡ Accepted → Indexed (now (d .entry)) (now (index .exit)) × HeldIn (now (d .entry)) (now (index .exit)) (now (sums .exit))) ⌝ }
 {
-    match scan(d, index) {
+    match scan(d, index, sums) {
         Passed::Ended { rising, top } => {
             if rising & (top < index.len()) {
                 Answer::Accepted
@@ -324,7 +328,8 @@ fn part_in(d: &[u8], index: &mut [u16], kind: usize, n: usize) -> Part
     requires { ⌜ Empty (now index) × (kind < kinds) × (slotsFor kind ≤ length (now index)) ⌝ }
     ensures { λ r. ⌜ r ≡ lookupPart (now (d .entry)) kind n ⌝ }
 {
-    match open(d, index) {
+    let mut sums = [0u64; 2];
+    match open(d, index, &mut sums) {
         Answer::Accepted => place_of(d, index, kind, n),
         Answer::Refused {
             number: _,

@@ -1,10 +1,14 @@
 use mathlib.Core.Path.{ap, sym, _∙_}
 use mathlib.Core.Bool.{Bool}
+use mathlib.Core.List.{List}
+use Prim.Native.Nat.{ℕ}
 use native.Mathlib.Omega.{arith}
+use lib.ListN.{length}
 use borrow.Author.Needs.{needs}
 use Rattle.records.proofs.Answers.{not-refused}
 use Rattle.index.specs.declared.Passed.the-variants.{Ended}
 use Rattle.lookup.proofs.Opening.{scan-stopped, scan-rising, up-to-complete}
+use Rattle.lookup.proofs.Week.{week-sums}
 use Rattle.rules.proofs.Draws.{unreadable}
 use Rattle.acceptance.proofs.judge.Statement.{statement}
 use Rattle.acceptance.proofs.judge.Tie as tie
@@ -12,39 +16,47 @@ use Rattle.acceptance.proofs.judge.Tie as tie
 indexed-answer-requires : tie.Need-indexed-answer-requires
 indexed-answer-requires c κs =
     let g = c .before .before .before .rising .given .1 in
-    let s = c .before .before .before .before .before .before .before .scan .ensures in
-    let i = s .1 _ _ g in
+    let s = c .before .before .before .before .before .before .before .before .before .scan in
+    let i = s .ensures .1 _ _ g in
     let h = c .before .if1 .taken in
-    let k = c .before .before .before .before .before .before .before .scan .kept in
     let m = c .before .before .before .rising .given .0 .1 .0 in (
       i .0,
-      up-to-complete (i .0) (i .1) (omega (arith, h, k)),
+      up-to-complete (i .0) (i .1) (omega (arith, h, s .kept)),
       i .1,
-      λ e. sym (scan-rising _ _ (ap (λ (b : Bool). Ended b m) (sym e) ∙ sym g ∙ s .0) (omega (arith, h, k)) (i .0)),
+      λ e. sym (scan-rising _ _ (ap (λ (b : Bool). Ended b m) (sym e) ∙ sym g ∙ s .ensures .0) (omega (arith, h, s .kept)) (i .0)),
     )
 
 judge-with-wider-index-requires : tie.Need-judge-with-wider-index-requires
 judge-with-wider-index-requires c κs =
-    let i = c .before .before .before .before .before .before .scan .ensures .1 _ _ (c .before .before .rising .given .1) in
-    (i .0 .clean, i .1)
+    let s = c .before .before .before .before .before .before .before .before .before .scan in
+    let i = s .ensures .1 _ _ (c .before .before .before .rising .given .1) in (
+      omega (
+        arith,
+        s .kept,
+        ap (λ (l : List ℕ). length l) (c .before .before .before .before .before .before .before .before .before .before .before
+            .before .before .before .before .pre .1),
+      ),
+      i .0 .clean,
+      i .1,
+    )
 
 returns : tie.Need-returns
-returns c = (
-  c .indexed-answer .ensures,
-  λ _. c .before .before .before .before .before .before .before .before .scan .ensures .1 _ _
-      (c .before .before .before .before .rising .given .1) .0,
-)
+returns c =
+    let s = c .before .before .before .before .before .before .before .before .before .before .scan in
+    let i = s .ensures .1 _ _ (c .before .before .before .before .rising .given .1) in
+    let f = up-to-complete (i .0) (i .1) (omega (arith, c .before .before .if1 .taken, s .kept)) in
+    (c .indexed-answer .ensures, λ _. (i .0, week-sums (i .0) f (i .2)))
 
 returns-2 : tie.Need-returns-2
-returns-2 c = (
-  c .judge-with-wider-index .ensures,
-  λ _. c .before .before .before .before .before .before .before .scan .ensures .1 _ _
-      (c .before .before .before .rising .given .1) .0,
-)
+returns-2 c =
+    let i = c .before .before .before .before .before .before .before .before .before .before .before .before .scan .ensures .1 _ _
+    (c .before .before .before .before .before .before .rising .given .1) in
+    let w = c .before .before .judge-with-wider-index .ensures in
+    (w .0, λ e. (i .0, w .1 e))
 
 returns-3 : tie.Need-returns-3
 returns-3 c = (
-  unreadable _ _ _ (scan-stopped _ _ (sym (c .before .number .given .1) ∙ c .before .before .before .before .before .scan .ensures .0)),
+  unreadable _ _ _ (scan-stopped _ _ (sym (c .before .number .given .1) ∙ c .before .before .before .before .before .before .before .scan .ensures .0)),
   λ e. absurd (not-refused _ _ e),
 )
 
@@ -58,8 +70,11 @@ judge-spec =
     judge-with-wider-index-requires
     (λ c. search needs)
     (λ c. search needs)
+    (λ c. search needs)
     returns
     (λ c. search needs)
+    (λ c. search needs)
     returns-2
+    (λ c. search needs)
     (λ c. search needs)
     returns-3)

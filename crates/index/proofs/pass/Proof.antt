@@ -1,45 +1,91 @@
 use borrow.Author.Needs.{needs}
 use native.Mathlib.Omega.{arith}
-use mathlib.Core.Path.{_≡_, refl, sym, ap, _∙_}
-use mathlib.Core.Bool.{true}
+use mathlib.Core.Path.{_≡_, refl, sym, ap, ap₂, subst, _∙_}
+use mathlib.Core.Bool.{Bool, true, false, _&&_, false≢true}
 use mathlib.Core.Logic.{inl, inr}
 use mathlib.Core.List.{List}
 use Prim.Native.Nat.{ℕ, _≤_, _<_, _-_}
-use lib.ListN.{length, drop, take, length-set}
-use Rattle.records.specs.Table.{kinds}
-use Rattle.records.specs.Walk.{Record, found}
-use Rattle.records.proofs.Walk.{Rest, start, stop, end}
+use lib.ListN.{length, drop, take, length-set, length-drop}
+use lib.Dec.{leb}
+use borrow.Author.Tests.{leb-true, le-leb, eq-eqb}
+use Rattle.lists.proofs.Tests.{and-left, and-right}
+use Rattle.records.specs.Table.{kinds, CH}
+use Rattle.records.specs.Record.{mark}
+use Rattle.records.specs.MarkShapes.{begins}
+use Rattle.records.specs.Walk.{Record, found, Rest}
+use Rattle.records.proofs.Walk.{found-record, start, stop, end}
 use Rattle.index.specs.declared.Reading.{Reading}
-use Rattle.index.specs.Slots.{slotAt, kept, keepStep, passOf, slotsOf}
+use Rattle.index.specs.Slots.{slot, slotAt, kept, keepStep, passOf, slotsOf}
 use Rattle.index.specs.Entries.{readingOf}
 use Rattle.index.proofs.Turn.{tail, bounds, long, turn, turn-beyond}
 use Rattle.index.proofs.Entries.{whole-found, fault-found}
+use Rattle.index.proofs.Intervals.{ch-letters}
+use Rattle.index.proofs.HeldSums.{sums-other, slot-elsewhere}
+use Rattle.index.specs.Intervals.{isInterval, HeldIn}
 use Rattle.index.proofs.pass.Statement.{statement}
 use Rattle.index.proofs.pass.Tie as tie
 
 abbrev Inv-loop : tie.InvT-loop
-Inv-loop d index₀ at₀ rising₀ top₀ index at rising top =
-    (at ≤ length d) × (length index ≡ length index₀) × Rest (keepStep d) (kept index₀ true 0) d at (kept index rising top)
+Inv-loop d index₀ sums₀ at₀ rising₀ top₀ index sums at rising top =
+    (at ≤ length d) × (length index ≡ length index₀) × (length sums ≡ 2) × HeldIn d index sums
+    × Rest (keepStep d) (kept index₀ true 0) d at (kept index rising top)
 
 abbrev μ-loop : tie.MeasureT-loop
-μ-loop d index₀ at₀ rising₀ top₀ index at rising top = length d - at
+μ-loop d index₀ sums₀ at₀ rising₀ top₀ index sums at rising top = length d - at
 
 loop-holds : tie.Need-loop-holds Inv-loop μ-loop
-loop-holds c = (search needs, refl, start _ _ _)
+loop-holds c = let p = c .before .before .before .pre in (search needs, refl, p .1, p .2, start _ _ _)
 
 abbrev d-of : tie.In-loop Inv-loop μ-loop → List ℕ
-d-of i = i .before .before .before .before .args .d .now
+d-of i = i .before .before .before .before .before .args .d .now
 
 abbrev at-of : tie.In-loop Inv-loop μ-loop → ℕ
 at-of i = i .before .loop .at
 
-read-of : (r : tie.After-read Inv-loop μ-loop) {x : Reading} → r .read .result ≡ x
-    → readingOf (drop (at-of (r .before .before)) (d-of (r .before .before))) ≡ x
-read-of r g = sym (ap readingOf (tail (d-of (r .before .before)) (at-of (r .before .before)))) ∙ sym (r .read .ensures) ∙ g
+abbrev rest-of : tie.In-loop Inv-loop μ-loop → List ℕ
+rest-of i = drop (at-of i) (d-of i)
 
--- a turn with a record
+whole-rest : (i : tie.In-loop Inv-loop μ-loop) → take (length (d-of i) - at-of i) (rest-of i) ≡ rest-of i
+whole-rest i = tail (d-of i) (at-of i)
+
+-- ---- a run of intervals
+
+-- a CH begins there
+begun : (c : tie.Then1 Inv-loop μ-loop) → (2 ≤ length (rest-of (c .before .before .before))) × (begins (rest-of (c .before .before .before)) 67 72 ≡ true)
+begun c =
+    let i = c .before .before .before in
+    let e : leb 2 (length (rest-of i)) && begins (rest-of i) 67 72 ≡ true =
+    sym (ap (λ (l : List ℕ). leb 2 (length l) && begins l 67 72) (whole-rest i)) ∙ sym (c .before .begins-interval .ensures) ∙ c .if1 .taken in
+    (leb-true 2 (length (rest-of i)) (and-left (leb 2 (length (rest-of i))) _ e), and-right (leb 2 (length (rest-of i))) _ e)
+
+interval-fault-requires : tie.Need-interval-fault-requires Inv-loop μ-loop
+interval-fault-requires c κs =
+    let i = c .before .before .before .before .before .before .before .before .before .before .before .before in
+    let h = begun (c .before .before .before .before .before .before .before .before .before) in
+    subst (λ (l : List ℕ). (2 ≤ length l) × (begins l 67 72 ≡ true) × (isInterval l ≡ false)) (sym (whole-rest i))
+    (h .0, h .1, c .before .before .before .before .before .before .intervals-from .ensures .3 (c .if2 .taken))
+
+returns : tie.Need-returns Inv-loop μ-loop
+unfolding passOf slotsOf
+returns c =
+    let i = c .before .before .before .before .before .before .before .before .before .before .before .before .before in
+    let e = stop (keepStep (d-of i)) (kept (i .before .before .before .before .before .args .index .now) true 0) (d-of i) (at-of i) _ _ (i .loop-test .taken)
+    (i .before .loop .inv .4) (fault-found (rest-of i) _ (ap readingOf (sym (whole-rest i)) ∙ c .interval-fault .ensures)) in
+    (sym (ap passOf e), sym (ap (slotsOf _) e), c .before .before .before .before .before .before .before .intervals-from .ensures .2)
+
+loop-again : tie.Need-loop-again Inv-loop μ-loop
+loop-again c =
+    let l = c .before .before .before .before .before .before .before .before .before .before .before .before .before .loop in
+    let r = c .before .before .before .before .before .before .intervals-from in
+    (r .ensures .1, omega (arith, r .kept, l .inv .1), omega (arith, r .kept, l .inv .2), r .ensures .2, r .ensures .4 _ (l .inv .4))
+
+-- ---- any other record
+
+read-of : (r : tie.After-read Inv-loop μ-loop) {x : Reading} → r .read .result ≡ x → readingOf (rest-of (r .before .before .before .before)) ≡ x
+read-of r g = sym (ap readingOf (whole-rest (r .before .before .before .before))) ∙ sym (r .read .ensures) ∙ g
+
 abbrev In : tie.After-known-told Inv-loop μ-loop → tie.In-loop Inv-loop μ-loop
-In c = c .before .before .before .before .before
+In c = c .before .before .before .before .before .before .before
 
 abbrev len-of : tie.After-known-told Inv-loop μ-loop → ℕ
 len-of c = c .before .entry .given .0 .0 .len
@@ -47,64 +93,88 @@ len-of c = c .before .entry .given .0 .0 .len
 abbrev slot-of : tie.After-known-told Inv-loop μ-loop → ℕ
 slot-of c = c .before .entry .given .0 .0 .slot
 
-its-found : (c : tie.After-known-told Inv-loop μ-loop) → (k : ℕ) × (found (drop (at-of (In c)) (d-of (In c))) ≡ Record k (len-of c))
-    × (slot-of c ≡ slotAt k (take (length (d-of (In c)) - at-of (In c)) (drop (at-of (In c)) (d-of (In c)))))
+its-found : (c : tie.After-known-told Inv-loop μ-loop) → (k : ℕ) × (found (rest-of (In c)) ≡ Record k (len-of c))
+    × (slot-of c ≡ slotAt k (take (length (d-of (In c)) - at-of (In c)) (rest-of (In c))))
 its-found c =
-    let z = whole-found (drop (at-of (In c)) (d-of (In c))) (c .before .entry .given .0 .0)
-    (read-of (c .before .before .before) (c .before .entry .given .1)) in
-    (z .0, z .1, z .2 ∙ sym (ap (slotAt (z .0)) (tail (d-of (In c)) (at-of (In c)))))
+    let z = whole-found (rest-of (In c)) (c .before .entry .given .0 .0) (read-of (c .before .before .before) (c .before .entry .given .1)) in
+    (z .0, z .1, z .2 ∙ sym (ap (slotAt (z .0)) (whole-rest (In c))))
 
 its : (c : tie.After-known-told Inv-loop μ-loop) → (1 ≤ len-of c) × (len-of c ≤ length (d-of (In c)) - at-of (In c)) × (its-found c .0 < kinds)
 its c = bounds (d-of (In c)) (at-of (In c)) _ _ (its-found c .1)
 
-returns : tie.Need-returns Inv-loop μ-loop
-returns c = let k = c .before in absurd (omega (arith, its k, long _ _ _ (its-found k .1), c .if1 .taken))
+-- it is no CH, and leaves the sums as they are
+no-interval : (c : tie.After-known-told Inv-loop μ-loop) → its-found c .0 ≡ CH → ⊥
+no-interval c e =
+    let i = In c in
+    let t : begins (rest-of i) 67 72 ≡ true = ch-letters (rest-of i) ∙ eq-eqb (mark (rest-of i)) CH (sym (found-record (rest-of i) _ _
+    (its-found c .1) .0) ∙ e) in
+    let u : leb 2 (length (rest-of i)) ≡ true = le-leb 2 (length (rest-of i)) (omega (
+      arith,
+      its c,
+      long _ _ _ (its-found c .1),
+      length-drop (at-of i)
+          (d-of i),
+    )) in
+    false≢true (sym (c .before .before .before .before .if1 .left) ∙ c .before .before .before .before .before .begins-interval .ensures
+    ∙ ap (λ (l : List ℕ). leb 2 (length l) && begins l 67 72) (whole-rest i) ∙ ap₂ (λ (x y : Bool). x && y) u t)
+
+elsewhere : (c : tie.After-known-told Inv-loop μ-loop) → (m : ℕ) → 1 ≤ m → m ≤ 2016 → slot CH m ≡ slot-of c → ⊥
+elsewhere c =
+    slot-elsewhere (rest-of (In c)) (its-found c .0) (len-of c) (its-found c .1) (no-interval c)
+    (its-found c .2 ∙ ap (slotAt (its-found c .0)) (whole-rest (In c)))
+
+returns-2 : tie.Need-returns-2 Inv-loop μ-loop
+returns-2 c = let k = c .before in absurd (omega (arith, its k, long _ _ _ (its-found k .1), c .if3 .taken))
 
 add-at : tie.Need-add-at Inv-loop μ-loop
 add-at c = omega (arith, its (c .before .before .before .before))
 
-loop-less : tie.Need-loop-less Inv-loop μ-loop
-loop-less c = omega (arith, its (c .before .before .before .before))
+loop-less-2 : tie.Need-loop-less-2 Inv-loop μ-loop
+loop-less-2 c = omega (arith, its (c .before .before .before .before))
 
-loop-again : tie.Need-loop-again Inv-loop μ-loop
-loop-again c =
+loop-again-2 : tie.Need-loop-again-2 Inv-loop μ-loop
+loop-again-2 c =
     let k = c .before .before .before .before in
     let i = In k in
     let l = i .before .loop in
-    let j = c .before .if2 in
     let m = c .before .before .higher-of .ensures in
-    elim (j .came) [
+    elim (c .before .if4 .came) [
       | inl x ↦ (
         omega (arith, its k),
         rw (x .5) (simp length-set (l .inv .1)),
-        rw (x .5, x .6) (turn (d-of i) _ (l .index) (l .at) (its-found k .0) (len-of k) (l .rising) (l .top) (i .loop-test .taken) (l .inv .2) (its-found k .1)
+        l .inv .2,
+        rw (x .5) (sums-other (l .inv .3) (slot-of k) _ (elsewhere k)),
+        rw (x .5, x .6) (turn (d-of i) _ (l .index) (l .at) (its-found k .0) (len-of k) (l .rising) (l .top) (i .loop-test .taken) (l .inv .4) (its-found k .1)
             (its-found k .2) (x .1 .ensures) (x .3 .ensures) (x .4 .ensures) m),
       )
       | inr x ↦ (
         omega (arith, its k),
         rw (x .1) (l .inv .1),
-        rw (x .1, x .2) (turn-beyond (d-of i) _ (l .index) (l .at) (its-found k .0) (len-of k) (l .rising) (l .top) (i .loop-test .taken) (l .inv .2)
+        l .inv .2,
+        rw (x .1) (l .inv .3),
+        rw (x .1, x .2) (turn-beyond (d-of i) _ (l .index) (l .at) (its-found k .0) (len-of k) (l .rising) (l .top) (i .loop-test .taken) (l .inv .4)
             (its-found k .1) (its-found k .2) (x .0 .left) m),
       )
     ]
 
-returns-2 : tie.Need-returns-2 Inv-loop μ-loop
-unfolding passOf slotsOf
-returns-2 c =
-    let r = c .before .before .before in
-    let i = r .before .before in
-    let e = stop (keepStep (d-of i)) (kept (i .before .before .before .before .args .index .now) true 0) (d-of i) (at-of i) _ _ (i .loop-test .taken)
-    (i .before .loop .inv .2) (fault-found (drop (at-of i) (d-of i)) _ (read-of r (c .before .number .given .1))) in
-    (sym (ap passOf e), sym (ap (slotsOf (i .before .loop .index)) e))
-
 returns-3 : tie.Need-returns-3 Inv-loop μ-loop
 unfolding passOf slotsOf
 returns-3 c =
+    let r = c .before .before .before in
+    let i = r .before .before .before .before in
+    let l = i .before .loop in
+    let e = stop (keepStep (d-of i)) (kept (i .before .before .before .before .before .args .index .now) true 0) (d-of i) (at-of i) _ _ (i .loop-test .taken)
+    (l .inv .4) (fault-found (rest-of i) _ (read-of r (c .before .number .given .1))) in
+    (sym (ap passOf e), sym (ap (slotsOf (l .index)) e), l .inv .3)
+
+returns-4 : tie.Need-returns-4 Inv-loop μ-loop
+unfolding passOf slotsOf
+returns-4 c =
     let l = c .before .loop in
-    let a = c .before .before .before .before .args in
+    let a = c .before .before .before .before .before .args in
     let e = end (keepStep (a .d .now)) (kept (a .index .now) true 0) (a .d .now) (l .at) (kept (l .index) (l .rising) (l .top)) (c .loop-test .left)
-    (l .inv .2) in
-    (sym (ap passOf e), sym (ap (slotsOf (l .index)) e))
+    (l .inv .4) in
+    (sym (ap passOf e), sym (ap (slotsOf (l .index)) e), l .inv .3)
 
 pub pass-spec : {M : Type 1} → statement M
 pass-spec =
@@ -117,9 +187,18 @@ pass-spec =
     (λ c. search needs)
     (λ c. search needs)
     (λ c κs. search needs)
+    (λ c κs. search needs)
+    interval-fault-requires
     (λ c. search needs)
     (λ c. search needs)
     returns
+    (λ c. search needs)
+    loop-again
+    (λ c κs. search needs)
+    (λ c. search needs)
+    (λ c. search needs)
+    (λ c. search needs)
+    returns-2
     (λ c κs. search needs)
     (λ c κs. search needs)
     (λ c. search needs)
@@ -133,10 +212,12 @@ pass-spec =
     (λ c. search needs)
     (λ c. search needs)
     add-at
-    loop-less
-    loop-again
+    loop-less-2
+    loop-again-2
     (λ c. search needs)
     (λ c. search needs)
-    returns-2
     (λ c. search needs)
-    returns-3)
+    returns-3
+    (λ c. search needs)
+    (λ c. search needs)
+    returns-4)
