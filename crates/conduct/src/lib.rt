@@ -3,8 +3,10 @@ mod refusals;
 
 ghost use mathlib.Core.Path.{_≡_};
 ghost use Prim.Native.Nat.{_<_, _≤_};
+ghost use lib.ListN.{length};
 ghost use Rattle.records.specs.Dossier.{records};
 ghost use Rattle.station.specs.Parameters.{parameters};
+ghost use Rattle.station.specs.Week.{WeekIn};
 ghost use Rattle.rules.specs.Answer.{IsAccepted};
 ghost use Rattle.formulas.specs.Levels.{levels};
 ghost use Rattle.lookup.specs.Parts.{Indexed, Empty};
@@ -33,8 +35,15 @@ fn threshold_of(d: &[u8], index: &[u16], condition: usize, level: usize) -> Thre
 }
 
 // The verdict on an energy offer, of an accepted dossier. The levels are worked out once no refusal is drawn.
-fn offer_verdict(d: &[u8], index: &[u16], hour: u32, condition: u8, offer: &[u8]) -> Verdict
-    requires { ⌜ Indexed (now d) (now index) × IsAccepted (now d) ⌝ }
+fn offer_verdict(
+    d: &[u8],
+    index: &[u16],
+    sums: &[u64],
+    hour: u32,
+    condition: u8,
+    offer: &[u8],
+) -> Verdict
+    requires { ⌜ Indexed (now d) (now index) × (length (now sums) ≡ 2) × WeekIn (now d) (now sums) × IsAccepted (now d) ⌝ }
     ensures { λ r. ⌜ r ≡ offerVerdict (parameters (records (now (d .entry)))) condition (levels (now (d .entry)) hour) (now (offer .entry)) ⌝ }
 {
     let c = condition as usize;
@@ -44,7 +53,7 @@ fn offer_verdict(d: &[u8], index: &[u16], hour: u32, condition: u8, offer: &[u8]
             let mut from = [0u64; 20];
             let mut to = [0u64; 20];
             let mut cents = [0u64; 20];
-            let lv = reference::hour_levels(d, index, hour, &mut from, &mut to, &mut cents);
+            let lv = reference::hour_levels(d, index, sums, hour, &mut from, &mut to, &mut cents);
             let t = threshold_of(d, index, c, 1);
             limits::rising_offer_test(&from, &to, &cents, lv.count, t, offer)
         }
@@ -79,9 +88,10 @@ fn energy_test_in(d: &[u8], index: &mut [u16], hour: u32, condition: u8, offer: 
     requires { ⌜ Empty (now index) ⌝ }
     ensures { λ r. ⌜ r ≡ onOffer (now (d .entry)) hour condition (now (offer .entry)) ⌝ }
 {
-    match acceptance::judge(d, index) {
+    let mut sums = [0u64; 2];
+    match acceptance::judge(d, index, &mut sums) {
         Answer::Refused { number, place } => Verdict::Refused { number, place },
-        Answer::Accepted => offer_verdict(d, index, hour, condition, offer),
+        Answer::Accepted => offer_verdict(d, index, &sums, hour, condition, offer),
     }
 }
 
@@ -121,7 +131,8 @@ fn price_test_in(
     requires { ⌜ Empty (now index) ⌝ }
     ensures { λ r. ⌜ r ≡ onPrice (now (d .entry)) hour level condition price ⌝ }
 {
-    match acceptance::judge(d, index) {
+    let mut sums = [0u64; 2];
+    match acceptance::judge(d, index, &mut sums) {
         Answer::Refused { number, place } => Verdict::Refused { number, place },
         Answer::Accepted => price_verdict(d, index, hour, level, condition, limits::biased(price)),
     }

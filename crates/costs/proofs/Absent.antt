@@ -1,4 +1,4 @@
--- A profile without adders or items, told by its empty slots: they add nothing.
+-- A profile without adders or items, told by its empty slots: they add nothing. A dossier without LC: its last charging cost is 0.
 use mathlib.Core.Path.{_≡_, refl, ap, sym, _∙_}
 use mathlib.Core.Bool.{true}
 use mathlib.Core.List.{List}
@@ -6,18 +6,20 @@ use Prim.Native.Nat.{ℕ, suc, _+_, _*_, _≤_}
 use native.Mathlib.Omega.{arith}
 use Rattle.fields.specs.Numbers.{number}
 use Rattle.fields.proofs.Numbers.{number-nil}
-use Rattle.records.specs.Table.{AD, MM}
-use Rattle.station.specs.Parameters.{adderKey, adder, itemKey, costC, outputW, intervalT, hoursPerStartS}
-use Rattle.station.proofs.Fields.{adder-at, costC-at}
+use Rattle.records.specs.Table.{AD, MM, LC}
+use Rattle.records.specs.Dossier.{records}
+use Rattle.station.specs.Parameters.{adderKey, adder, itemKey, costC, outputW, intervalT, hoursPerStartS, lastCost}
+use Rattle.station.proofs.Fields.{adder-at, costC-at, lastCost-at}
 use Rattle.index.specs.Slots.{slot, slotsEmpty}
 use Rattle.index.proofs.Slots.{adder-slot}
-use Rattle.lookup.specs.Parts.{Indexed, held, parametersHeld, amountsHeld}
+use Rattle.lookup.specs.Parts.{Indexed, held, fitsShort, parametersHeld, amountsHeld}
 use Rattle.lookup.proofs.Keys.{adder-key, item-key}
 use Rattle.lookup.proofs.Held.{held-in-empty}
-use Rattle.formulas.specs.Sums.{sumTo}
+use Rattle.lookup.proofs.Rooms.{short-none}
+use Rattle.lists.specs.Sums.{sumTo}
 use Rattle.formulas.specs.Exact.{quotient, microDollars}
-use Rattle.formulas.specs.Levels.{adders, maintenance, startMaintenance}
-use Rattle.formulas.proofs.Sums.{sumTo-zeros}
+use Rattle.formulas.specs.Levels.{amountsIn, adders, maintenance, startMaintenance}
+use Rattle.lists.proofs.Sums.{sumTo-zeros}
 use Rattle.formulas.proofs.Rounding.{quotient-of-none}
 
 module _ {d ix : List ℕ} (h : Indexed d ix) (p : ℕ) (a : 1 ≤ p) (b : p ≤ 4) {j : ℕ} where
@@ -58,3 +60,7 @@ module _ {d ix : List ℕ} (h : Indexed d ix) (p : ℕ) (a : 1 ≤ p) (b : p ≤
         sym (sumTo-zeros (λ k. quotient (costC (amountsHeld d ix) p k * hoursPerStartS (parametersHeld d ix) p k * 1000)
         (intervalT (parametersHeld d ix) p k)) 0 8
         (λ i z. quotient-of-none _ _ (rw (no-item (suc (0 + i)) (omega arith) (omega arith)) (omega arith))))
+
+-- a dossier that a short index has slots for has no LC
+pub no-last-cost : (d ix : List ℕ) → Indexed d ix → true ≡ fitsShort d → 0 ≡ lastCost (amountsIn d)
+no-last-cost d ix h e = sym (lastCost-at (records d) ∙ ap (number 6 4) (short-none d ix h e LC 0 refl) ∙ number-nil 6 4)

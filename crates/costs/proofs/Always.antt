@@ -7,7 +7,8 @@ use lib.Dec.{eqb}
 use Rattle.records.specs.Table.{RS, CH, FP, LC}
 use Rattle.lookup.specs.Parts.{Indexed, parametersHeld, amountsHeld}
 use Rattle.lookup.proofs.Held.{says-always, of-always}
-use Rattle.formulas.specs.Sums.{sumTo, listTo, fromTop}
+use Rattle.lists.specs.Sums.{sumTo}
+use Rattle.formulas.specs.Sums.{listTo, fromTop}
 use Rattle.formulas.specs.Exact.{whole, share}
 use Rattle.formulas.specs.Levels.{parametersIn, amountsIn, totalEnergy, chargingSum, chargingCost, forecastPlace, forecastPrice}
 

@@ -6,8 +6,9 @@ ghost use mathlib.Core.Path.{_≡_};
 ghost use mathlib.Core.List.{[], _∷_};
 ghost use mathlib.Core.Bool.{true};
 ghost use Prim.Native.Nat.{_≤_};
-ghost use lib.ListN.{replicate};
+ghost use lib.ListN.{length, replicate};
 ghost use Rattle.station.specs.Parameters.{technology, capacity};
+ghost use Rattle.station.specs.Week.{WeekIn};
 ghost use Rattle.lookup.specs.Parts.{Indexed, Empty, parametersHeld, amountsHeld};
 ghost use Rattle.rules.specs.Fit.{holds};
 ghost use Rattle.rules.specs.Answer.{IsAccepted};
@@ -87,16 +88,18 @@ fn thermal_levels(
     }
 }
 
-// The levels of an accepted dossier at an hour, their laminations in empty arrays.
+// The levels of an accepted dossier at an hour, given the sums of its charging week; their laminations in empty arrays.
 pub fn hour_levels(
     d: &[u8],
     index: &[u16],
+    sums: &[u64],
     hour: u32,
     from: &mut [u64],
     to: &mut [u64],
     cents: &mut [u64],
 ) -> SingleLevels
-    requires { ⌜ IsAccepted (now d) × Indexed (now d) (now index) × (now from ≡ replicate 20 0) × (now to ≡ replicate 20 0) × (now cents ≡ replicate 20 0) ⌝ }
+    requires { ⌜ IsAccepted (now d) × Indexed (now d) (now index) × (length (now sums) ≡ 2) × WeekIn (now d) (now sums)
+        × (now from ≡ replicate 20 0) × (now to ≡ replicate 20 0) × (now cents ≡ replicate 20 0) ⌝ }
     ensures { λ r. ⌜ hourOf r (now (from .exit)) (now (to .exit)) (now (cents .exit)) ≡ packedAt (now (d .entry)) hour ⌝ }
 {
     let p = profile::profile(d, index, hour);
@@ -110,7 +113,7 @@ pub fn hour_levels(
     }
     let reserve = costs::maintenance::adders(d, index, p, 4);
     if technology == 3 {
-        let energy = costs::storage::storage_energy(d, index, p);
+        let energy = costs::storage::storage_energy(d, index, sums, p);
         return one_lamination(d, index, 3, p, energy, reserve, to, cents);
     }
     let energy = costs::hydro::hydro_energy(d, index, p);
@@ -163,14 +166,14 @@ fn no_levels() -> HourLevels
 }
 
 // The levels of an accepted dossier at an hour, with their laminations.
-fn whole_levels(d: &[u8], index: &[u16], hour: u32) -> HourLevels
-    requires { ⌜ IsAccepted (now d) × Indexed (now d) (now index) ⌝ }
+fn whole_levels(d: &[u8], index: &[u16], sums: &[u64], hour: u32) -> HourLevels
+    requires { ⌜ IsAccepted (now d) × Indexed (now d) (now index) × (length (now sums) ≡ 2) × WeekIn (now d) (now sums) ⌝ }
     ensures { λ r. ⌜ r ≡ packedAt (now (d .entry)) hour ⌝ }
 {
     let mut from = [0u64; 20];
     let mut to = [0u64; 20];
     let mut cents = [0u64; 20];
-    let lv = hour_levels(d, index, hour, &mut from, &mut to, &mut cents);
+    let lv = hour_levels(d, index, sums, hour, &mut from, &mut to, &mut cents);
     HourLevels {
         technology: lv.technology,
         profile: lv.profile,
@@ -189,10 +192,11 @@ fn levels_in(d: &[u8], index: &mut [u16], hour: u32) -> LevelsAnswer
     requires { ⌜ Empty (now index) ⌝ }
     ensures { λ r. ⌜ r ≡ levelsAnswer (now (d .entry)) hour ⌝ }
 {
-    match acceptance::judge(d, index) {
+    let mut sums = [0u64; 2];
+    match acceptance::judge(d, index, &mut sums) {
         Answer::Accepted => {
             let answer = Answer::Accepted;
-            let levels = whole_levels(d, index, hour);
+            let levels = whole_levels(d, index, &sums, hour);
             LevelsAnswer { answer, levels }
         }
         Answer::Refused { number, place } => {

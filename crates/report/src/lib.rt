@@ -14,12 +14,13 @@ fn report_in(d: &[u8], index: &mut [u16], hour: u32, buf: &mut [u8]) -> Written
     ensures answer { λ r. ⌜ r ≡ written (reportAnswer (now (d .entry)) hour (length (now (buf .entry)))) (length (report (now (d .entry)) hour)) ⌝ }
     ensures buffer { λ r. ⌜ now (buf .exit) ≡ bufferAfter (now (d .entry)) hour (now (buf .entry)) ⌝ }
 {
-    match acceptance::judge(d, index) {
+    let mut sums = [0u64; 2];
+    match acceptance::judge(d, index, &mut sums) {
         Answer::Accepted => {
             let mut from = [0u64; 20];
             let mut to = [0u64; 20];
             let mut cents = [0u64; 20];
-            let lv = reference::hour_levels(d, index, hour, &mut from, &mut to, &mut cents);
+            let lv = reference::hour_levels(d, index, &sums, hour, &mut from, &mut to, &mut cents);
             lines::put_report(buf, lv, &from, &to, &cents)
         }
         Answer::Refused { number, place } => Written::Refused { number, place },

@@ -86,7 +86,8 @@ fn levels_words_in(d: &[u8], index: &mut [u16], hour: u32, words: &mut [u64]) ->
     ensures { λ r. ⌜ (r ≡ wordsAnswer (now (d .entry)) hour (length (now (words .entry))))
         × (now (words .exit) ≡ wordsAfter (now (d .entry)) hour (now (words .entry))) ⌝ }
 {
-    match acceptance::judge(d, index) {
+    let mut sums = [0u64; 2];
+    match acceptance::judge(d, index, &mut sums) {
         Answer::Accepted => {
             if words.len() < 66 {
                 return Answer::Refused {
@@ -97,7 +98,7 @@ fn levels_words_in(d: &[u8], index: &mut [u16], hour: u32, words: &mut [u64]) ->
             let mut from = [0u64; 20];
             let mut to = [0u64; 20];
             let mut cents = [0u64; 20];
-            let lv = reference::hour_levels(d, index, hour, &mut from, &mut to, &mut cents);
+            let lv = reference::hour_levels(d, index, &sums, hour, &mut from, &mut to, &mut cents);
             put_words(lv, &from, &to, &cents, words);
             Answer::Accepted
         }

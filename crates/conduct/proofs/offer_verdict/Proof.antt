@@ -14,17 +14,14 @@ use borrow.Author.Needs.{needs}
 use Rattle.conduct.proofs.offer_verdict.Statement.{statement}
 use Rattle.conduct.proofs.offer_verdict.Tie as tie
 
-no-refusal : (c : tie.After-enum-told) → offerRefusal (parameters (records (c .before .before .before .before .before .before .args .d .now)))
-    (c .before .before .before .before .before .before .args .condition) (c .before .before .before .before .before .before .args .offer .now) ≡ Accepted
+no-refusal : (c : tie.After-enum-told) → let a = c .before .before .before .before .before .before .before .args in offerRefusal
+    (parameters (records (a .d .now))) (a .condition) (a .offer .now) ≡ Accepted
 no-refusal c = sym (c .before .before .offer-refusal .ensures) ∙ c .enum-told .given .1
-
-enum-told : tie.Need-enum-told
-enum-told c = search needs
 
 threshold-of-requires : tie.Need-threshold-of-requires
 threshold-of-requires c κs =
     let q = offer-accepted _ _ _ (no-refusal (c .before .before .before .before .before .before .before)) in (
-      c .before .before .before .before .before .before .before .before .before .before .before .before .before .pre .0,
+      c .before .before .before .before .before .before .before .before .before .before .before .before .before .before .pre .0,
       q .0,
       q .1,
       search needs,
@@ -33,23 +30,24 @@ threshold-of-requires c κs =
 
 rising-offer-test-requires : tie.Need-rising-offer-test-requires
 rising-offer-test-requires c κs =
-    let a = c .before .before .before .before .before .before .before .before .before .before .before .before .before .before .before .before .before .args in
-    let z = no-refusal (c .before .before .before .before .before .before .before .before .before .before .before) in (
-      handed-count (a .d .now) (a .hour) _ (c .before .before .before .before .before .before .before .hour-levels .ensures),
+    let h = c .before .before .before .before .before .before .before in
+    let a = h .before .before .before .before .before .before .before .before .before .before .before .args in
+    let z = no-refusal (h .before .before .before .before) in (
+      handed-count (a .d .now) (a .hour) _ (h .hour-levels .ensures),
       offer-accepted _ _ _ z .2,
       last-highest (a .offer .now) (length (a .offer .now) / 6) (offer-formed _ _ (a .offer .now) z),
     )
 
 returns : tie.Need-returns
 returns c =
-    let a = c .before .before .before .before .before .before .before .args in
+    let a = c .before .before .before .before .before .before .before .before .args in
     offer-refused (parameters (records (a .d .now))) (a .condition) (levels (a .d .now) (a .hour)) (a .offer .now)
     (sym (c .before .before .before .offer-refusal .ensures) ∙ c .before .number .given .1)
 
 returns-2 : tie.Need-returns-2
 returns-2 c =
     let h = c .before .before .before .before .before .before .before .before in
-    let a = h .before .before .before .before .before .before .before .before .before .before .args in
+    let a = h .before .before .before .before .before .before .before .before .before .before .before .args in
     offer-tested (parameters (records (a .d .now))) (a .condition) (levels (a .d .now) (a .hour)) (a .offer .now) _
     (c .before .before .before .before .threshold-of .result)
     (no-refusal (h .before .before .before .before)) (handed-shown (a .d .now) (a .hour) _ (h .hour-levels .ensures))
@@ -61,7 +59,7 @@ offer-verdict-spec =
     (tie.spec
     (λ c κs. search needs)
     (λ c. search needs)
-    enum-told
+    (λ c. search needs)
     (λ c. search needs)
     (λ c. search needs)
     (λ c. search needs)

@@ -7,35 +7,33 @@ use borrow.Author.Needs.{needs}
 use Rattle.conduct.proofs.price_test_in.Statement.{statement}
 use Rattle.conduct.proofs.price_test_in.Tie as tie
 
-enum-told : tie.Need-enum-told
-enum-told c = search needs
-
 price-verdict-requires : tie.Need-price-verdict-requires
 price-verdict-requires c κs =
     let e = c .before .before .enum-told .given .1 in
-    let j = c .before .before .before .before .before .before .judge .ensures in
-    (j .1 e, record { clean = sym (j .0) ∙ e }, c .biased .ensures .1)
+    let j = c .before .before .before .before .before .before .before .judge .ensures in
+    (j .1 e .0, record { clean = sym (j .0) ∙ e }, c .biased .ensures .1)
 
 returns : tie.Need-returns
-returns c = on-price-refused _ _ _ _ _ (sym (c .before .before .before .before .before .judge .ensures .0) ∙ c .before .number .given .1)
+returns c = on-price-refused _ _ _ _ _ (sym (c .before .before .before .before .before .before .judge .ensures .0) ∙ c .before .number .given .1)
 
 returns-2 : tie.Need-returns-2
 returns-2 c =
     on-price _ _ _ _ _ (record {
       clean =
-          sym (c .before .before .before .before .before .before .before .judge .ensures .0) ∙ c .before .before .before .enum-told .given .1;
+          sym (c .before .before .before .before .before .before .before .before .judge .ensures .0) ∙ c .before .before .before .enum-told .given .1;
     })
     (c .price-verdict .ensures ∙ ap (priceVerdict _ _ _ _)
     (c .before .biased .ensures .0 ∙ ap biasedOf (toZ-ofZ
-    (c .before .before .before .before .before .before .before .before .before .before .before .fits .price))))
+    (c .before .before .before .before .before .before .before .before .before .before .before .before .before .fits .price))))
 
 pub price-test-in-spec : {M : Type 1} → statement M
 price-test-in-spec =
     tie.close
     (tie.spec
+    (λ c. search needs)
     (λ c κs. search needs)
     (λ c. search needs)
-    enum-told
+    (λ c. search needs)
     (λ c κs. search needs)
     price-verdict-requires
     (λ c. search needs)

@@ -16,11 +16,11 @@ use Rattle.reference.proofs.hour_levels.Statement.{statement}
 use Rattle.reference.proofs.hour_levels.Tie as tie
 
 -- the station is of no other technology
-is-hydro : (c : tie.Else3) → let a = c .before .before .before .before .before .before .before .before .before .before .before .args in technology
+is-hydro : (c : tie.Else3) → let a = c .before .before .before .before .before .before .before .before .before .before .before .before .args in technology
     (parametersHeld (a .d .now) (a .index .now)) ≡ 4
 is-hydro c =
     let t = c .before .before .before .before in
-    let a = t .before .before .before .before .before .before .before in
+    let a = t .before .before .before .before .before .before .before .before in
     omega (
       arith,
       technology-low (accepted-sound (a .args .d .now) (a .pre .0) .1),
@@ -36,27 +36,29 @@ returns : tie.Need-returns
 returns c =
     let l = c .before .before .before .before .before .before in
     let p = l .before .before .before .before .before .before in
-    levels-packed (p .before .before .before .before .before .before .pre .1) _ (p .profile .ensures .0) (l .thermal-levels .ensures)
+    levels-packed (p .before .before .before .before .before .before .before .pre .1) _ (p .profile .ensures .0) (l .thermal-levels .ensures)
 
 returns-2 : tie.Need-returns-2
 returns-2 c =
     let l = c .before .before .before .before in
     let n = l .before .before .before in
     let t = n .before .before .before in
-    let a = t .before .before .before .before .before .before .before .pre in
+    let a = t .before .before .before .before .before .before .before .before .pre in
     levels-packed (a .1) _ (t .before .profile .ensures .0)
-    (one-handed (l .one-lamination .ensures .0) (a .2) (l .one-lamination .ensures .1) (l .one-lamination .ensures .2)
+    (one-handed (l .one-lamination .ensures .0) (a .4) (l .one-lamination .ensures .1) (l .one-lamination .ensures .2)
     (nuclear-packed _ _ _ (sym (t .technology .ensures .0) ∙ n .before .if2 .taken) (n .nuclear-energy .ensures)))
 
 storage-energy-requires : tie.Need-storage-energy-requires
 storage-energy-requires c κs =
     let p = c .before .before .before .before .before in
-    let a = p .before .before .before .before .before .before in
+    let a = p .before .before .before .before .before .before .before in
     let i = a .pre .1 in
     let e : technology (parametersIn (a .args .d .now)) ≡ 3 = sym (c .before .before .before .before .technology .ensures .0 ∙ says-always i RS 0 refl 0)
     ∙ c .if3 .taken in
     let w = says-always i RS 0 refl 8 in (
       i,
+      a .pre .2,
+      a .pre .3,
       p .profile .ensures .1,
       p .profile .ensures .2,
       omega (arith, hours-fit (accepted-sound (a .args .d .now) (a .pre .0) .1) e, full-hours-always i, w),
@@ -68,15 +70,15 @@ returns-3 c =
     let l = c .before .before .before .before in
     let n = l .before .before .before in
     let t = n .before .before .before .before .before in
-    let a = t .before .before .before .before .before .before .before .pre in
+    let a = t .before .before .before .before .before .before .before .before .pre in
     levels-packed (a .1) _ (t .before .profile .ensures .0)
-    (one-handed (l .one-lamination2 .ensures .0) (a .2) (l .one-lamination2 .ensures .1) (l .one-lamination2 .ensures .2)
+    (one-handed (l .one-lamination2 .ensures .0) (a .4) (l .one-lamination2 .ensures .1) (l .one-lamination2 .ensures .2)
     (storage-packed _ _ _ (sym (t .technology .ensures .0) ∙ n .before .if3 .taken) (n .storage-energy .ensures) (n .before .before .adders .ensures .0)))
 
 hydro-energy-requires : tie.Need-hydro-energy-requires
 hydro-energy-requires c κs =
     let p = c .before .before .before .before .before in
-    let a = p .before .before .before .before .before .before in
+    let a = p .before .before .before .before .before .before .before in
     let i = a .pre .1 in (
       i,
       p .profile .ensures .1,
@@ -93,9 +95,9 @@ returns-4 c =
     let l = c .before .before .before .before in
     let n = l .before .before .before in
     let t = n .before .before .before .before .before in
-    let a = t .before .before .before .before .before .before .before .pre in
+    let a = t .before .before .before .before .before .before .before .before .pre in
     levels-packed (a .1) _ (t .before .profile .ensures .0)
-    (one-handed (l .one-lamination3 .ensures .0) (a .2) (l .one-lamination3 .ensures .1) (l .one-lamination3 .ensures .2)
+    (one-handed (l .one-lamination3 .ensures .0) (a .4) (l .one-lamination3 .ensures .1) (l .one-lamination3 .ensures .2)
     (hydro-packed _ _ _ (is-hydro (n .before)) (n .hydro-energy .ensures) (n .before .before .adders .ensures .0)))
 
 pub hour-levels-spec : {M : Type 1} → statement M

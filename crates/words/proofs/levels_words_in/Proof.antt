@@ -7,53 +7,55 @@ use Rattle.words.proofs.Answers.{handed-blank, told-words, told-few, to
 use Rattle.words.proofs.levels_words_in.Statement.{statement}
 use Rattle.words.proofs.levels_words_in.Tie as tie
 
-enum-told : tie.Need-enum-told
-enum-told c = search needs
-
 -- what `judge` found is the dossier's answer
-answer-is : (c : tie.After-judge) {a : Answer} → c .judge .result ≡ a → answer (c .before .before .before .before .before .args .d .now) ≡ a
+answer-is : (c : tie.After-judge) {a : Answer} → c .judge .result ≡ a → answer (c .before .before .before .before .before .before .args .d .now) ≡ a
 answer-is c e = sym (c .judge .ensures .0) ∙ e
 
 returns : tie.Need-returns
 returns c =
-    let j = c .before .before .before .before .before in
-    let args = j .before .before .before .before .before .args in
+    let j = c .before .before .before .before .before .before in
+    let args = j .before .before .before .before .before .before .args in
     told-few (args .d .now) (args .hour) (args .words .now) (answer-is j (c .before .enum-told .given .1)) (c .if1 .taken)
 
 hour-levels-requires : tie.Need-hour-levels-requires
 hour-levels-requires c κs =
-    let j = c .before .before .before .before .before .before .before .before .before in
-    let e = c .before .before .before .before .before .enum-told .given .1 in (record { clean = answer-is j e }, j .judge .ensures .1 e, refl, refl, refl)
+    let j = c .before .before .before .before .before .before .before .before .before .before .before in
+    let e = c .before .before .before .before .before .before .enum-told .given .1 in
+    let h = j .judge .ensures .1 e in
+    (record { clean = answer-is j e }, h .0, search needs, h .1, refl, refl, refl)
 
 put-words-requires : tie.Need-put-words-requires
 put-words-requires c κs =
     let l = c .before .before .before .before .before .before .before in
-    let a = l .before .before .before .before .before .before .before .before .before .before .before .before .before .before .before .args in
+    let j = l .before .before .before .before .before .before .before .before .before .before .before .before in
+    let a = j .before .before .before .before .before .before .args in
     (search needs, handed-blank (a .d .now) (a .hour) (l .hour-levels .ensures))
 
 returns-2 : tie.Need-returns-2
 returns-2 c =
     let l = c .before .before .before .before .before .before .before .before .before .before in
-    let j = l .before .before .before .before .before .before .before .before .before .before in
-    let args = j .before .before .before .before .before .args in
-    told-words (args .d .now) (args .hour) (args .words .now) _ (answer-is j (l .before .before .before .before .before .before .enum-told .given .1))
-    (l .before .before .before .before .before .if1 .left)
+    let j = l .before .before .before .before .before .before .before .before .before .before .before .before in
+    let args = j .before .before .before .before .before .before .args in
+    told-words (args .d .now) (args .hour) (args .words .now) _ (answer-is j (l .before .before .before .before .before .before .before .enum-told .given .1))
+    (l .before .before .before .before .before .before .if1 .left)
     (l .hour-levels .ensures) (c .before .before .put-words .ensures)
 
 returns-3 : tie.Need-returns-3
 returns-3 c =
-    let j = c .before .before .before .before .before in
-    let args = j .before .before .before .before .before .args in
+    let j = c .before .before .before .before .before .before in
+    let args = j .before .before .before .before .before .before .args in
     told-refusal (args .d .now) (args .hour) (args .words .now) _ _ (answer-is j (c .before .number .given .1))
 
 pub levels-words-in-spec : {M : Type 1} → statement M
 levels-words-in-spec =
     tie.close
     (tie.spec
+    (λ c. search needs)
     (λ c κs. search needs)
-    enum-told
+    (λ c. search needs)
     (λ c. search needs)
     returns
+    (λ c. search needs)
     (λ c. search needs)
     (λ c. search needs)
     (λ c. search needs)

@@ -5,10 +5,10 @@ use native.Mathlib.Omega.{arith}
 use Rattle.lookup.specs.Parts.{held}
 use Rattle.station.specs.Parameters.{amounts, adder}
 use Rattle.index.proofs.Slots.{adder-slot}
-use Rattle.formulas.specs.Sums.{sumTo}
+use Rattle.lists.specs.Sums.{sumTo}
 use Rattle.formulas.specs.Exact.{microDollars}
 use Rattle.formulas.specs.Levels.{adders}
-use Rattle.formulas.proofs.Sums.{sum-more, sum-ends}
+use Rattle.lists.proofs.Sums.{sum-more, sum-ends}
 use Rattle.costs.proofs.Absent.{no-adders}
 use Rattle.costs.proofs.maintenance.adders.Statement.{statement}
 use Rattle.costs.proofs.maintenance.adders.Tie as tie

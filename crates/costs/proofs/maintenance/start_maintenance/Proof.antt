@@ -5,10 +5,10 @@ use native.Mathlib.Omega.{arith}
 use Rattle.lookup.specs.Parts.{held}
 use Rattle.station.specs.Parameters.{parameters, amounts, costC, intervalT, hoursPerStartS}
 use Rattle.index.specs.Slots.{slot}
-use Rattle.formulas.specs.Sums.{sumTo}
+use Rattle.lists.specs.Sums.{sumTo}
 use Rattle.formulas.specs.Exact.{quotient, microDollars}
 use Rattle.formulas.specs.Levels.{startMaintenance}
-use Rattle.formulas.proofs.Sums.{sum-more, sum-ends}
+use Rattle.lists.proofs.Sums.{sum-more, sum-ends}
 use Rattle.costs.proofs.Absent.{no-start-maintenance}
 use Rattle.costs.proofs.maintenance.start_maintenance.Statement.{statement}
 use Rattle.costs.proofs.maintenance.start_maintenance.Tie as tie

@@ -14,7 +14,7 @@ returns c =
     let b = c .before in
     let q = b .share .ensures .0 ∙ ap₂ quotient (ap₂ (λ (x y : ℕ). (x + y) * 1000)
     (b .before .before .before .charging-cost .ensures .0
-    ∙ sym (ap microDollars (charging-always (b .before .before .before .before .before .before .pre .0)))) (b .before .before .fuel .ensures .0))
+    ∙ sym (ap microDollars (charging-always (b .before .before .before .before .before .before .before .pre .0)))) (b .before .before .fuel .ensures .0))
     (b .before .efficiency .ensures .0) in
     ap₂ (λ (x y : ℕ). x + y) q (c .additions .ensures .0)
 
