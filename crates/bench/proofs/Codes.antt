@@ -8,7 +8,7 @@ use Rattle.verdicts.specs.declared.Verdict.{Verdict}
 use Rattle.verdicts.specs.declared.Verdict.the-variants.{Passes, Fails, Refused}
 use Rattle.layout.specs.declared.Written.{Written}
 use Rattle.layout.specs.declared.Written.the-variants.{Bytes, Refused as Unwritten}
-use Rattle.bench.specs.Codes.{coded, answerCode, partCode, wordsCode, verdictCode, writtenCode}
+use Rattle.bench.specs.Codes.{coded, answerCode, partCode, wordsCode, verdictCode, writtenCode, weekCode}
 
 pub accepted-code : {a : Answer} → a ≡ Accepted → 0 ≡ answerCode a
 unfolding answerCode
@@ -29,6 +29,14 @@ words-code e = rw e refl
 pub wordless-code : {a : Answer} {n p r : ℕ} → r ≡ coded 2 n p → a ≡ Turned n p → r ≡ wordsCode a
 unfolding wordsCode
 wordless-code c e = rw e c
+
+pub week-code : {a : Answer} → a ≡ Accepted → 2016 ≡ weekCode a
+unfolding weekCode
+week-code e = rw e refl
+
+pub weekless-code : {a : Answer} {n p r : ℕ} → r ≡ coded 2 n p → a ≡ Turned n p → r ≡ weekCode a
+unfolding weekCode
+weekless-code c e = rw e c
 
 pub passes-code : {v : Verdict} → v ≡ Passes → 0 ≡ verdictCode v
 unfolding verdictCode

@@ -36,3 +36,8 @@ verdictCode (Refused n p) = coded 2 n p
 unfoldable pub writtenCode : Written → ℕ
 writtenCode (Bytes n) = coded 0 0 n
 writtenCode (Unwritten n p) = coded 2 n p
+
+-- class 0 with the 2,016 intervals written; class 2 refused
+unfoldable pub weekCode : Answer → ℕ
+weekCode Accepted = 2016
+weekCode (Turned n p) = coded 2 n p

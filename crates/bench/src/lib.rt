@@ -6,10 +6,11 @@ ghost use lib.ListN.{length};
 ghost use Rattle.records.specs.Record.{mark};
 ghost use Rattle.lookup.specs.Parts.{lookupPart};
 ghost use Rattle.rules.specs.Answer.{answer};
+ghost use Rattle.rules.specs.Week.{weekAnswer, pricesAfter, energiesAfter};
 ghost use Rattle.verdicts.specs.Verdict.{onOffer, onPrice};
 ghost use Rattle.layout.specs.Report.{written, report, reportAnswer, bufferAfter};
 ghost use Rattle.words.specs.Words.{wordsAnswer, wordsAfter};
-ghost use Rattle.bench.specs.Codes.{coded, answerCode, partCode, wordsCode, verdictCode, writtenCode};
+ghost use Rattle.bench.specs.Codes.{coded, answerCode, partCode, wordsCode, verdictCode, writtenCode, weekCode};
 use layout::Written;
 use records::Answer;
 use verdicts::Verdict;
@@ -96,5 +97,18 @@ pub extern "C" fn bench_report(dossier: &[u8], hour: u32, buffer: &mut [u8]) -> 
     match report::report(dossier, hour, buffer) {
         Written::Bytes(n) => code(0, 0, n),
         Written::Refused { number, place } => code(2, number as usize, place),
+    }
+}
+
+// The charging week: prices in cents and energies in kWh, in two lent lists; class 0 with 2,016.
+#[no_mangle]
+pub extern "C" fn bench_week(dossier: &[u8], prices: &mut [i32], energies: &mut [u32]) -> u64
+    ensures answer { λ r. ⌜ r ≡ weekCode (weekAnswer (now (dossier .entry)) (length (now (prices .entry))) (length (now (energies .entry)))) ⌝ }
+    ensures prices { λ r. ⌜ now (prices .exit) ≡ pricesAfter (now (dossier .entry)) (now (prices .entry)) (now (energies .entry)) ⌝ }
+    ensures energies { λ r. ⌜ now (energies .exit) ≡ energiesAfter (now (dossier .entry)) (now (prices .entry)) (now (energies .entry)) ⌝ }
+{
+    match week::week(dossier, prices, energies) {
+        Answer::Accepted => 2016,
+        Answer::Refused { number, place } => code(2, number as usize, place),
     }
 }

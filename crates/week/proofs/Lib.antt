@@ -1,0 +1,4 @@
+pub mod Signed
+pub mod Stands
+pub mod Reading
+pub mod Told

@@ -1,0 +1,49 @@
+use borrow.Author.Needs.{needs}
+use mathlib.Core.Path.{_≡_}
+use Prim.Native.Nat.{_-_, _≤_}
+use native.Mathlib.Omega.{arith}
+use lib.IntN.{pos}
+use Rattle.week.proofs.Stands.{Cleared, cleared-none, cleared-next, cleared-all}
+use Rattle.week.proofs.clear_prices.Statement.{statement}
+use Rattle.week.proofs.clear_prices.Tie as tie
+
+abbrev Inv-loop : tie.InvT-loop
+Inv-loop prices₀ i₀ prices i = (i ≤ 2016) × Cleared (pos 0) prices₀ i prices
+
+abbrev μ-loop : tie.MeasureT-loop
+μ-loop prices₀ i₀ prices i = 2016 - i
+
+loop-holds : tie.Need-loop-holds Inv-loop μ-loop
+loop-holds c = (omega arith, cleared-none (pos 0) _)
+
+slice-set-of-prices : tie.Need-slice-set-of-prices Inv-loop μ-loop
+slice-set-of-prices c = omega (arith, c .loop-test .taken, c .before .loop .inv .1 .long, c .before .before .pre)
+
+loop-again : tie.Need-loop-again Inv-loop μ-loop
+loop-again c =
+    let l = c .before .loop in
+    (omega (arith, c .loop-test .taken), cleared-next (pos 0) _ (l .i) (l .prices) (omega (arith, c .loop-test .taken, c .before .before .pre)) (l .inv .1))
+
+same-length : tie.Need-same-length Inv-loop μ-loop
+same-length c = c .before .loop .inv .1 .long
+
+returns : tie.Need-returns Inv-loop μ-loop
+returns c =
+    let l = c .before .loop in
+    let e : l .i ≡ 2016 = omega (arith, c .loop-test .left, l .inv .0) in
+    cleared-all (pos 0) _ (l .i) (l .prices) e (l .inv .1)
+
+pub clear-prices-spec : {M : Type 1} → statement M
+clear-prices-spec =
+    tie.close
+    (tie.spec
+    Inv-loop
+    μ-loop
+    loop-holds
+    (λ c. search needs)
+    slice-set-of-prices
+    (λ c. search needs)
+    (λ c. search needs)
+    loop-again
+    same-length
+    returns)
