@@ -1,18 +1,29 @@
 -- Demand 3 holds.
-use mathlib.Core.Path.{_≡_, refl, ap}
+use mathlib.Core.Path.{_≡_, refl, ap, sym, _∙_}
+use mathlib.Core.Bool.{Bool, true, false, cond}
 use native.Mathlib.Omega.{arith}
+use lib.Dec.{T, ltb, le→leb}
 use lib.ListN.{getD}
+use lib.Signed.{leZ, _≤ℤ_, leZ-yes}
 use mathlib.Core.List.{List, [], _∷_}
-use Prim.Native.Nat.{ℕ}
-use lib.IntN.{ℤ}
+use Prim.Native.Nat.{ℕ, _-_, _≤_}
+use lib.IntN.{ℤ, pos, negsuc}
+use borrow.Author.Tests.{ltb-true, ltb-false}
 use Rattle.lists.specs.Lists.{Pairwise, none, more}
-use Rattle.fields.specs.Numbers.{biasedOf}
+use Rattle.lists.specs.Sums.{upTo}
+use Rattle.fields.specs.Numbers.{biasedOf, unbiased}
 use Rattle.records.specs.Dossier.{records}
 use Rattle.records.specs.Raise.{Raised}
 use Rattle.records.proofs.Raise.{raised, raised-self}
-use Rattle.station.specs.Parameters.{parameters, amounts, technology}
+use Rattle.records.specs.Table.{CH}
+use Rattle.station.specs.Parameters.{parameters, amounts, technology, chargePrice, chargeEnergy}
+use Rattle.station.specs.Week.{intervals, weekPrice, weekEnergy, weekPrices, weekEnergies}
 use Rattle.station.proofs.Parameters.{same-parameters, higher}
+use Rattle.station.proofs.Week.{price-told, energy-of-week}
 use Rattle.rules.specs.Answer.{IsAccepted}
+use Rattle.rules.specs.Week.{weekAnswer}
+use Rattle.lists.proofs.Sums.{upTo-pairwise}
+use Rattle.rules.proofs.Week.{accepted-readable}
 use Rattle.rules.proofs.Sound.{accepted-sound, sound-accepted, sound-raised, efficient}
 use Rattle.formulas.specs.Levels.{NoLower, levels}
 use Rattle.formulas.proofs.Hours.{hour-accepted}
@@ -33,6 +44,18 @@ passed (Refused n p) h = absurd (let z : _≡_ {A = ℕ} 2 0 = ap (λ l. getD l 
 in-numbers : {v w : Verdict} → (v ≡ Passes → w ≡ Passes) → Passed v → Passed w
 unfolding numbers
 in-numbers {v} f h = ap numbers (f (passed v h))
+
+-- numbers held plus 2^31 are in the order of the signed ones
+held-order : (m n : ℕ) → m ≤ n → unbiased m ≤ℤ unbiased n
+unfolding unbiased
+held-order m n h = leZ-yes (go (ltb m 2147483648) (ltb n 2147483648) refl refl)
+  where
+    go : (b c : Bool) → ltb m 2147483648 ≡ b → ltb n 2147483648 ≡ c
+        → T (leZ (cond b (negsuc (2147483647 - m)) (pos (m - 2147483648))) (cond c (negsuc (2147483647 - n)) (pos (n - 2147483648))))
+    go true true e f = le→leb (2147483647 - n) (2147483647 - m) (omega arith)
+    go true false e f = tt
+    go false true e f = absurd (omega (arith, ltb-false m 2147483648 e, ltb-true n 2147483648 f))
+    go false false e f = le→leb (m - 2147483648) (n - 2147483648) (omega arith)
 
 module _ {d e : List ℕ} (q : Raise d e) (h : IsAccepted d) where
   pairs : Pairwise (Raised (technology (parameters (records d)))) (records d) (records e)
@@ -58,6 +81,27 @@ module _ {d e : List ℕ} (q : Raise d e) (h : IsAccepted d) where
       rw (hour-accepted d t h, hour-accepted e t accepted-stays, ← same-parameters pairs)
       (price-stays (parameters (records d)) c (levels-upper t) v (biasedOf price))
 
+  week-stays : (n m : ℕ) → weekAnswer d n m ≡ weekAnswer e n m
+  unfolding weekAnswer
+  week-stays n m = rw (h .clean, accepted-stays .clean) refl
+
+  energies-stay : weekEnergies d ≡ weekEnergies e
+  unfolding weekEnergies
+  energies-stay = λ i. upTo intervals (λ n. energy n i)
+    where
+      energy : (n : ℕ) → weekEnergy d n ≡ weekEnergy e n
+      energy n =
+          sym (energy-of-week d (accepted-readable h) n) ∙ ap (λ s. chargeEnergy s n) (same-parameters pairs)
+          ∙ energy-of-week e (accepted-readable accepted-stays) n
+
+  no-price-lower : Pairwise _≤ℤ_ (weekPrices d) (weekPrices e)
+  unfolding weekPrices
+  no-price-lower =
+      upTo-pairwise _≤ℤ_ (weekPrice d) (weekPrice e)
+      (λ n. rw (price-told d (accepted-readable h) n, price-told e (accepted-readable accepted-stays) n)
+      (held-order (chargePrice (amounts (records d)) n) (chargePrice (amounts (records e)) n) (higher pairs CH n 1)))
+      intervals
+
 pub demand3 : Demand3
 unfolding levels
 demand3 =
@@ -68,6 +112,9 @@ demand3 =
             higher = levels-upper q h;
             offers = λ t c o. in-numbers (offers-stay q h t c o);
             prices = λ t v c price. in-numbers (prices-stay q h t v c price);
+            week-answer = week-stays q h;
+            week-energies = energies-stay q h;
+            week-prices = no-price-lower q h;
           };
       distance = λ d h. lines-close (parameters (records d)) (amounts (records d)) (efficient (accepted-sound d h .1));
     }

@@ -1,11 +1,17 @@
 -- Two accepted dossiers whose current records say the same mean the same: all that is said of a dossier is said of its parameters and amounts.
-use mathlib.Core.Path.{_≡_, refl, sym, _∙_}
+use mathlib.Core.Path.{_≡_, refl, ap, sym, _∙_}
 use mathlib.Core.List.{List}
 use Prim.Native.Nat.{ℕ}
 use lib.ListN.{length}
+use Rattle.lists.specs.Sums.{upTo}
+use Rattle.fields.specs.Numbers.{unbiased}
 use Rattle.records.specs.Dossier.{records}
-use Rattle.station.specs.Parameters.{parameters, amounts}
+use Rattle.station.specs.Parameters.{parameters, amounts, chargePrice, chargeEnergy}
+use Rattle.station.specs.Week.{intervals, weekPrice, weekEnergy, weekPrices, weekEnergies}
+use Rattle.station.proofs.Week.{price-told, energy-of-week}
 use Rattle.rules.specs.Answer.{IsAccepted}
+use Rattle.rules.specs.Week.{weekAnswer, pricesAfter, energiesAfter}
+use Rattle.rules.proofs.Week.{accepted-readable}
 use Rattle.formulas.specs.Levels.{levels, hourAnswer}
 use Rattle.formulas.proofs.Hours.{hour-same}
 use Rattle.verdicts.specs.Verdict.{onOffer, onPrice}
@@ -29,8 +35,28 @@ module _ {d e : List ℕ} (h : IsAccepted d) (g : IsAccepted e) (parameters-same
   unfolding reportAnswer
   same-reported t n = rw (same-answer t, same-report t) refl
 
+  same-price : (n : ℕ) → weekPrice d n ≡ weekPrice e n
+  same-price n =
+      price-told d (accepted-readable h) n ∙ ap (λ m. unbiased (chargePrice m n)) amounts-same ∙ sym (price-told e (accepted-readable g) n)
+
+  same-energy : (n : ℕ) → weekEnergy d n ≡ weekEnergy e n
+  same-energy n =
+      sym (energy-of-week d (accepted-readable h) n) ∙ ap (λ s. chargeEnergy s n) parameters-same ∙ energy-of-week e (accepted-readable g) n
+
+  same-prices : weekPrices d ≡ weekPrices e
+  unfolding weekPrices
+  same-prices = λ i. upTo intervals (λ n. same-price n i)
+
+  same-energies : weekEnergies d ≡ weekEnergies e
+  unfolding weekEnergies
+  same-energies = λ i. upTo intervals (λ n. same-energy n i)
+
+  same-week : (n m : ℕ) → weekAnswer d n m ≡ weekAnswer e n m
+  unfolding weekAnswer
+  same-week n m = rw (h .clean, g .clean) refl
+
   pub same-meaning : SameMeaning d e
-  unfolding onOffer onPrice bufferAfter
+  unfolding onOffer onPrice bufferAfter pricesAfter energiesAfter
   same-meaning =
       record {
         accepted = g;
@@ -41,4 +67,9 @@ module _ {d e : List ℕ} (h : IsAccepted d) (g : IsAccepted e) (parameters-same
         answer = same-reported;
         told = λ t n. rw (same-reported t n, same-report t) refl;
         buffer = λ t buf. rw (same-reported t (length buf), same-report t) refl;
+        week-prices = same-prices;
+        week-energies = same-energies;
+        week-answer = same-week;
+        prices-after = λ ps es. rw (same-week (length ps) (length es), same-prices) refl;
+        energies-after = λ ps es. rw (same-week (length ps) (length es), same-energies) refl;
       }

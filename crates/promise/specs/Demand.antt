@@ -3,11 +3,14 @@ use mathlib.Core.Path.{_≡_}
 use mathlib.Core.List.{List, [], _∷_}
 use Prim.Native.Nat.{ℕ}
 use lib.IntN.{ℤ}
+use lib.Signed.{_≤ℤ_}
 use Rattle.lists.specs.Lists.{Pairwise, Each}
 use Rattle.records.specs.Dossier.{records}
 use Rattle.records.specs.Raise.{RaiseFor}
 use Rattle.station.specs.Parameters.{parameters, technology}
+use Rattle.station.specs.Week.{weekPrices, weekEnergies}
 use Rattle.rules.specs.Answer.{IsAccepted}
+use Rattle.rules.specs.Week.{weekAnswer}
 use Rattle.formulas.specs.Levels.{levels, NoLower, CloseLine}
 use Rattle.verdicts.specs.declared.Verdict.{Verdict}
 use Rattle.verdicts.specs.Verdict.{numbers, onOffer, onPrice}
@@ -20,12 +23,16 @@ Raise d e = RaiseFor (technology (parameters (records d))) d e
 abbrev pub Passed : Verdict → Type 0
 Passed v = numbers v ≡ 0 ∷ []
 
--- what a raise keeps: e is accepted; "Demand 3 sets the levels of the two side by side at each hour", and none is lower; what passed passes
+-- what a raise keeps: e is accepted; "Demand 3 sets the levels of the two side by side at each hour", and none is lower; what passed passes; of the charging
+-- week the answer and the energies stay, and no interval's price is lower
 pub record RaiseKeeps (d e : List ℕ) : Type 0 where
   pub accepted : IsAccepted e
   pub higher : (h : ℕ) → Pairwise NoLower (levels d h) (levels e h)
   pub offers : (h c : ℕ) (o : List ℕ) → Passed (onOffer d h c o) → Passed (onOffer e h c o)
   pub prices : (h v c : ℕ) (price : ℤ) → Passed (onPrice d h v c price) → Passed (onPrice e h v c price)
+  pub week-answer : (n m : ℕ) → weekAnswer d n m ≡ weekAnswer e n m
+  pub week-energies : weekEnergies d ≡ weekEnergies e
+  pub week-prices : Pairwise _≤ℤ_ (weekPrices d) (weekPrices e)
 
 -- "It is one claim about dossiers as bytes, not one for each technology or formula": every raise of an accepted dossier keeps that, and every level of an
 -- accepted dossier is close to its exact level

@@ -6,7 +6,9 @@ use lib.IntN.{ℤ}
 use lib.ListN.{length}
 use Rattle.lists.specs.Lists.{Permutation, joined}
 use Rattle.records.specs.Dossier.{records}
+use Rattle.station.specs.Week.{weekPrices, weekEnergies}
 use Rattle.rules.specs.Answer.{IsAccepted}
+use Rattle.rules.specs.Week.{weekAnswer, pricesAfter, energiesAfter}
 use Rattle.formulas.specs.Levels.{levels}
 use Rattle.verdicts.specs.Verdict.{onOffer, onPrice}
 use Rattle.layout.specs.Report.{report, written, writtenNumbers, reportAnswer, bufferAfter}
@@ -21,7 +23,8 @@ pub record Reordered (d e : List ℕ) : Type 0 where
 abbrev pub told : List ℕ → ℕ → ℕ → List ℕ
 told d h n = writtenNumbers (written (reportAnswer d h n) (length (report d h)))
 
--- e is accepted, and has the levels, verdicts and report of d at every hour
+-- e is accepted, has the levels, verdicts and report of d at every hour, and its week: its prices and energies, and for lent lists of any length the answer
+-- and what the lists hold after the call
 pub record SameMeaning (d e : List ℕ) : Type 0 where
   pub accepted : IsAccepted e
   pub levels : (h : ℕ) → levels d h ≡ levels e h
@@ -31,6 +34,11 @@ pub record SameMeaning (d e : List ℕ) : Type 0 where
   pub answer : (h n : ℕ) → reportAnswer d h n ≡ reportAnswer e h n
   pub told : (h n : ℕ) → told d h n ≡ told e h n
   pub buffer : (h : ℕ) (buf : List ℕ) → bufferAfter d h buf ≡ bufferAfter e h buf
+  pub week-prices : weekPrices d ≡ weekPrices e
+  pub week-energies : weekEnergies d ≡ weekEnergies e
+  pub week-answer : (n m : ℕ) → weekAnswer d n m ≡ weekAnswer e n m
+  pub prices-after : (ps : List ℤ) (es : List ℕ) → pricesAfter d ps es ≡ pricesAfter e ps es
+  pub energies-after : (ps : List ℤ) (es : List ℕ) → energiesAfter d ps es ≡ energiesAfter e ps es
 
 -- every reordering of an accepted dossier means the same
 abbrev pub ArrivalOrder : Type 0

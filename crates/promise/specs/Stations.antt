@@ -1,4 +1,5 @@
--- The stations and offers of the marked cases, a station on a river and an idle battery, in the papers' numbers and, through the table, as bytes.
+-- The stations and offers of the marked cases, a station on a river, an idle battery and one that charged, in the papers' numbers and, through the table,
+-- as bytes.
 use mathlib.Core.List.{List, [], _∷_, _++_}
 use Prim.Native.Nat.{ℕ, zero, suc, _+_, _*_}
 use Rattle.records.specs.Table.{RS, HP, FU, AD, MM, HR, CH, TH, FP, LC}
@@ -103,3 +104,21 @@ idleWith cost =
 -- M8's charging cost, 1.25
 abbrev pub idle : List (List ℕ)
 idle = idleWith 1250000
+
+-- ---- document 02, request 6: the battery of M5 to M9 with M8's charging in the first and the last interval of the week, at hours of 1.00
+
+-- interval 2,016 as issue 7, and behind it as issue 6, 500 kWh at 90.00
+abbrev pub weekWith : ℕ → List (List ℕ)
+weekWith price =
+    batteryWith
+    (made HR 1 (1 ∷ 100 ∷ [])
+    ∷ made HR 1 (2 ∷ 100 ∷ [])
+    ∷ made HR 1 (3 ∷ 100 ∷ [])
+    ∷ made CH 1 (1 ∷ 2000 ∷ 1000 ∷ [])
+    ∷ made CH 7 (2016 ∷ price ∷ 3000 ∷ [])
+    ∷ made CH 6 (2016 ∷ 9000 ∷ 500 ∷ [])
+    ∷ [])
+
+-- its price -5.00
+abbrev pub week : List (List ℕ)
+week = weekWith (minus 500)

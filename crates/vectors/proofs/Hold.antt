@@ -130,3 +130,19 @@ line1118 = refl
 line1119 : cases.Line1119
 unfolding computed
 line1119 = refl
+
+week2 : cases.Week2
+unfolding computed
+week2 = (refl, refl, refl)
+
+week17 : cases.Week17
+unfolding computed
+week17 = (refl, refl, refl)
+
+week102 : cases.Week102
+unfolding computed
+week102 = refl
+
+week132 : cases.Week132
+unfolding computed
+week132 = (refl, refl, refl)
