@@ -10,15 +10,15 @@
  * definitions say (docs/PROMISE.md), and every call ends. A refused call shows no level and writes nothing.
  *
  * Units. Levels and prices are in cents: per MWh for energy, per start, per hour for no-load, per MW for reserve. Quantities are in 0.1 MW,
- * places and lengths in bytes. Hours are counted as the dossier's requests (RQ) count them, from 0 to 4,294,967,295. Levels: 1 energy, 2 start,
- * 3 no-load, 4 reserve. Conditions: 1 narrow, 2 broad, 3 global.
+ * charged energy in kWh, places and lengths in bytes. Hours are counted as the dossier's requests (RQ) count them, from 0 to 4,294,967,295.
+ * Levels: 1 energy, 2 start, 3 no-load, 4 reserve. Conditions: 1 narrow, 2 broad, 3 global.
  *
  * Memory. A call reads and writes what it is lent and nothing else, allocates nothing and keeps no pointer. It can't see what lies behind a
- * pointer: a length above what is there is the caller's fault, and so are a list or buffer that overlaps the dossier and a null pointer. Where a
- * length is 0 any pointer but null will do.
+ * pointer: a length above what is there is the caller's fault, and so are a list or buffer that overlaps the dossier or another list, and a null
+ * pointer. Where a length is 0 any pointer but null will do.
  *
  * Threads. There is no state: any number of threads may call at once, with the same dossier too. Of other functions the library calls memcpy and
- * memset alone. A call takes at most 130,000 bytes of stack, so a thread should have 256 KiB; the 128 KiB that some systems give
+ * memset alone. A call takes at most 135,000 bytes of stack, so a thread should have 256 KiB; the 128 KiB that some systems give
  * a thread may be too few, and the process then ends.
  */
 #ifndef BENCH_H
@@ -39,6 +39,9 @@ extern "C" {
 
 /* A buffer of this many bytes holds every report. */
 #define BENCH_REPORT_BYTES 2283
+
+/* How many prices and how many energies bench_week writes: one for each interval of five minutes over seven days. */
+#define BENCH_INTERVALS 2016
 
 /* The parts of an answer. */
 static inline unsigned bench_class(uint64_t answer) { return (unsigned)(answer >> 56); }
@@ -76,6 +79,12 @@ uint64_t bench_price_test(const uint8_t *dossier, size_t length, uint32_t hour, 
 /* The report at an hour, into a buffer: lines of ASCII, each with a newline behind it and no null byte, levels in dollars and quantities in MW. The
  * value is the length written, and bytes past it stay. A buffer that the report doesn't fit is refused with 15 at 0. */
 uint64_t bench_report(const uint8_t *dossier, size_t length, uint32_t hour, uint8_t *buffer, size_t buffer_length);
+
+/* The charging week, into a list of prices and a list of energies; the value is 2,016, and places past these stay. A list of fewer (price_count,
+ * energy_count) is refused with 15 at 0, and both lists stay as they were.
+ *   prices[n - 1]    the price of interval n, in cents per MWh, and energies[n - 1] its energy, in kWh: those of its current record (CH); both 0
+ *                    where there is none, and so in every interval of a station that isn't storage */
+uint64_t bench_week(const uint8_t *dossier, size_t length, int32_t *prices, size_t price_count, uint32_t *energies, size_t energy_count);
 
 #ifdef __cplusplus
 }

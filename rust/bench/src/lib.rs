@@ -35,6 +35,7 @@
 //! - [`levels`] and [`levels_into`]: the levels at an hour, as a struct or as words.
 //! - [`energy_test`] and [`price_test`]: whether an offer passes the conduct test at an hour.
 //! - [`report`]: the levels at an hour as lines of text.
+//! - [`week`] and [`week_into`]: a battery's charging week, as a struct or in two lists.
 //! - [`current`]: where the current record of a mark and key lies.
 //!
 //! A call is refused where the dossier, the offer or what is asked breaks a rule: a [`Refusal`] has
@@ -57,9 +58,9 @@
 //! # Units
 //!
 //! Levels and prices are in cents: per MWh for energy, per start, per hour for no-load, per MW for
-//! reserve. Quantities are in 0.1 MW. An hour is any number from 0 to 4,294,967,295, and means what
-//! it means in the dossier's requests (RQ); places are in bytes, from 0. Levels and conditions have
-//! numbers:
+//! reserve. Quantities are in 0.1 MW, charged energy in kWh. An hour is any number from 0 to
+//! 4,294,967,295, and means what it means in the dossier's requests (RQ); places are in bytes, from
+//! 0. Levels and conditions have numbers:
 //!
 //! | Number | Level | Condition |
 //! |---|---|---|
@@ -75,9 +76,9 @@
 //!
 //! # Memory and threads
 //!
-//! The library has no state and allocates nothing; here only [`levels`] does, for its list. Any
-//! number of threads may call at once. A call takes at most 130,000 bytes of stack, so that a thread
-//! should have 256 KiB; those that `std` starts have 2 MiB.
+//! The library has no state and allocates nothing; here only [`levels`] and [`week`] do, for their
+//! lists. Any number of threads may call at once. A call takes at most 135,000 bytes of stack, so
+//! that a thread should have 256 KiB; those that `std` starts have 2 MiB.
 #![warn(missing_docs)]
 
 mod accept;
@@ -85,11 +86,13 @@ mod conduct;
 mod levels;
 mod raw;
 mod report;
+mod week;
 
 pub use accept::{accept, current, Part};
 pub use conduct::{energy_test, price_test, Failing, Verdict};
 pub use levels::{levels, levels_into, Lamination, Levels, WORDS};
 pub use report::{report, REPORT_BYTES};
+pub use week::{week, week_into, Week, INTERVALS};
 
 use std::fmt;
 

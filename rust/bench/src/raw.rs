@@ -40,4 +40,13 @@ extern "C" {
         buffer: *mut u8,
         buffer_length: usize,
     ) -> u64;
+
+    pub fn bench_week(
+        dossier: *const u8,
+        length: usize,
+        prices: *mut i32,
+        price_count: usize,
+        energies: *mut u32,
+        energy_count: usize,
+    ) -> u64;
 }

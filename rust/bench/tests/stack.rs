@@ -28,6 +28,7 @@ fn every_call() {
     assert_eq!(verdict, Ok(Verdict::Passes));
     let mut buffer = [0; REPORT_BYTES];
     assert!(bench::report(&dossier, 0, &mut buffer).is_ok());
+    assert!(bench::week(&dossier).is_ok());
 }
 
 #[test]

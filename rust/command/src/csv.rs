@@ -27,6 +27,19 @@ const OF_OFFER: &[&str] = &[
     "lamination",
     "highest",
 ];
+const OF_INTERVAL: &[&str] = &[
+    "file",
+    "answer",
+    "technology",
+    "cost",
+    "interval",
+    "day",
+    "from",
+    "to",
+    "price",
+    "energy",
+    "paid",
+];
 const OF_REFUSAL: &[&str] = &["refused", "place", "says"];
 
 /// The columns of `bench levels`.
@@ -40,6 +53,9 @@ pub const TEST: Columns = &[OF_OFFER, OF_REFUSAL];
 
 /// Those of `bench offers`: the line of the offers file stands first.
 pub const OFFERS: Columns = &[&["line"], OF_OFFER, OF_REFUSAL];
+
+/// Those of `bench week`: each row of an interval has the week's charging cost.
+pub const WEEK: Columns = &[OF_INTERVAL, OF_REFUSAL];
 
 /// A row: cells by the names of their columns.
 type Row = Vec<(&'static str, String)>;
@@ -81,6 +97,8 @@ fn of_answer(answer: &Json) -> Vec<Row> {
         hours.iter().flat_map(of_answer).collect()
     } else if answer.member("energy").is_some() {
         of_levels(answer).map(|row| named("levels", row)).collect()
+    } else if let Some(week) = answer.member("week") {
+        of_week(week).map(|row| named("week", row)).collect()
     } else if let Some(refused) = answer.member("refused") {
         vec![named("refused", of_refusal(refused))]
     } else if let Some(Json::List(lines)) = answer.member("wrong-lines") {
@@ -152,6 +170,20 @@ fn of_lamination(lamination: &Json) -> Row {
     let mut row = scalars(lamination);
     row.extend([("level", "energy".to_string()), ("dollars", level)]);
     row
+}
+
+/// A row for each interval that the answer has, and one for a week without any.
+fn of_week(week: &Json) -> impl Iterator<Item = Row> + '_ {
+    let intervals = match week.member("intervals") {
+        Some(Json::List(intervals)) if !intervals.is_empty() => {
+            intervals.iter().map(scalars).collect()
+        }
+        _ => vec![Row::new()],
+    };
+    let own = scalars(week);
+    intervals
+        .into_iter()
+        .map(move |row| own.iter().cloned().chain(row).collect())
 }
 
 /// The highest prices that pass, parted by spaces; `any` where every price does.

@@ -1,6 +1,6 @@
 //! `bench day`: the levels over hours as a table, and a picture of one hour's energy curve.
 
-use crate::answer::{one, refused, Said, Status, Stop, Streams};
+use crate::answer::{refused, Said, Status, Stop, Streams};
 use crate::args::{hour, whole, Args};
 use crate::conduct::verdict;
 use crate::csv;
@@ -14,7 +14,7 @@ use crate::offer::{self, highest_in, Pair};
 use crate::output;
 use crate::picture::{self, Picture};
 use crate::table;
-use crate::together::{only, told};
+use crate::together::ask_only;
 use crate::unit::CONDITION;
 use bench::{energy_test, Failing, Levels, Refusal, Verdict};
 
@@ -50,17 +50,14 @@ pub fn run(args: &Args, streams: &mut Streams) -> Result<Status, Stop> {
     if !args.has("svg") && !args.has("svg-day") {
         return each(args, streams, &form, |input| answer(input, &question));
     }
-    let input = match only(args)? {
-        Ok(input) => input,
-        Err((name, said)) => return Ok(one(&form, streams, &name, &said)?),
-    };
-    let day = match asked(&input, &question) {
-        Ok(day) => day,
-        Err(said) => return Ok(one(&form, streams, &input.name, &told(&input, said))?),
-    };
-    draw(args, &input, &question, &day)?;
-    let said = told(&input, said(&input, &day));
-    Ok(one(&form, streams, &input.name, &said)?)
+    ask_only(args, streams, &form, |input| {
+        let day = match asked(input, &question) {
+            Ok(day) => day,
+            Err(said) => return Ok(said),
+        };
+        draw(args, input, &question, &day)?;
+        Ok(said(input, &day))
+    })
 }
 
 /// What is said of the hours of one station.

@@ -14,6 +14,7 @@ bench: reference levels of a station, and offers held against them
   bench test FILE...       an offer or a price held against the levels of an hour
   bench offers FILE        many offers to many stations, one a line
   bench day FILE...        the levels over hours as a table, and pictures
+  bench week FILE...       a battery's charging week as a table, and a picture
   bench help fields        the fields of every record, with their units and ranges
   bench help records       the records that each technology must have and may have
   bench --version          the version
@@ -117,6 +118,18 @@ writes a row for each level of each hour.
 --svg writes a picture of the energy curve at hour --at (the first without it), with the offer's pairs
 and the highest prices that pass over it. --svg-day writes one of the levels over the hours, with the
 profiles behind them. Both are of one station.
+";
+
+pub const WEEK: &str = "\
+bench week [FILE...] [--all] [--together] [--json | --csv] [--svg OUT]
+
+Prints a battery's charging week: how many of its 2016 intervals of five minutes charged, the energy,
+what was paid for it and the charging cost; then the days, and a row for each interval that has a price
+or an energy. --all has a row for every interval, idle ones too. Day 1 begins with interval 1, at 00:00.
+Of many files each gets a line; with --together they are one station. --csv writes a row for each
+interval. A station that isn't storage has no charging week.
+--svg writes a picture: price and energy over the seven days, the charging cost as a line, and a tint
+where no energy was charged. It is of one station.
 ";
 
 /// The fields of every record.

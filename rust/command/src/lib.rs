@@ -36,6 +36,7 @@ pub mod terms;
 pub mod text;
 mod together;
 pub mod unit;
+mod week;
 
 use answer::{Status, Stop, Streams};
 use args::{Args, Choice};
@@ -50,7 +51,7 @@ struct Command {
     run: fn(&Args, &mut Streams) -> Result<Status, Stop>,
 }
 
-const COMMANDS: [Command; 9] = [
+const COMMANDS: [Command; 10] = [
     Command {
         name: "new",
         choices: &[],
@@ -134,6 +135,18 @@ const COMMANDS: [Command; 9] = [
         ],
         help: help::DAY,
         run: day::run,
+    },
+    Command {
+        name: "week",
+        choices: &[
+            ("all", false),
+            ("svg", true),
+            ("together", false),
+            ("json", false),
+            ("csv", false),
+        ],
+        help: help::WEEK,
+        run: week::run,
     },
 ];
 

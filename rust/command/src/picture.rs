@@ -6,6 +6,7 @@ pub mod day;
 mod sheet;
 #[cfg(test)]
 mod tests;
+pub mod week;
 mod words;
 
 use crate::offer::Pair;
@@ -56,8 +57,21 @@ pub fn svg(picture: &Picture) -> String {
     sheet.out + "</svg>\n"
 }
 
-/// From and to in 0.1 MW, and the price between them in cents: a step, a pair or a limit.
-type Run = (u16, u16, i128);
+/// From and to in 0.1 MW, and the price between them in cents: a step, a pair or a limit. Pictures
+/// over time have hours or intervals in place of MW.
+pub type Run = (u16, u16, i128);
+
+/// Runs that go on at the same price are one.
+fn joined(runs: Vec<Run>) -> Vec<Run> {
+    let mut all: Vec<Run> = Vec::new();
+    for run in runs {
+        match all.last_mut() {
+            Some(last) if last.1 == run.0 && last.2 == run.2 => last.1 = run.1,
+            _ => all.push(run),
+        }
+    }
+    all
+}
 
 struct Lines {
     levels: Vec<Run>,

@@ -101,8 +101,8 @@ pub static RULES: [Rule; 17] = [
     },
     Rule {
         number: 15,
-        means: "a report buffer that is too short",
-        wants: "a buffer with room for the whole report",
+        means: "a list or a report buffer that is too short",
+        wants: "a list or a buffer with room for all that is written",
         who: DESK,
     },
     Rule {

@@ -5,8 +5,9 @@
 //! library's level the answer says so and is an error.
 
 mod book;
+pub mod charging;
 mod costs;
-mod words;
+pub mod words;
 
 use crate::answer::{refused, Said, Status, Stop, Streams};
 use crate::args::{hour, Args};

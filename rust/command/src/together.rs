@@ -52,6 +52,20 @@ pub fn only(args: &Args) -> Result<Result<Input, (Name, Said)>, Stop> {
     Ok(input::read(&file).map_err(wrong))
 }
 
+/// Asks for the station of a call that takes one, as a picture does, and writes the answer.
+pub fn ask_only(
+    args: &Args,
+    streams: &mut Streams,
+    form: &Form,
+    ask: impl Fn(&Input) -> Result<Said, Stop>,
+) -> Result<Status, Stop> {
+    let (name, said) = match only(args)? {
+        Ok(input) => (input.name.clone(), told(&input, ask(&input)?)),
+        Err(wrong) => wrong,
+    };
+    Ok(one(form, streams, &name, &said)?)
+}
+
 /// What is said of files that form no station, with their names.
 pub fn with_files(files: &[OsString], said: Said) -> Said {
     let names: Vec<Name> = files.iter().map(|file| input::name(file)).collect();

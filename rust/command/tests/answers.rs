@@ -94,7 +94,7 @@ fn turns(highest: Option<i32>, last: i32, passes: impl Fn(i32) -> bool) -> Check
 }
 
 /// Words of calls, good and bad; the first are commands.
-const WORDS: [&str; 52] = [
+const WORDS: [&str; 54] = [
     "pack",
     "unpack",
     "check",
@@ -103,12 +103,14 @@ const WORDS: [&str; 52] = [
     "day",
     "explain",
     "offers",
+    "week",
     "new",
     "help",
     "--help",
     "--json",
     "--together",
     "--csv",
+    "--all",
     "--hour",
     "--from",
     "--hours",
@@ -151,7 +153,7 @@ const WORDS: [&str; 52] = [
 
 /// Such words in any mixture.
 fn words(random: &mut Random, file: &str) -> Vec<String> {
-    let mut call = vec![random.pick(&WORDS[..9]).to_string(), file.to_string()];
+    let mut call = vec![random.pick(&WORDS[..10]).to_string(), file.to_string()];
     for _ in 0..random.below(9) {
         call.push(random.pick(&WORDS).to_string());
     }

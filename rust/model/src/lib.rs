@@ -1,5 +1,5 @@
-//! Document 01 with requests 1 to 3 of document 02 in plain Rust: a dossier's acceptance, its
-//! levels, the conduct test and the report.
+//! Document 01 with requests 1 to 3 and 6 of document 02 in plain Rust: a dossier's acceptance, its
+//! levels, the conduct test, the report and the charging week.
 //!
 //! Bench is run against this crate. It is written to be read beside the papers, goes over a dossier
 //! once for each question, and shares no code with Bench. The functions named at the end of this
@@ -21,6 +21,7 @@ pub mod report;
 pub mod station;
 pub mod table;
 pub mod vectors;
+pub mod week;
 pub mod whole;
 
 pub use accept::{accept, Answer};
@@ -29,6 +30,7 @@ pub use exact::exact_levels;
 pub use levels::levels;
 pub use report::{program, report};
 pub use station::{current, current_start};
+pub use week::{week, week_into, Week};
 
 /// Why a call is turned back: the number of the rule, and the place where it broke.
 #[derive(Clone, Copy, Debug, PartialEq, Eq)]

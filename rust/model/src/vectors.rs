@@ -1,7 +1,7 @@
 //! The cases with their expected answers: one a line, words parted by a space, bytes in
 //! hexadecimal, `-` for none.
 
-use crate::{refuse, Failing, Refusal, Verdict};
+use crate::{refuse, Failing, Refusal, Verdict, Week};
 
 #[derive(Debug)]
 pub enum Vector {
@@ -30,6 +30,10 @@ pub enum Vector {
         condition: u8,
         price: i32,
         verdict: Result<Verdict, Refusal>,
+    },
+    Week {
+        dossier: Vec<u8>,
+        week: Result<Week, Refusal>,
     },
 }
 
@@ -64,9 +68,13 @@ impl Vector {
 
 /// The vectors in the repository's data folder.
 pub fn read() -> Vec<Vector> {
-    let path = concat!(env!("CARGO_MANIFEST_DIR"), "/../../data/request-3.txt");
-    let text = std::fs::read_to_string(path).expect(path);
-    text.lines().map(vector).collect()
+    let folder = concat!(env!("CARGO_MANIFEST_DIR"), "/../../data");
+    let text = |name| {
+        let path = format!("{folder}/{name}");
+        std::fs::read_to_string(&path).expect(&path)
+    };
+    let texts = ["request-3.txt", "week.txt"].map(text);
+    texts.iter().flat_map(|t| t.lines()).map(vector).collect()
 }
 
 fn vector(line: &str) -> Vector {
@@ -96,6 +104,10 @@ fn vector(line: &str) -> Vector {
             condition: number(condition),
             price: number(price),
             verdict: verdict(answer),
+        },
+        ["week", dossier, answer] => Vector::Week {
+            dossier: bytes(dossier),
+            week: week(answer),
         },
         _ => panic!("no vector: {line}"),
     }
@@ -130,4 +142,18 @@ fn verdict(word: &str) -> Result<Verdict, Refusal> {
         ["refused", n, place] => refuse(number(n), number(place)),
         _ => panic!("no verdict: {word}"),
     }
+}
+
+/// The intervals that aren't 0 in both, each as INTERVAL:PRICE:ENERGY.
+fn week(word: &str) -> Result<Week, Refusal> {
+    let mut week = Week::without_record();
+    for entry in word.split(',').filter(|entry| *entry != "-") {
+        let parts: Vec<&str> = entry.split(':').collect();
+        match parts[..] {
+            ["refused", n, place] => return refuse(number(n), number(place)),
+            [interval, price, energy] => week.put(number(interval), number(price), number(energy)),
+            _ => panic!("no interval: {entry}"),
+        }
+    }
+    Ok(week)
 }

@@ -1,7 +1,7 @@
 //! Every line of the cases with their expected answers.
 
 use model::vectors::{read, Vector};
-use model::{current, current_start, energy_test, price_test, program};
+use model::{current, current_start, energy_test, price_test, program, week};
 
 #[test]
 fn every_vector() {
@@ -27,6 +27,10 @@ fn every_vector() {
                 let judged = vector.judged(energy_test, price_test);
                 judged.is_some_and(|(found, expected)| found == *expected)
             }
+            Vector::Week {
+                dossier,
+                week: expected,
+            } => week(dossier) == *expected,
         };
         assert!(holds, "{vector:?}");
     }

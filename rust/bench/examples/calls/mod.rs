@@ -1,12 +1,20 @@
 //! The calls that are timed and counted, of the model and of the library, all at hour 0 and under
 //! condition 1.
 
+use bench::INTERVALS;
 use model::make::offers;
 use std::fmt::Debug;
 use std::hint::black_box;
 use std::process::ExitCode;
 
-pub const NAMES: [&str; 5] = ["accept", "levels", "energy_test", "price_test", "report"];
+pub const NAMES: [&str; 6] = [
+    "accept",
+    "levels",
+    "energy_test",
+    "price_test",
+    "report",
+    "week",
+];
 
 pub const HOUR: u32 = 0;
 pub const CONDITION: u8 = 1;
@@ -51,7 +59,7 @@ impl Input {
     }
 
     fn calls(&self) -> Vec<Call<'_>> {
-        let [accept, levels, energy_test, price_test, report] = NAMES;
+        let [accept, levels, energy_test, price_test, report, week] = NAMES;
         let (dossier, offer) = (&self.dossier[..], &self.offer[..]);
         let mut calls = vec![
             Call::of(accept, || model::accept(dossier), || bench::accept(dossier)),
@@ -78,6 +86,11 @@ impl Input {
             || lent(|buffer| model::report(dossier, HOUR, buffer)),
             || lent(|buffer| bench::report(dossier, HOUR, buffer)),
         ));
+        calls.push(Call::of(
+            week,
+            || lists(|prices, energies| model::week_into(dossier, prices, energies)),
+            || lists(|prices, energies| bench::week_into(dossier, prices, energies)),
+        ));
         calls
     }
 }
@@ -86,6 +99,12 @@ impl Input {
 fn lent<T>(call: impl Fn(&mut [u8]) -> T) -> (T, [u8; ROOM]) {
     let mut buffer = [b'x'; ROOM];
     (call(&mut buffer), buffer)
+}
+
+/// The answer of a call that writes to two lists, and what it leaves there.
+fn lists<T>(call: impl Fn(&mut [i32], &mut [u32]) -> T) -> (T, [i32; INTERVALS], [u32; INTERVALS]) {
+    let (mut prices, mut energies) = ([7; INTERVALS], [7; INTERVALS]);
+    (call(&mut prices, &mut energies), prices, energies)
 }
 
 /// One call, of the model and of the library.

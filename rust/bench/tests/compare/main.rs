@@ -4,6 +4,7 @@ mod accept;
 mod conduct;
 mod levels;
 mod report;
+mod week;
 
 /// The model's refusal from Bench's.
 fn refusal(refusal: bench::Refusal) -> model::Refusal {

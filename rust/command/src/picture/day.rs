@@ -4,7 +4,7 @@
 use super::axis::{round_step, Axis};
 use super::sheet::*;
 use super::words::{megawatts, money, width};
-use super::{note, places, range, rows, Lines, Run};
+use super::{joined, note, places, range, rows, Lines, Run};
 use bench::{Levels, Refusal};
 
 /// What a day's picture shows: hours in a row, each with its levels or its refusal.
@@ -132,18 +132,6 @@ fn others(stretches: &[Stretch]) -> Vec<Course> {
     let mut courses: Vec<Course> = (0..3).map(course).collect();
     courses.retain(|course| !course.runs.is_empty());
     courses
-}
-
-/// Runs that go on at the same price are one.
-fn joined(runs: Vec<Run>) -> Vec<Run> {
-    let mut all: Vec<Run> = Vec::new();
-    for run in runs {
-        match all.last_mut() {
-            Some(last) if last.1 == run.0 && last.2 == run.2 => last.1 = run.1,
-            _ => all.push(run),
-        }
-    }
-    all
 }
 
 fn lines(courses: &[Course]) -> Lines {
@@ -316,17 +304,6 @@ impl Sheet {
         for course in courses {
             self.prices(plot, &course.runs, BLUE);
         }
-    }
-
-    fn frame(&mut self, plot: &Plot) {
-        let Plot {
-            left,
-            right,
-            top,
-            bottom,
-            ..
-        } = plot;
-        self.path(&format!("M{left} {top}V{bottom}H{right}"), DARK);
     }
 
     /// The hours below the lowest plot, each in the middle of its column.

@@ -17,7 +17,7 @@ pub const TITLE_ROOM: f64 = WIDTH - 80.0;
 // Blue, dark orange and near-black stay apart for colour-blind eyes. For black-and-white print the
 // lines also differ in width and pattern.
 pub const BLUE: &str = "#0063a6";
-const ORANGE: &str = "#b34700";
+pub const ORANGE: &str = "#b34700";
 pub const BLACK: &str = "#222222";
 pub const LEVEL: &str = "stroke='#0063a6' stroke-width='6'";
 const OFFER: &str = "stroke='#b34700' stroke-width='2.25' stroke-dasharray='14 4 3 4'";
@@ -169,6 +169,18 @@ impl Sheet {
             "<text x='22' y='{middle}' transform='rotate(-90 22 {middle})' font-size='{SIZE}' \
              text-anchor='middle' fill='{BLACK}'>{name}</text>\n"
         );
+    }
+
+    /// The axes' own lines, at the left and at the bottom.
+    pub fn frame(&mut self, plot: &Plot) {
+        let Plot {
+            left,
+            right,
+            top,
+            bottom,
+            ..
+        } = plot;
+        self.path(&format!("M{left} {top}V{bottom}H{right}"), DARK);
     }
 
     pub fn output_axis(&mut self, plot: &Plot) {

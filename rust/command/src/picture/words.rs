@@ -12,7 +12,7 @@ pub fn megawatts(tenths: u16) -> String {
 }
 
 /// With a comma before each three digits.
-fn grouped(whole: u128) -> String {
+pub fn grouped(whole: u128) -> String {
     if whole < 1000 {
         return whole.to_string();
     }

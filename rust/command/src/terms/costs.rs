@@ -2,7 +2,8 @@
 //! 02, in micro-dollars: every division to the nearest, half up.
 
 use super::book::Book;
-use super::words::{cents, fine, paid};
+use super::charging::Charged;
+use super::words::{cents, fine};
 use super::{Level, Place, Side, Term};
 use crate::record::Record;
 use crate::unit::MEGAWATTS;
@@ -13,7 +14,7 @@ const NO_LOAD: u8 = 3;
 const RESERVE: u8 = 4;
 
 /// A quotient of numbers that aren't below 0, to the nearest, half up.
-fn share(of: i128, by: i128) -> i128 {
+pub fn share(of: i128, by: i128) -> i128 {
     (2 * of + by) / (2 * by)
 }
 
@@ -220,29 +221,17 @@ impl Costs<'_, '_> {
         vec![self.joined("short-run cost", stored), self.opportunity()]
     }
 
-    /// The mean price of the energy that was charged; the last charging cost where none was.
+    /// The charging cost, on the intervals of the week or on the last charging cost.
     fn charging(&self) -> Term {
         let intervals = self.book.all("CH");
-        let energy: i128 = intervals.iter().map(|r| r.get("energy")).sum();
-        if energy > 0 {
-            let sum: i128 = intervals
-                .iter()
-                .map(|r| r.get("price") * r.get("energy"))
-                .sum();
-            let working = format!("{} / {energy} kWh × 1000", paid(sum));
-            let amount = share(sum.max(0) * 10_000, energy);
-            return self.term("charging cost", amount, working, &intervals);
-        }
-        match self.book.counting("LC", 0) {
-            Some(last) => {
-                let working = "no energy was charged: the last charging cost".to_string();
-                self.term("charging cost", last.get("cost"), working, &[last])
-            }
-            None => {
-                let working = "no energy was charged, and there is no LC".to_string();
-                self.term("charging cost", 0, working, &intervals)
-            }
-        }
+        let charged = Charged::of(intervals.iter().map(|r| (r.get("price"), r.get("energy"))));
+        let last = self.book.counting("LC", 0);
+        let (amount, working) = charged.cost(last.map(|r| r.get("cost")));
+        let records = match (charged.energy, last) {
+            (0, Some(last)) => vec![last],
+            _ => intervals,
+        };
+        self.term("charging cost", amount, working, &records)
     }
 
     /// The mean of the highest prices of the window, as many as there are full hours of charge.

@@ -7,7 +7,7 @@ use crate::levels::{at, megawatts};
 use crate::unit::{decimal, parts, DOLLARS, FINE_DOLLARS, LEVEL};
 
 /// Micro-dollars with all their places.
-fn micro(amount: i128) -> String {
+pub fn micro(amount: i128) -> String {
     parts(6, "dollars").write(amount)
 }
 
@@ -23,8 +23,12 @@ pub fn cents(amount: i128) -> String {
 
 /// What was paid for charged energy, a sum of cents per MWh times kWh, as dollars.
 pub fn paid(sum: i128) -> String {
-    let below = if sum < 0 { ", counted as 0," } else { "" };
-    format!("paid {}{below}", decimal(5, 2, "dollars").write(sum))
+    paid_to(sum, DOLLARS.places)
+}
+
+/// The same with so many places after the point at least.
+pub fn paid_to(sum: i128, shown: usize) -> String {
+    decimal(5, shown, "dollars").write(sum)
 }
 
 /// How many records of a term are told in words; in JSON all are.

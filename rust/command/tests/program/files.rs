@@ -38,6 +38,7 @@ fn no_input_is_written_over() {
             format!("bench day s.txt --from 0 --svg {out}"),
             format!("bench day - --from 0 --svg {out} < twin"),
             format!("bench day s.txt --from 0 --svg new --svg-day {out}"),
+            format!("bench week s.txt --svg {out}"),
         ] {
             let ended = shell(&folder, &line);
             assert!(!Path::new(&folder.path("new")).exists(), "{line}");
