@@ -1,4 +1,5 @@
-/* Every call of the library from C, on case R1 of README.md with two thresholds. docs/calls.py is the same from Python; both print docs/calls.out.
+/* Every call of the library from C, on case R1 of README.md with two thresholds, and the charging week of a battery. docs/calls.py is the same from
+ * Python; both print docs/calls.out.
  * With the library built (rt staticlib bench), at the root of the repository:
  *
  *   cc -std=c99 -Iinclude -o target/calls docs/calls.c target/staticlib/libbench.a && target/calls
@@ -160,6 +161,54 @@ static void show_fuel(const struct bytes *dossier) {
     printf("current fuel: issue %d, %" PRIu32 " bytes at %" PRIu32 "\n", issue, bench_b(part), start);
 }
 
+/* A battery of 80.0 MW with one full hour of charge and one hour in its window. */
+static struct bytes battery(void) {
+    struct bytes dossier = {{0}, 0};
+    begin(&dossier, "RS", 1);
+    put(&dossier, 1, 3);   /* technology: storage */
+    put(&dossier, 2, 800); /* capacity: 80.0 MW */
+    put(&dossier, 2, 0);   /* performance factor: thermal and nuclear alone */
+    put(&dossier, 4, 0);   /* MJ per start: thermal alone */
+    put(&dossier, 4, 0);   /* MJ per hour at no load: thermal alone */
+    put(&dossier, 4, 0);   /* incremental fuel: nuclear alone */
+    put(&dossier, 4, 800); /* state of charge: 80.0 MWh */
+    put(&dossier, 2, 800); /* charging efficiency: 0.800 */
+    put(&dossier, 2, 1);   /* window: one hour */
+    begin(&dossier, "FU", 1);
+    put(&dossier, 1, 1);      /* profile */
+    put(&dossier, 4, 750000); /* 0.75 dollars per MWh beside the charging cost */
+    put(&dossier, 4, 0);      /* emission: thermal alone */
+    begin(&dossier, "HR", 1);
+    put(&dossier, 1, 1);    /* hour */
+    put(&dossier, 4, 6115); /* its price: 61.15 */
+    return dossier;
+}
+
+/* What was charged in an interval of five minutes: its price in cents per MWh, its energy in kWh. */
+static void put_charging(struct bytes *dossier, uint32_t issue, int interval, int32_t price, uint32_t energy) {
+    begin(dossier, "CH", issue);
+    put(dossier, 2, interval);
+    put(dossier, 4, (uint32_t)price);
+    put(dossier, 4, energy);
+}
+
+/* The intervals in which a battery charged: of interval 13 the newer record counts, though the older one lies behind it. */
+static void show_week(void) {
+    static int32_t prices[BENCH_INTERVALS];
+    static uint32_t energies[BENCH_INTERVALS];
+    struct bytes dossier = battery();
+    put_charging(&dossier, 2, 13, 2000, 1000);
+    put_charging(&dossier, 1, 49, -500, 3000);
+    put_charging(&dossier, 1, 13, 1850, 2500);
+    say("week in a short list", bench_week(dossier.at, dossier.length, prices, BENCH_INTERVALS, energies, BENCH_INTERVALS - 1), "written");
+    uint64_t answer = bench_week(dossier.at, dossier.length, prices, BENCH_INTERVALS, energies, BENCH_INTERVALS);
+    say("week", answer, "written");
+    if (bench_class(answer) != 0) return;
+    for (int i = 0; i < BENCH_INTERVALS; i++) {
+        if (energies[i] > 0) printf("interval %d: %" PRIu32 " kWh at %" PRId32 " cents\n", i + 1, energies[i], prices[i]);
+    }
+}
+
 int main(void) {
     struct bytes dossier = r1();
     say("dossier", bench_accept(dossier.at, dossier.length), "accepted");
@@ -171,5 +220,6 @@ int main(void) {
     say("reserve at 0.50", reserve_test(&dossier, 50), "passes");
     say("reserve at 0.51", reserve_test(&dossier, 51), "passes");
     show_fuel(&dossier);
+    show_week();
     return 0;
 }

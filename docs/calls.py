@@ -1,4 +1,5 @@
-"""Every call of the library from Python, on case R1 of README.md with two thresholds. docs/calls.c is the same from C; both print docs/calls.out.
+"""Every call of the library from Python, on case R1 of README.md with two thresholds, and the charging week of a battery. docs/calls.c is the same
+from C; both print docs/calls.out.
 With the library built (rt staticlib bench), at the root of the repository:
 
     cc -shared -o target/libbench.so -Wl,--whole-archive target/staticlib/libbench.a -Wl,--no-whole-archive
@@ -11,6 +12,7 @@ import sys
 NARROW, RESERVE, HOUR = 1, 4, 0
 WORDS = 66  # that the levels take
 REPORT_BYTES = 2283  # hold every report
+INTERVALS = 2016  # of five minutes over seven days
 
 U8, U16, U32, U64, I32, SIZE = ctypes.c_uint8, ctypes.c_uint16, ctypes.c_uint32, ctypes.c_uint64, ctypes.c_int32, ctypes.c_size_t
 BYTES = ctypes.c_char_p  # lent to be read; a null byte doesn't end it, since the length goes along
@@ -23,6 +25,7 @@ LENT = {
     "bench_energy_test": [BYTES, SIZE, U32, U8, BYTES, SIZE],
     "bench_price_test": [BYTES, SIZE, U32, U8, U8, I32],
     "bench_report": [BYTES, SIZE, U32, ctypes.POINTER(U8), SIZE],
+    "bench_week": [BYTES, SIZE, ctypes.POINTER(I32), SIZE, ctypes.POINTER(U32), SIZE],
 }
 
 
@@ -85,6 +88,24 @@ R1 = b"".join([
     record(b"TH", 1, (1, NARROW), (1, RESERVE), (2, 100), (4, 2**32 - 1), (4, 0)),  # reserve: 100 %, no margin
 ])
 
+BATTERY = b"".join([
+    record(
+        b"RS",
+        1,
+        (1, 3),  # technology: storage
+        (2, 800),  # capacity: 80.0 MW
+        (2, 0),  # performance factor: thermal and nuclear alone
+        (4, 0),  # MJ per start: thermal alone
+        (4, 0),  # MJ per hour at no load: thermal alone
+        (4, 0),  # incremental fuel: nuclear alone
+        (4, 800),  # state of charge: 80.0 MWh
+        (2, 800),  # charging efficiency: 0.800
+        (2, 1),  # window: one hour
+    ),
+    record(b"FU", 1, (1, 1), (4, 750_000), (4, 0)),  # profile 1: 0.75 dollars per MWh beside the charging cost
+    record(b"HR", 1, (1, 1), (4, 6_115)),  # hour 1 of the window: 61.15
+])
+
 
 def parts(answer):
     """Class, a and b of an answer."""
@@ -145,6 +166,25 @@ def show_fuel(bench, dossier):
     print(f"current fuel: issue {issue}, {length} bytes at {start}")
 
 
+def charging(issue, interval, price, energy):
+    """What was charged in an interval of five minutes: its price in cents per MWh, its energy in kWh."""
+    return record(b"CH", issue, (2, interval), (4, price & 0xFFFFFFFF), (4, energy))
+
+
+def show_week(bench):
+    """The intervals in which a battery charged: of interval 13 the newer record counts, though the older one lies behind it."""
+    prices, energies = (I32 * INTERVALS)(), (U32 * INTERVALS)()
+    dossier = BATTERY + charging(2, 13, 2_000, 1_000) + charging(1, 49, -500, 3_000) + charging(1, 13, 1_850, 2_500)
+    say("week in a short list", bench.bench_week(dossier, len(dossier), prices, INTERVALS, energies, INTERVALS - 1), "written")
+    answer = bench.bench_week(dossier, len(dossier), prices, INTERVALS, energies, INTERVALS)
+    say("week", answer, "written")
+    if parts(answer)[0] != 0:
+        return
+    for interval, (price, energy) in enumerate(zip(prices, energies), 1):
+        if energy > 0:
+            print(f"interval {interval}: {energy} kWh at {price} cents")
+
+
 def main():
     if len(sys.argv) != 2:
         sys.exit("usage: calls.py SHARED_OBJECT; the lines at the top of this file make one")
@@ -158,6 +198,7 @@ def main():
     say("reserve at 0.50", reserve_test(bench, R1, 50), "passes")
     say("reserve at 0.51", reserve_test(bench, R1, 51), "passes")
     show_fuel(bench, R1)
+    show_week(bench)
 
 
 main()
