@@ -29,17 +29,19 @@ isInterval s = leb (size CH) (length s) && eqb (mark s) CH && rangesHold CH s
 unfoldable pub intervalAt : List ℕ → ℕ → Interval
 intervalAt d at = cond (isInterval (drop at d)) (intervalAs (drop at d)) noInterval
 
--- the price plus 2^31 and the energy of the record that a slot of value v holds in dossier d, 0 where it holds none
+-- the price plus 2^31 of the record that a slot of value v holds in dossier d, 0 where it holds none
 unfoldable pub heldPrice : List ℕ → ℕ → ℕ
 heldPrice d v = cond (eqb v 0) 0 (biased (number (v + 7) 4 d))
 
+-- its energy, in the same way
 unfoldable pub heldEnergy : List ℕ → ℕ → ℕ
 heldEnergy d v = cond (eqb v 0) 0 (number (v + 11) 4 d)
 
--- those of the slot of interval n
+-- the price that the slot of interval n holds
 abbrev pub slotPrice : List ℕ → List ℕ → ℕ → ℕ
 slotPrice d ix n = heldPrice d (getD ix (slot CH n) 0)
 
+-- and the energy
 abbrev pub slotEnergy : List ℕ → List ℕ → ℕ → ℕ
 slotEnergy d ix n = heldEnergy d (getD ix (slot CH n) 0)
 

@@ -278,8 +278,7 @@ fn entry_keyless(rest: &[u8]) -> Entry
     }
 }
 
-// Whether a rest begins with a mark, byte by byte: CH, the commonest, is tried by itself so, before the others, which the compiler tries together. A
-// battery is read a tenth sooner.
+// Whether a rest begins with a mark, byte by byte: CH, the commonest, is tried by itself so, before the others, which the compiler tries together.
 pub fn begins_with(rest: &[u8], m: &[u8; 2]) -> bool
     ensures { λ r. ⌜ r ≡ begins (now (rest .entry)) (getD (now (m .entry)) 0 0) (getD (now (m .entry)) 1 0) ⌝ }
 {

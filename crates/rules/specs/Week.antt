@@ -18,9 +18,10 @@ weekAnswer d n m = orElse (answer d) (refuseIf (ltb n intervals || ltb m interva
 abbrev pub weekIn : {A : Type 0} → Answer → List A → List A → List A
 weekIn a l before = cond (isAccepted a) (l ++ drop intervals before) before
 
--- the prices and the energies after it
+-- the prices after it
 unfoldable pub pricesAfter : List ℕ → List ℤ → List ℕ → List ℤ
 pricesAfter d p e = weekIn (weekAnswer d (length p) (length e)) (weekPrices d) p
 
+-- the energies after it
 unfoldable pub energiesAfter : List ℕ → List ℤ → List ℕ → List ℕ
 energiesAfter d p e = weekIn (weekAnswer d (length p) (length e)) (weekEnergies d) e
