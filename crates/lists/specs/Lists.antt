@@ -1,4 +1,5 @@
 -- Relations between lists: each element, two lists side by side, one list in another order.
+use mathlib.Core.Bool.{Bool, cond}
 use mathlib.Core.List.{List, [], _∷_, _++_}
 use Prim.Native.Nat.{ℕ}
 
@@ -28,3 +29,8 @@ pub data Permutation {A : Type 0} : List A → List A → Type 0 where
 unfoldable pub joined : List (List ℕ) → List ℕ
 joined [] = []
 joined (r ∷ l) = r ++ joined l
+
+-- those elements that a test holds of, in their order
+unfoldable pub those : {A : Type 0} → (A → Bool) → List A → List A
+those f [] = []
+those f (a ∷ l) = let m = those f l in cond (f a) (a ∷ m) m

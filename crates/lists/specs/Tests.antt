@@ -37,3 +37,10 @@ among n (m ∷ l) = eqb n m || among n l
 -- whether a number is at least the one and at most the other
 unfoldable pub between : ℕ → ℕ → ℕ → Bool
 between lo hi x = leb lo x && leb x hi
+
+-- whether two lists of numbers are the same
+unfoldable pub same : List ℕ → List ℕ → Bool
+same [] [] = true
+same [] (b ∷ m) = false
+same (a ∷ l) [] = false
+same (a ∷ l) (b ∷ m) = eqb a b && same l m
