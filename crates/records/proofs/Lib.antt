@@ -1,6 +1,7 @@
 pub mod Answers
 pub mod Record
-pub mod Marks
+pub mod EveryMark
+pub mod Dated
 pub mod Dossier
 pub mod Raise
 pub mod RaiseTest

@@ -13,13 +13,15 @@ use borrow.Author.Tests.{lt-ltb, le-ltb}
 use Rattle.lists.specs.Lists.{Pairwise, none, more}
 use Rattle.lists.specs.Tests.{among, allBelow, between}
 use Rattle.lists.proofs.Tests.{split, and-left, and-right, and-both, below-at, at-below, between-low, in-between}
-use Rattle.fields.specs.Numbers.{biased}
+use Rattle.fields.specs.Numbers.{number, biased}
 use Rattle.fields.proofs.Numbers.{number-same}
 use Rattle.records.specs.Table.{Field, rowOf, fieldOf}
-use Rattle.records.specs.Record.{mark, size, offset, isMoney, keyWidth, moneyByte, issue, keyOf, read, value, inRange, agrees, rangesHold, fault}
+use Rattle.records.specs.Record.{mark, isDated, kind, since, fieldsAt, size, offset, isMoney, keyWidth, moneyByte, issue, keyOf, read, value}
+use Rattle.records.specs.Record.{told, inRange, agrees, rangesHold, fault}
 use Rattle.records.specs.Dossier.{firstOf, restOf, recordsIn, records, moneyAtIn, moneyAt}
 use Rattle.records.specs.Raise.{Rise, stays, rises, limitOf, Rising, Raised, RaiseFor}
-use Rattle.records.proofs.Record.{before-fields, in-key, in-field, size-ge, mark-take, mark-alike, money-range, agrees-alike}
+use Rattle.records.proofs.Record.{before-fields, in-head, in-key, in-field, size-ge, mark-take, mark-alike, money-range, agrees-alike}
+use Rattle.records.proofs.Dated.{dated-at, kind-field, told-value}
 
 pub rise-le : {u a b : ℕ} → Rise u a b → a ≤ b
 rise-le (stays e) = omega arith
@@ -37,15 +39,28 @@ limit-small t f = go (among t (f .usedBy))
 
 module _ {t : ℕ} {r s : List ℕ} (q : Raised t r s) where
   pub raised-mark : mark r ≡ mark s
-  raised-mark = mark-alike r s (q .alike 0 (before-fields (mark r) 0 (omega arith))) (q .alike 1 (before-fields (mark r) 1 (omega arith)))
+  raised-mark = mark-alike r s (q .alike 0 (in-head (mark r) 0 (omega arith))) (q .alike 1 (in-head (mark r) 1 (omega arith)))
 
   pub raised-issue : issue r ≡ issue s
   unfolding issue
-  raised-issue = number-same 2 4 r s (λ i a b. q .alike i (before-fields (mark r) i b))
+  raised-issue = number-same 2 4 r s (λ i a b. q .alike i (in-head (mark r) i b))
 
   pub raised-key : keyOf r ≡ keyOf s
   unfolding keyOf
-  raised-key = rw (← raised-mark) (number-same 6 (keyWidth (mark r)) r s (λ i a b. q .alike i (in-key (mark r) i b)))
+  raised-key = rw (← raised-mark) (number-same (fieldsAt (mark r)) (keyWidth (mark r)) r s (λ i a b. q .alike i (in-key (mark r) i b)))
+
+  pub raised-kind : kind r ≡ kind s
+  unfolding kind
+  raised-kind = rw raised-mark refl
+
+  -- "A raise leaves first hours alone"
+  pub raised-since : since r ≡ since s
+  unfolding since
+  raised-since = rw (← raised-mark) (go (isDated (mark r)) refl)
+    where
+      go : (b : Bool) → isDated (mark r) ≡ b → cond b (number 6 4 r) 0 ≡ cond b (number 6 4 s) 0
+      go true e = number-same 6 4 r s (λ i a b. q .alike i (before-fields (mark r) i (omega (arith, dated-at (mark r) e))))
+      go false e = refl
 
   -- a field that is no money is the same
   pub raised-same : (j : ℕ) → isMoney (fieldOf (mark r) j .role) ≡ false → value (mark r) j r ≡ value (mark r) j s
@@ -57,6 +72,16 @@ module _ {t : ℕ} {r s : List ℕ} (q : Raised t r s) where
   -- no field falls
   pub raised-le : (j : ℕ) → value (mark r) j r ≤ value (mark r) j s
   raised-le j = split (isMoney (fieldOf (mark r) j .role)) (λ e. rise-le (q .rising j e)) (λ e. omega (arith, raised-same j e))
+
+  -- the same of the fields of its kind
+  pub told-same : (k j : ℕ) → kind r ≡ k → isMoney (fieldOf k j .role) ≡ false → told k j r ≡ told k j s
+  unfolding kind
+  told-same k j e m =
+      told-value k j r e ∙ raised-same j (rw (kind-field (mark r) k j e) m) ∙ ap (λ (x : ℕ). value x j s) raised-mark
+      ∙ sym (told-value k j s (sym raised-kind ∙ e))
+
+  pub told-le : (k j : ℕ) → kind r ≡ k → told k j r ≤ told k j s
+  told-le k j e = rw (told-value k j r e, told-value k j s (sym raised-kind ∙ e), ← raised-mark) (raised-le j)
 
   -- a field in its range stays there
   rise-range : (f : Field) {a b : ℕ} → f .orZero ≡ false → Rise (limitOf t f) a b → inRange f a ≡ true → inRange f b ≡ true
@@ -136,8 +161,8 @@ aligned t (suc f) (b ∷ d) (c ∷ e) l h a =
     λ i q. rw (getD-drop n x i 0, getD-drop n y i 0) (h (n + i) (rw (le-ltb (n + i) n (omega arith), add-sub-cancel-left n i) q)) in
     let kx : mark x ≡ mark y =
     mark-alike x y
-    (h₁ 0 (omega (arith, size-ge (mark x))) (before-fields (mark x) 0 (omega arith)))
-    (h₁ 1 (omega (arith, size-ge (mark x))) (before-fields (mark x) 1 (omega arith))) in
+    (h₁ 0 (omega (arith, size-ge (mark x))) (in-head (mark x) 0 (omega arith)))
+    (h₁ 1 (omega (arith, size-ge (mark x))) (in-head (mark x) 1 (omega arith))) in
     rw (← kx)
     (join
     (λ v. record { long = rw (length-take n x, length-take n y, l) refl; alike = head-alike n x y h₁ (omega (arith, size-ge (mark x))); rising = v })

@@ -18,6 +18,10 @@ valuesIn (f ∷ l) (v ∷ vs) = bytesOf (f .width) v ++ valuesIn l vs
 unfoldable pub made : ℕ → ℕ → List ℕ → List ℕ
 made k i vs = rowOf k .first ∷ rowOf k .second ∷ bytesOf 4 i ++ valuesIn (rowOf k .fields) vs
 
+-- the record of a mark with a first hour: mark k, issue i, first hour h and these values
+unfoldable pub madeFrom : ℕ → ℕ → ℕ → List ℕ → List ℕ
+madeFrom k i h vs = rowOf k .first ∷ rowOf k .second ∷ bytesOf 4 i ++ (bytesOf 4 h ++ valuesIn (rowOf k .fields) vs)
+
 -- one pair of an energy offer
 unfoldable pub pair : ℕ → ℕ → List ℕ
 pair quantity price = bytesOf 2 quantity ++ bytesOf 4 price

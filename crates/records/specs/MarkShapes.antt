@@ -1,14 +1,14 @@
 -- The code's table of marks and what it reads there.
 -- All of it follows from the table of marks.
-use mathlib.Core.Bool.{Bool, cond, _&&_}
+use mathlib.Core.Bool.{Bool, cond, _&&_, _||_}
 use mathlib.Core.List.{List, [], _∷_, map}
 use Prim.Native.Nat.{ℕ, _+_, _/_, _%_}
 use lib.Dec.{ltb, eqb}
-use lib.ListN.{getD}
+use lib.ListN.{getD, drop}
 use Rattle.lists.specs.Tests.{between}
 use Rattle.records.specs.declared.MarkShape.{MarkShape}
 use Rattle.records.specs.Table.{Field, Row, noField, noRow, table, rowOf}
-use Rattle.records.specs.Record.{head, widths, isKey, keyIn}
+use Rattle.records.specs.Record.{mark, isDated, fieldsFrom, widths, isKey, keyIn, keyWidth}
 
 -- a bound of field i of a row, if the field belongs to the key, else 0
 abbrev pub keyBound : (Field → ℕ) → Row → ℕ → ℕ
@@ -18,7 +18,7 @@ keyBound g x i = cond (isKey (getD (x .fields) i noField .role)) (g (getD (x .fi
 unfoldable pub shape : Row → MarkShape
 shape x =
     record {
-      length = head + widths (x .fields);
+      length = fieldsFrom x + widths (x .fields);
       width = keyIn (x .fields);
       lowest = keyBound (λ f. f .lowest) x 0 ∷ keyBound (λ f. f .lowest) x 1 ∷ keyBound (λ f. f .lowest) x 2 ∷ [];
       highest = keyBound (λ f. f .highest) x 0 ∷ keyBound (λ f. f .highest) x 1 ∷ keyBound (λ f. f .highest) x 2 ∷ [];
@@ -51,6 +51,14 @@ keyFits m n =
 unfoldable pub keyTest : ℕ → ℕ → Bool
 keyTest k n = ltb 0 k && keyFits (shapeOf k) n
 
+-- few records have such a mark: it has a first hour, or no key
+unfoldable pub rare : ℕ → Bool
+rare k = isDated k || eqb (keyWidth k) 0
+
 -- whether some bytes begin with two letters
 abbrev pub begins : List ℕ → ℕ → ℕ → Bool
 begins s a b = eqb (getD s 0 0) a && eqb (getD s 1 0) b
+
+-- a record from where its fields lie as its kind has them: a first hour takes four bytes
+unfoldable pub body : List ℕ → List ℕ
+body r = cond (isDated (mark r)) (drop 4 r) r

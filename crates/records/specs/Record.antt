@@ -1,11 +1,11 @@
 -- One record: its mark, issue, key and fields, where its money lies, and what it draws of 1, 2 and 3. All of it follows
 -- from the table.
 use mathlib.Core.Bool.{Bool, true, false, cond, _&&_, _||_}
-use mathlib.Core.List.{List, [], _∷_}
+use mathlib.Core.List.{List, [], _∷_, map}
 use Prim.Native.Nat.{ℕ, zero, suc, _+_}
 use lib.Dec.{leb, ltb, eqb}
 use lib.ListN.{length, getD}
-use Rattle.lists.specs.Tests.{allBelow, between}
+use Rattle.lists.specs.Tests.{among, allBelow, between}
 use Rattle.fields.specs.Numbers.{number, biased}
 use Rattle.records.specs.Table.{Role, key, plain, money, Field, Row, table, rowOf, fieldOf, hydro, RS, RQ}
 
@@ -24,11 +24,41 @@ mark r = markIn 1 table (getD r 0 0) (getD r 1 0)
 unfoldable pub issue : List ℕ → ℕ
 issue r = number 2 4 r
 
--- mark and issue stand before the fields
+-- mark and issue
 abbrev pub head : ℕ
 head = 6
 
--- ---- where the fields lie
+-- ---- the first hour: "FV, AV and MV are FU, AD and MM with a first hour (4) after the issue"
+
+-- whether mark k has one
+unfoldable pub isDated : ℕ → Bool
+isDated k = ltb 0 (rowOf k .dates)
+
+-- the mark that mark k is but for a first hour: FU for FU and FV
+unfoldable pub kindOf : ℕ → ℕ
+kindOf k = cond (isDated k) (rowOf k .dates) k
+
+-- of a record
+unfoldable pub kind : List ℕ → ℕ
+kind r = kindOf (mark r)
+
+-- whether some mark is mark k with a first hour
+unfoldable pub datable : ℕ → Bool
+datable k = among k (map (λ x. x .dates) table)
+
+-- the hour from which a record counts: its first hour; "The old marks count from hour 0."
+unfoldable pub since : List ℕ → ℕ
+since r = cond (isDated (mark r)) (number head 4 r) 0
+
+-- ---- where the fields lie: behind mark, issue and first hour
+
+-- where the fields of a row begin
+abbrev pub fieldsFrom : Row → ℕ
+fieldsFrom x = cond (ltb 0 (x .dates)) 10 head
+
+-- and those of mark k
+unfoldable pub fieldsAt : ℕ → ℕ
+fieldsAt k = fieldsFrom (rowOf k)
 
 -- "Bytes per field in brackets": the bytes of some fields
 unfoldable pub widths : List Field → ℕ
@@ -37,7 +67,7 @@ widths (f ∷ l) = f .width + widths l
 
 -- a mark's whole length
 unfoldable pub size : ℕ → ℕ
-size k = head + widths (rowOf k .fields)
+size k = fieldsAt k + widths (rowOf k .fields)
 
 -- where field i begins, the first of the list beginning at o
 unfoldable pub offsetIn : ℕ → List Field → ℕ → ℕ
@@ -47,7 +77,7 @@ offsetIn o (f ∷ l) (suc i) = offsetIn (o + f .width) l i
 
 -- where field i of mark k begins
 unfoldable pub offset : ℕ → ℕ → ℕ
-offset k i = offsetIn head (rowOf k .fields) i
+offset k i = offsetIn (fieldsAt k) (rowOf k .fields) i
 
 -- ---- the key: the key fields stand first
 
@@ -68,7 +98,7 @@ keyWidth k = keyIn (rowOf k .fields)
 
 -- a record's key: the bytes of its key fields as one number
 unfoldable pub keyOf : List ℕ → ℕ
-keyOf r = number head (keyWidth (mark r)) r
+keyOf r = number (fieldsAt (mark r)) (keyWidth (mark r)) r
 
 -- ---- the money
 
@@ -85,7 +115,7 @@ moneyIn o (f ∷ l) i = isMoney (f .role) && (leb o i && ltb i (o + f .width)) |
 
 -- whether byte i of a record of mark k lies in a money amount
 unfoldable pub moneyByte : ℕ → ℕ → Bool
-moneyByte k i = moneyIn head (rowOf k .fields) i
+moneyByte k i = moneyIn (fieldsAt k) (rowOf k .fields) i
 
 -- ---- what a field says
 
@@ -96,6 +126,10 @@ read f o r = cond (f .isSigned) (biased (number o (f .width) r)) (number o (f .w
 -- field i of a record of mark k
 unfoldable pub value : ℕ → ℕ → List ℕ → ℕ
 value k i r = read (fieldOf k i) (offset k i) r
+
+-- field i of a record of kind k, with a first hour or without: its own mark says where it lies; of no record it is 0, a price 0 cents
+unfoldable pub told : ℕ → ℕ → List ℕ → ℕ
+told k i r = read (fieldOf k i) (offset (mark r) i) r
 
 -- ---- 1, 2, 3
 

@@ -20,12 +20,14 @@ pub record Field : Type 0 where
   pub usedBy : List ℕ  -- the technologies that use it; of any other it is 0
   pub positive : Bool  -- where it is used, it is above 0
 
--- one mark: its two letters, its fields after mark and issue, and the technologies that may have such a record
+-- one mark: its two letters, its fields after mark, issue and first hour, the technologies that may have such a record, and whether it has
+-- a first hour
 pub record Row : Type 0 where
   pub first : ℕ
   pub second : ℕ
   pub fields : List Field
   pub technologies : List ℕ
+  pub dates : ℕ  -- the mark that it is with a first hour; 0 where it has none
 
 -- "technology (1): 1 thermal"
 abbrev pub thermal : ℕ
@@ -98,7 +100,7 @@ noField = field 0 0 0
 
 -- a row of these
 abbrev pub row : ℕ → ℕ → List ℕ → List Field → Row
-row a b techs l = record { first = a; second = b; fields = l; technologies = techs }
+row a b techs l = record { first = a; second = b; fields = l; technologies = techs; dates = 0 }
 
 -- stands for a mark that is not there
 abbrev pub noRow : Row
@@ -217,9 +219,25 @@ lc =
     (moneyTo 4 2000000000  -- 0 cost, micro-dollars per MWh
     ∷ [])
 
+-- another mark "with a first hour (4) after the issue": other letters, and all else is that mark's
+abbrev pub dated : ℕ → ℕ → ℕ → Row → Row
+dated a b k x = record { first = a; second = b; fields = x .fields; technologies = x .technologies; dates = k }
+
+-- FV, 19: FU; document 02, request 8
+abbrev pub fv : Row
+fv = dated 70 86 3 fu
+
+-- AV, 21: AD
+abbrev pub av : Row
+av = dated 65 86 4 ad
+
+-- MV, 28: MM
+abbrev pub mv : Row
+mv = dated 77 86 5 mm
+
 -- all of them: "A constant table holds each mark's whole length and key bounds."
 unfoldable pub table : List Row
-table = rs ∷ hp ∷ fu ∷ ad ∷ mm ∷ rq ∷ hr ∷ ch ∷ th ∷ fp ∷ lc ∷ []
+table = rs ∷ hp ∷ fu ∷ ad ∷ mm ∷ rq ∷ hr ∷ ch ∷ th ∷ fp ∷ lc ∷ fv ∷ av ∷ mv ∷ []
 
 -- ---- a mark is named by its place in the table, from 1; 0 is an unknown mark
 
@@ -267,7 +285,23 @@ FP = 10
 abbrev pub LC : ℕ
 LC = 11
 
+-- FU with a first hour
+abbrev pub FV : ℕ
+FV = 12
+
+-- AD with a first hour
+abbrev pub AV : ℕ
+AV = 13
+
+-- MM with a first hour
+abbrev pub MV : ℕ
+MV = 14
+
 -- a mark's number is below this
+abbrev pub marks : ℕ
+marks = 15
+
+-- and that of a mark without a first hour below this
 abbrev pub kinds : ℕ
 kinds = 12
 

@@ -1,15 +1,15 @@
 // The records of a dossier. The table of marks, what one record may draw, and a raise are in specs/, their laws in proofs/.
-pub mod kinds;
+pub mod marks;
 
 ghost use mathlib.Core.Path.{_≡_};
-ghost use mathlib.Core.Bool.{_||_};
-ghost use Prim.Native.Nat.{_+_, _*_, _<_};
+ghost use mathlib.Core.Bool.{cond, _||_};
+ghost use Prim.Native.Nat.{_+_, _*_, _<_, _≤_};
 ghost use lib.Dec.{eqb};
 ghost use lib.ListN.{getD};
 ghost use Rattle.lists.specs.Tests.{between};
 ghost use Rattle.fields.specs.Numbers.{number, biased};
-ghost use Rattle.records.specs.Table.{RS, HP, FU, AD, MM, RQ, HR, CH, TH, FP, LC, kinds};
-ghost use Rattle.records.specs.Record.{mark, size, rangesHold};
+ghost use Rattle.records.specs.Table.{RS, HP, FU, AD, MM, RQ, HR, CH, TH, FP, LC, FV, AV, MV, marks};
+ghost use Rattle.records.specs.Record.{mark, isDated, kindOf, size, rangesHold};
 ghost use Rattle.records.specs.MarkShapes.{begins, shapeOf, keyField, keyFits, keyTest};
 
 // An answer to a dossier: accepted, or refused with number and place.
@@ -111,59 +111,121 @@ pub const LC: MarkShape = MarkShape {
     highest: [0, 0, 0],
 };
 
-// A constant table holds them by kind: the mark's place in the table of specs/. A read at a variable place writes the whole table first.
-pub const MARKS: [MarkShape; 12] = [UNKNOWN, RS, HP, FU, AD, MM, RQ, HR, CH, TH, FP, LC];
+pub const FV: MarkShape = MarkShape {
+    length: 19,
+    width: 1,
+    lowest: [1, 0, 0],
+    highest: [4, 0, 0],
+};
+
+pub const AV: MarkShape = MarkShape {
+    length: 21,
+    width: 3,
+    lowest: [1, 1, 1],
+    highest: [4, 5, 4],
+};
+
+pub const MV: MarkShape = MarkShape {
+    length: 28,
+    width: 2,
+    lowest: [1, 1, 0],
+    highest: [4, 8, 0],
+};
+
+// A constant table holds them by the mark's place in the table of specs/. A read at a variable place writes the whole table first.
+pub const MARKS: [MarkShape; 15] = [
+    UNKNOWN,
+    RS,
+    HP,
+    FU,
+    AD,
+    MM,
+    RQ,
+    HR,
+    CH,
+    TH,
+    FP,
+    LC,
+    FV,
+    AV,
+    MV,
+];
 
 // No record of a known mark is shorter.
 pub const SHORTEST: usize = 10;
 
-// The row of a kind.
-pub fn mark_shape(kind: usize) -> MarkShape
-    requires { ⌜ kind < kinds ⌝ }
-    ensures { λ r. ⌜ r ≡ shapeOf kind ⌝ }
+// The row of a mark.
+pub fn mark_shape(mark: usize) -> MarkShape
+    requires { ⌜ mark < marks ⌝ }
+    ensures { λ r. ⌜ r ≡ shapeOf mark ⌝ }
 {
-    MARKS[kind]
+    MARKS[mark]
 }
 
-// The length of a kind's records. A row of the table, asked for by a number, would be made with the whole table each time.
-pub fn length_of(kind: usize) -> usize
-    requires { ⌜ kind < kinds ⌝ }
-    ensures { λ r. ⌜ r ≡ size kind ⌝ }
+// The mark that a mark is but for a first hour: FU of FV, AD of AV, MM of MV.
+pub fn kind_of(mark: usize) -> usize
+    requires { ⌜ mark < marks ⌝ }
+    ensures { λ r. ⌜ r ≡ kindOf mark ⌝ }
 {
-    if kind == 0 {
-        return UNKNOWN.length;
+    if mark <= marks::LC { mark } else { mark - 9 }
+}
+
+// The length of records of the marks that few dossiers have.
+fn rare_length(mark: usize) -> usize
+    requires { ⌜ (LC ≤ mark) × (mark < marks) ⌝ }
+    ensures { λ r. ⌜ r ≡ size mark ⌝ }
+{
+    if mark == marks::FV {
+        return FV.length;
     }
-    if kind == kinds::CH {
-        return CH.length;
+    if mark == marks::AV {
+        return AV.length;
     }
-    if kind == kinds::HP {
-        return HP.length;
-    }
-    if kind == kinds::TH {
-        return TH.length;
-    }
-    if kind == kinds::HR {
-        return HR.length;
-    }
-    if kind == kinds::FP {
-        return FP.length;
-    }
-    if kind == kinds::FU {
-        return FU.length;
-    }
-    if kind == kinds::AD {
-        return AD.length;
-    }
-    if kind == kinds::MM {
-        return MM.length;
-    }
-    if kind == kinds::RQ {
-        return RQ.length;
-    }
-    if kind == kinds::RS {
-        return RS.length;
+    if mark == marks::MV {
+        return MV.length;
     }
     LC.length
+}
+
+// The length of a mark's records. A row of the table, asked for by a number, would be made with the whole table each time.
+pub fn length_of(mark: usize) -> usize
+    requires { ⌜ mark < marks ⌝ }
+    ensures { λ r. ⌜ r ≡ size mark ⌝ }
+{
+    if mark == 0 {
+        return UNKNOWN.length;
+    }
+    if mark == marks::CH {
+        return CH.length;
+    }
+    if mark == marks::HP {
+        return HP.length;
+    }
+    if mark == marks::TH {
+        return TH.length;
+    }
+    if mark == marks::HR {
+        return HR.length;
+    }
+    if mark == marks::FP {
+        return FP.length;
+    }
+    if mark == marks::FU {
+        return FU.length;
+    }
+    if mark == marks::AD {
+        return AD.length;
+    }
+    if mark == marks::MM {
+        return MM.length;
+    }
+    if mark == marks::RQ {
+        return RQ.length;
+    }
+    if mark == marks::RS {
+        return RS.length;
+    }
+    rare_length(mark)
 }
 
 // Whether a number is within the bounds of a key field.
@@ -188,11 +250,11 @@ fn in_fields(m: MarkShape, n: usize) -> bool
 }
 
 // Whether a number is a key of a mark.
-pub fn in_key(kind: usize, n: usize) -> bool
-    requires { ⌜ kind < kinds ⌝ }
-    ensures { λ r. ⌜ r ≡ keyTest kind n ⌝ }
+pub fn in_key(mark: usize, n: usize) -> bool
+    requires { ⌜ mark < marks ⌝ }
+    ensures { λ r. ⌜ r ≡ keyTest mark n ⌝ }
 {
-    (0 < kind) & in_fields(mark_shape(kind), n)
+    (0 < mark) & in_fields(mark_shape(mark), n)
 }
 
 // Two letters as one number, the first low, as the machine reads them: code that tries mark after mark then compares one number with constants.
@@ -209,44 +271,60 @@ pub fn is_mark(s: &[u8], m: &[u8; 2]) -> bool
     letters(fields::byte_at(s, 0), fields::byte_at(s, 1)) == letters(m[0], m[1])
 }
 
-// The kind of a record, 0 if its mark is unknown. The commonest marks come first.
-pub fn kind_at(s: &[u8]) -> usize
+// The mark of a record that has a first hour, 0 if its mark has none.
+fn dated_mark_at(s: &[u8]) -> usize
+    ensures { λ r. ⌜ r ≡ cond (isDated (mark (now (s .entry)))) (mark (now (s .entry))) 0 ⌝ }
+{
+    if is_mark(s, b"FV") {
+        return marks::FV;
+    }
+    if is_mark(s, b"AV") {
+        return marks::AV;
+    }
+    if is_mark(s, b"MV") {
+        return marks::MV;
+    }
+    0
+}
+
+// The mark of a record, 0 if it is unknown. The commonest marks come first.
+pub fn mark_at(s: &[u8]) -> usize
     ensures { λ r. ⌜ r ≡ mark (now (s .entry)) ⌝ }
 {
     if is_mark(s, b"CH") {
-        return kinds::CH;
+        return marks::CH;
     }
     if is_mark(s, b"HP") {
-        return kinds::HP;
+        return marks::HP;
     }
     if is_mark(s, b"TH") {
-        return kinds::TH;
+        return marks::TH;
     }
     if is_mark(s, b"HR") {
-        return kinds::HR;
+        return marks::HR;
     }
     if is_mark(s, b"FP") {
-        return kinds::FP;
+        return marks::FP;
     }
     if is_mark(s, b"FU") {
-        return kinds::FU;
+        return marks::FU;
     }
     if is_mark(s, b"AD") {
-        return kinds::AD;
+        return marks::AD;
     }
     if is_mark(s, b"MM") {
-        return kinds::MM;
+        return marks::MM;
     }
     if is_mark(s, b"RQ") {
-        return kinds::RQ;
+        return marks::RQ;
     }
     if is_mark(s, b"RS") {
-        return kinds::RS;
+        return marks::RS;
     }
     if is_mark(s, b"LC") {
-        return kinds::LC;
+        return marks::LC;
     }
-    0
+    dated_mark_at(s)
 }
 
 // Whether the number in one, two, four and eight bytes is between two others.
@@ -346,6 +424,13 @@ pub fn fu_ok(s: &[u8]) -> bool
     in1(s, 6, m.lowest[0], m.highest[0]) & in4(s, 7, 0, 400000000) & in4(s, 11, 0, 400000000)
 }
 
+pub fn fv_ok(s: &[u8]) -> bool
+    ensures { λ r. ⌜ r ≡ rangesHold FV (now (s .entry)) ⌝ }
+{
+    let m = FV;
+    in1(s, 10, m.lowest[0], m.highest[0]) & in4(s, 11, 0, 400000000) & in4(s, 15, 0, 400000000)
+}
+
 pub fn ad_ok(s: &[u8]) -> bool
     ensures { λ r. ⌜ r ≡ rangesHold AD (now (s .entry)) ⌝ }
 {
@@ -354,6 +439,16 @@ pub fn ad_ok(s: &[u8]) -> bool
         & in1(s, 7, m.lowest[1], m.highest[1])
         & in1(s, 8, m.lowest[2], m.highest[2])
         & in8(s, 9, 0, 1000000000000)
+}
+
+pub fn av_ok(s: &[u8]) -> bool
+    ensures { λ r. ⌜ r ≡ rangesHold AV (now (s .entry)) ⌝ }
+{
+    let m = AV;
+    in1(s, 10, m.lowest[0], m.highest[0])
+        & in1(s, 11, m.lowest[1], m.highest[1])
+        & in1(s, 12, m.lowest[2], m.highest[2])
+        & in8(s, 13, 0, 1000000000000)
 }
 
 pub fn mm_ok(s: &[u8]) -> bool
@@ -366,6 +461,18 @@ pub fn mm_ok(s: &[u8]) -> bool
         & in2(s, 16, 1, 20000)
         & in4(s, 18, 1, 1000000)
         & in2(s, 22, 0, 10000)
+}
+
+pub fn mv_ok(s: &[u8]) -> bool
+    ensures { λ r. ⌜ r ≡ rangesHold MV (now (s .entry)) ⌝ }
+{
+    let m = MV;
+    in1(s, 10, m.lowest[0], m.highest[0])
+        & in1(s, 11, m.lowest[1], m.highest[1])
+        & in8(s, 12, 0, 100000000000)
+        & in2(s, 20, 1, 20000)
+        & in4(s, 22, 1, 1000000)
+        & in2(s, 26, 0, 10000)
 }
 
 pub fn rq_ok(s: &[u8]) -> bool

@@ -2,13 +2,13 @@ use mathlib.Core.Path.{sym}
 use Rattle.lists.specs.Tests.{allBelow}
 use Rattle.lists.proofs.Tests.{and-true}
 use Rattle.records.specs.Table.{table, rowOf, fieldOf}
-use Rattle.records.specs.Record.{offsetIn, offset, read, value, inRange, agrees, rangesHold}
+use Rattle.records.specs.Record.{fieldsAt, offsetIn, offset, read, value, inRange, agrees, rangesHold}
 use borrow.Author.Needs.{needs}
 use Rattle.records.proofs.hp_ok.Statement.{statement}
 use Rattle.records.proofs.hp_ok.Tie as tie
 
 returns : tie.Need-returns
-unfolding rangesHold allBelow inRange agrees value read offset offsetIn fieldOf rowOf table
+unfolding rangesHold allBelow inRange agrees value read offset fieldsAt offsetIn fieldOf rowOf table
 returns c = rw (c .before .before .in1 .ensures, c .before .in2 .ensures, c .in4 .ensures) (sym (and-true _))
 
 pub hp-ok-spec : {M : Type 1} → statement M

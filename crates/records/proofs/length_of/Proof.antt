@@ -1,7 +1,12 @@
 use mathlib.Core.Path.{_≡_, refl, ap, sym, _∙_}
+use Prim.Native.Nat.{_≤_}
+use lib.Dec.{lit≤}
+use borrow.Author.Needs.{needs}
+use Rattle.records.specs.Table.{LC}
 use Rattle.records.specs.Record.{size}
-use Rattle.records.proofs.Marks.{by-mark}
+use Rattle.records.proofs.EveryMark.{by-mark}
 use Rattle.records.proofs.Record.{no-size, rs-size, hp-size, fu-size, ad-size, mm-size, rq-size, hr-size, ch-size, th-size, fp-size, lc-size}
+use Rattle.records.proofs.Record.{fv-size, av-size, mv-size}
 use Rattle.records.proofs.length_of.Statement.{statement}
 use Rattle.records.proofs.length_of.Tie as tie
 
@@ -38,33 +43,24 @@ returns-10 c = sym (ap size (c .if10 .taken) ∙ rq-size)
 returns-11 : tie.Need-returns-11
 returns-11 c = sym (ap size (c .if11 .taken) ∙ rs-size)
 
-returns-12 : tie.Need-returns-12
-returns-12 c =
-    let k = c .before .before .before .before .before .before .before .before .before .before .before .args .kind in
-    by-mark (λ m. k ≡ m → 10 ≡ size m) (λ w. absurd (c .if11 .left w))
-    (λ w. absurd (c .before .before .before .before .before .before .before .before .if3 .left w))
-    (λ w. absurd (c .before .before .before .before .if7 .left w)) (λ w. absurd (c .before .before .before .if8 .left w))
-    (λ w. absurd (c .before .before .if9 .left w)) (λ w. absurd (c .before .if10 .left w))
-    (λ w. absurd (c .before .before .before .before .before .before .if5 .left w))
-    (λ w. absurd (c .before .before .before .before .before .before .before .before .before .if2 .left w))
-    (λ w. absurd (c .before .before .before .before .before .before .before .if4 .left w))
-    (λ w. absurd (c .before .before .before .before .before .if6 .left w)) (λ w. sym lc-size) k
-    (c .before .before .before .before .before .before .before .before .before .before .if1 .left)
-    (c .before .before .before .before .before .before .before .before .before .before .before .pre) refl
+rare-length-requires : tie.Need-rare-length-requires
+rare-length-requires c κs =
+    let a = c .before .before .before .before .before .before .before .before .before .before .before in
+    let k = a .args .mark in (
+      by-mark (λ m. k ≡ m → LC ≤ m) (λ w. absurd (c .if11 .left w))
+          (λ w. absurd (c .before .before .before .before .before .before .before .before .if3 .left w))
+          (λ w. absurd (c .before .before .before .before .if7 .left w)) (λ w. absurd (c .before .before .before .if8 .left w))
+          (λ w. absurd (c .before .before .if9 .left w)) (λ w. absurd (c .before .if10 .left w))
+          (λ w. absurd (c .before .before .before .before .before .before .if5 .left w))
+          (λ w. absurd (c .before .before .before .before .before .before .before .before .before .if2 .left w))
+          (λ w. absurd (c .before .before .before .before .before .before .before .if4 .left w))
+          (λ w. absurd (c .before .before .before .before .before .if6 .left w)) (λ w. lit≤ tt) (λ w. lit≤ tt) (λ w. lit≤ tt) (λ w. lit≤ tt) k
+          (c .before .before .before .before .before .before .before .before .before .before .if1 .left) (a .pre) refl,
+      a .pre,
+    )
 
 pub length-of-spec : {M : Type 1} → statement M
 length-of-spec =
     tie.close
-    (tie.spec
-    returns
-    returns-2
-    returns-3
-    returns-4
-    returns-5
-    returns-6
-    returns-7
-    returns-8
-    returns-9
-    returns-10
-    returns-11
-    returns-12)
+    (tie.spec returns returns-2 returns-3 returns-4 returns-5 returns-6 returns-7 returns-8 returns-9 returns-10 returns-11 rare-length-requires
+    (λ c. search needs))

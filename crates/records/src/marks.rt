@@ -1,4 +1,4 @@
-// The kinds by name: a mark's place in the table of specs/, from 1. 0 is the kind of an unknown mark.
+// The marks by name: a mark's place in the table of specs/, from 1. 0 is an unknown mark.
 pub const RS: usize = 1;
 
 pub const HP: usize = 2;
@@ -20,3 +20,9 @@ pub const TH: usize = 9;
 pub const FP: usize = 10;
 
 pub const LC: usize = 11;
+
+pub const FV: usize = 12;
+
+pub const AV: usize = 13;
+
+pub const MV: usize = 14;

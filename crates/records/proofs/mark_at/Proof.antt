@@ -1,11 +1,11 @@
-use mathlib.Core.Path.{sym, _∙_}
+use mathlib.Core.Path.{refl, sym, _∙_}
 use borrow.Author.Needs.{needs}
-use Rattle.records.specs.Table.{table}
+use Rattle.records.specs.Table.{table, rowOf}
 use Rattle.records.specs.Record.{markIn}
 use Rattle.records.proofs.Read.{begun}
-use Rattle.records.proofs.Marks.{letters-no-key, letters-keyless}
-use Rattle.records.proofs.kind_at.Statement.{statement}
-use Rattle.records.proofs.kind_at.Tie as tie
+use Rattle.records.proofs.EveryMark.{mark-lt, not-mark, dated-or-none}
+use Rattle.records.proofs.mark_at.Statement.{statement}
+use Rattle.records.proofs.mark_at.Tie as tie
 
 returns : tie.Need-returns
 unfolding markIn table
@@ -52,8 +52,10 @@ unfolding markIn table
 returns-11 c = sym (begun 76 67 _ (sym (c .before .is-mark11 .ensures) ∙ c .if11 .taken))
 
 returns-12 : tie.Need-returns-12
+unfolding rowOf table
 returns-12 c =
-    let c10 = c .before .before .before in
+    let c11 = c .before in
+    let c10 = c11 .before .before .before in
     let c9 = c10 .before .before .before in
     let c8 = c9 .before .before .before in
     let c7 = c8 .before .before .before in
@@ -63,15 +65,22 @@ returns-12 c =
     let c3 = c4 .before .before .before in
     let c2 = c3 .before .before .before in
     let c1 = c2 .before .before .before in
-    sym (letters-keyless _ (letters-no-key _ (sym (c2 .before .is-mark2 .ensures) ∙ c2 .if2 .left) (sym (c6 .before .is-mark6 .ensures) ∙ c6 .if6 .left)
-    (sym (c7 .before .is-mark7 .ensures) ∙ c7 .if7 .left) (sym (c8 .before .is-mark8 .ensures) ∙ c8 .if8 .left)
-    (sym (c9 .before .is-mark9 .ensures) ∙ c9 .if9 .left) (sym (c4 .before .is-mark4 .ensures) ∙ c4 .if4 .left)
-    (sym (c1 .before .is-mark .ensures) ∙ c1 .if1 .left) (sym (c3 .before .is-mark3 .ensures) ∙ c3 .if3 .left)
-    (sym (c5 .before .is-mark5 .ensures) ∙ c5 .if5 .left)) (sym (c10 .before .is-mark10 .ensures) ∙ c10 .if10 .left)
-    (sym (c .before .is-mark11 .ensures) ∙ c .if11 .left))
+    c .dated-mark-at .ensures
+    ∙ dated-or-none _ (mark-lt _)
+    (not-mark 1 _ refl (sym (c10 .before .is-mark10 .ensures) ∙ c10 .if10 .left))
+    (not-mark 2 _ refl (sym (c2 .before .is-mark2 .ensures) ∙ c2 .if2 .left))
+    (not-mark 3 _ refl (sym (c6 .before .is-mark6 .ensures) ∙ c6 .if6 .left))
+    (not-mark 4 _ refl (sym (c7 .before .is-mark7 .ensures) ∙ c7 .if7 .left))
+    (not-mark 5 _ refl (sym (c8 .before .is-mark8 .ensures) ∙ c8 .if8 .left))
+    (not-mark 6 _ refl (sym (c9 .before .is-mark9 .ensures) ∙ c9 .if9 .left))
+    (not-mark 7 _ refl (sym (c4 .before .is-mark4 .ensures) ∙ c4 .if4 .left))
+    (not-mark 8 _ refl (sym (c1 .before .is-mark .ensures) ∙ c1 .if1 .left))
+    (not-mark 9 _ refl (sym (c3 .before .is-mark3 .ensures) ∙ c3 .if3 .left))
+    (not-mark 10 _ refl (sym (c5 .before .is-mark5 .ensures) ∙ c5 .if5 .left))
+    (not-mark 11 _ refl (sym (c11 .before .is-mark11 .ensures) ∙ c11 .if11 .left))
 
-pub kind-at-spec : {M : Type 1} → statement M
-kind-at-spec =
+pub mark-at-spec : {M : Type 1} → statement M
+mark-at-spec =
     tie.close
     (tie.spec
     (λ c κs. search needs)
@@ -96,4 +105,5 @@ kind-at-spec =
     returns-10
     (λ c κs. search needs)
     returns-11
+    (λ c κs. search needs)
     returns-12)
