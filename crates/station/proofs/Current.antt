@@ -1,4 +1,4 @@
--- The current record, declared: one of the records, of the mark and key, and none of them has a higher issue.
+-- The current record, declared: one of the records, of the kind and key, and none of them has a higher issue.
 use mathlib.Core.Path.{_≡_, refl, sym, _∙_}
 use mathlib.Core.Bool.{Bool, true, false, cond, _&&_, true≢false}
 use mathlib.Core.List.{List, [], _∷_}
@@ -10,27 +10,28 @@ use lib.ListN.{length}
 use borrow.Author.Tests.{leb-true, leb-false, eqb-true, eq-eqb, lt-ltb}
 use Rattle.lists.specs.Lists.{Each, done, also, Pairwise, none, more, here, there}
 use Rattle.lists.proofs.Lists.{each-map, member-each}
-use Rattle.lists.proofs.Tests.{and-left, and-right}
+use Rattle.lists.proofs.Tests.{and-left, and-right, cond-relates}
 use Rattle.fields.specs.Numbers.{number}
-use Rattle.records.specs.Record.{mark, issue, keyOf}
+use Rattle.records.specs.Record.{mark, kind, keyWidth, issue, keyOf}
 use Rattle.records.specs.declared.Answer.the-variants.{Refused}
 use Rattle.records.specs.Answers.{orElse, refuseIf}
 use Rattle.records.specs.Raise.{Raised}
-use Rattle.records.proofs.Raise.{raised-mark, raised-issue, raised-key, raised-nil}
-use Rattle.station.specs.Current.{matches, better, currentFrom, current, readable}
+use Rattle.records.proofs.Dated.{kind-fields}
+use Rattle.records.proofs.Raise.{raised-kind, raised-issue, raised-key, raised-nil}
+use Rattle.station.specs.Current.{matches, better, currentFrom, current, readable, lookupBytes}
 use Rattle.station.specs.Declared.{IsCurrent, CurrentOf, absent, standing}
 
-pub matches-mark : (k n : ℕ) (r : List ℕ) → matches k n r ≡ true → mark r ≡ k
+pub matches-kind : (k n : ℕ) (r : List ℕ) → matches k n r ≡ true → kind r ≡ k
 unfolding matches
-matches-mark k n r e = eqb-true (mark r) k (and-left (eqb (mark r) k) (eqb (keyOf r) n) e)
+matches-kind k n r e = eqb-true (kind r) k (and-left (eqb (kind r) k) (eqb (keyOf r) n) e)
 
 pub matches-key : (k n : ℕ) (r : List ℕ) → matches k n r ≡ true → keyOf r ≡ n
 unfolding matches
-matches-key k n r e = eqb-true (keyOf r) n (and-right (eqb (mark r) k) (eqb (keyOf r) n) e)
+matches-key k n r e = eqb-true (keyOf r) n (and-right (eqb (kind r) k) (eqb (keyOf r) n) e)
 
-pub matches-self : (r : List ℕ) → matches (mark r) (keyOf r) r ≡ true
+pub matches-self : (r : List ℕ) → matches (kind r) (keyOf r) r ≡ true
 unfolding matches
-matches-self r = rw (eq-eqb (mark r) (mark r) refl, eq-eqb (keyOf r) (keyOf r) refl) refl
+matches-self r = rw (eq-eqb (kind r) (kind r) refl, eq-eqb (keyOf r) (keyOf r) refl) refl
 
 -- the best of some records after one before them: that one, and none that matches has its issue or a higher; or a record that is current
 data Best (k n : ℕ) (b : List ℕ) (l : List (List ℕ)) (r : List ℕ) : Type 0 where
@@ -48,9 +49,10 @@ best-from k n b (r ∷ l) = go (matches k n r) refl (leb (issue b) (issue r)) re
         taken (rw p (leb-true (issue b) (issue r) g))
         (rw p (record {
           member = here;
-          marked = matches-mark k n r e;
+          marked = matches-kind k n r e;
           keyed = matches-key k n r e;
-          highest = also (λ h. le-refl _) (each-map (λ s w h. omega (arith, w h)) q);
+          highest = also (λ h. le-refl _) (each-map (λ s w h. omega
+              (arith, w h)) q);
         }))
     go true e true g (taken p q) z =
         taken (le-trans (leb-true (issue b) (issue r) g) p)
@@ -96,31 +98,41 @@ each-current {P} k n {l} z e = go (current-found k n l)
     go (absent p q) = rw p z
     go (standing q) = member-each (q .member) e
 
--- ---- in a raise the current records are raised
+-- ---- records related one by one, kind, key and issue alike: so are the current ones
 
-module _ {t : ℕ} where
-  choose : {r s c e : List ℕ} → Raised t r s → Raised t c e → (b : Bool) → Raised t (cond b r c) (cond b s e)
-  choose p q true = p
-  choose p q false = q
+-- what a relation keeps of two records, that they are current together
+pub record Alike (r s : List ℕ) : Type 0 where
+  pub kind : kind r ≡ kind s
+  pub key : keyOf r ≡ keyOf s
+  pub issue : issue r ≡ issue s
 
-  pub raised-matches : {r s : List ℕ} (k n : ℕ) → Raised t r s → matches k n r ≡ matches k n s
-  unfolding matches
-  raised-matches k n q = rw (raised-mark q, raised-key q) refl
+module _ {R : List ℕ → List ℕ → Type 0} (alike : (r s : List ℕ) → R r s → Alike r s) where
+  from-related : (k n : ℕ) {l m : List (List ℕ)} → Pairwise R l m → {b c : List ℕ} → R b c → R (currentFrom k n b l) (currentFrom k n c m)
+  unfolding currentFrom better matches
+  from-related k n none q = q
+  from-related k n (more {a = r} {b = s} p a) {b} {c} q =
+      rw (← alike r s p .kind, ← alike r s p .key, ← alike r s p .issue, ← alike b c q .issue)
+      (from-related k n a (cond-relates R (matches k n r && leb (issue b) (issue r)) r b s c p q))
 
-  from-raised : (k n : ℕ) {l m : List (List ℕ)} → Pairwise (Raised t) l m → {b c : List ℕ} → Raised t b c
-      → Raised t (currentFrom k n b l) (currentFrom k n c m)
-  unfolding currentFrom better
-  from-raised k n none q = q
-  from-raised k n (more {a = r} {b = s} p a) {b} {c} q =
-      rw (← raised-matches k n p, ← raised-issue p, ← raised-issue q)
-      (from-raised k n a (choose p q (matches k n r && leb (issue b) (issue r))))
-
-  pub current-raised : (k n : ℕ) {l m : List (List ℕ)} → Pairwise (Raised t) l m → Raised t (current k n l) (current k n m)
+  pub current-related : R [] [] → (k n : ℕ) {l m : List (List ℕ)} → Pairwise R l m → R (current k n l) (current k n m)
   unfolding current
-  current-raised k n a = from-raised k n a (raised-nil t)
+  current-related z k n a = from-related k n a z
+
+-- in a raise the current records are raised
+pub raised-alike : {t : ℕ} (r s : List ℕ) → Raised t r s → Alike r s
+raised-alike r s q = record { kind = raised-kind q; key = raised-key q; issue = raised-issue q }
+
+pub current-raised : {t : ℕ} (k n : ℕ) {l m : List (List ℕ)} → Pairwise (Raised t) l m → Raised t (current k n l) (current k n m)
+current-raised {t} k n a = current-related raised-alike (raised-nil t) k n a
 
 -- ---- 13
 
 pub too-long : (d : List ℕ) → 60000 < length d → Refused 13 0 ≡ readable d
 unfolding readable refuseIf orElse
 too-long d h = rw (lt-ltb 60000 (length d) h) refl
+
+-- ---- the lookup, "under either mark"
+
+pub either-mark : (d m n key : List ℕ) → length m ≡ length n → kind m ≡ kind n → lookupBytes d m key ≡ lookupBytes d n key
+unfolding lookupBytes keyWidth kind
+either-mark d m n key a e = rw (a, kind-fields (mark m), kind-fields (mark n), e) refl

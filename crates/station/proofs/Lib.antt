@@ -1,6 +1,7 @@
 pub mod Cases
 pub mod Current
 pub mod Twins
+pub mod InForce
 pub mod Parameters
 pub mod Fields
 pub mod Week

@@ -1,5 +1,6 @@
--- What the current records say: the same in any order, the same parameters and no lower amounts in a raise, and within the table's bounds.
-use mathlib.Core.Path.{_≡_, refl, ap, sym, subst, _∙_}
+-- What the current records say: the same in any order, the same parameters and no lower amounts in a raise, at every hour the same of kinds without first
+-- hours, and within the table's bounds.
+use mathlib.Core.Path.{_≡_, refl, ap, sym, _∙_}
 use mathlib.Core.Bool.{Bool, true, false, cond, _||_, not}
 use mathlib.Core.List.{List, [], _∷_}
 use Prim.Native.Nat.{ℕ, _+_, _%_, _≤_, _<_}
@@ -15,15 +16,18 @@ use Rattle.lists.proofs.Lists.{member-each}
 use Rattle.fields.specs.Numbers.{number, biased}
 use Rattle.fields.proofs.Numbers.{number-nil}
 use Rattle.records.specs.Table.{Field, table, rowOf, fieldOf, noField}
-use Rattle.records.specs.Record.{mark, isMoney, offset, read, value, fault}
+use Rattle.records.specs.Record.{datable, mark, kind, isMoney, offset, read, value, told, fault}
 use Rattle.records.specs.Raise.{Raised}
 use Rattle.records.proofs.Record.{by-table, faultless, field-range, range-high}
-use Rattle.records.proofs.Raise.{raised-same, raised-le}
+use Rattle.records.proofs.Raise.{told-same, told-le}
+use Rattle.records.proofs.Dated.{kind-field, told-value, told-nil}
 use Rattle.station.specs.Current.{current, present}
+use Rattle.station.specs.InForce.{inForce}
 use Rattle.station.specs.Parameters.{parameters, amounts, Higher}
 use Rattle.station.specs.Declared.{CurrentOf, absent, standing, Distinct}
 use Rattle.station.proofs.Current.{current-found, current-raised}
 use Rattle.station.proofs.Twins.{current-permuted}
+use Rattle.station.proofs.InForce.{always-current}
 
 -- ---- in another order
 
@@ -31,14 +35,14 @@ pub parameters-permuted : {l m : List (List ℕ)} → Permutation l m → Distin
 unfolding parameters
 parameters-permuted p d =
     λ i. record {
-      has =
-          λ k n. present (current-permuted k n p d i);
-      says = λ k n j. cond (isMoney (fieldOf k j .role)) 0 (value k j (current-permuted k n p d i));
+      has = λ k n. present (current-permuted k n p d i);
+      says = λ k n j. cond (isMoney (fieldOf k j .role)) 0 (told k j (current-permuted k n p
+          d i));
     }
 
 pub amounts-permuted : {l m : List (List ℕ)} → Permutation l m → Distinct l → amounts l ≡ amounts m
 unfolding amounts
-amounts-permuted p d = λ i. record { of = λ k n j. cond (isMoney (fieldOf k j .role)) (value k j (current-permuted k n p d i)) 0 }
+amounts-permuted p d = λ i. record { of = λ k n j. cond (isMoney (fieldOf k j .role)) (told k j (current-permuted k n p d i)) 0 }
 
 -- ---- in a raise
 
@@ -47,32 +51,29 @@ nil-of-length [] h = refl
 nil-of-length (x ∷ s) h = absurd (omega (arith, h))
 
 module _ {t : ℕ} {l m : List (List ℕ)} (a : Pairwise (Raised t) l m) where
-  -- a law of two records that holds of none and none, and of each raised pair of the mark, holds of the current ones
-  pub by-current : (k n : ℕ) (P : List ℕ → List ℕ → Type 0) → P [] [] → ((r s : List ℕ) → Raised t r s → mark r ≡ k → P r s)
-      → P (current k n l) (current k n m)
+  -- a law of two records that holds of none and none, and of each raised pair of the kind, holds of the current ones
+  pub by-current : (k n : ℕ) (P : List ℕ → List ℕ → Type 0) → P [] [] → ((r s : List ℕ) → Raised t r s → kind r ≡ k → P r s) → P (current k n l) (current k n m)
   by-current k n P z f = go (current k n l) (current k n m) (current-raised k n a) (current-found k n l)
     where
       go : (r s : List ℕ) → Raised t r s → CurrentOf k n l r → P r s
       go r s q (standing e) = f r s q (e .marked)
       go r s q (absent e w) = rw (e, nil-of-length s (sym (ap length e) ∙ q .long)) z
 
-  field-same : (k n i : ℕ) → isMoney (fieldOf k i .role) ≡ false → value k i (current k n l) ≡ value k i (current k n m)
-  field-same k n i e =
-      by-current k n (λ r s. value k i r ≡ value k i s) refl (λ r s q w. subst (λ (j : ℕ). value j i r ≡ value j i s) w (raised-same q i (rw w e)))
+  field-same : (k n i : ℕ) → isMoney (fieldOf k i .role) ≡ false → told k i (current k n l) ≡ told k i (current k n m)
+  field-same k n i e = by-current k n (λ r s. told k i r ≡ told k i s) refl (λ r s q w. told-same q k i w e)
 
-  field-le : (k n i : ℕ) → value k i (current k n l) ≤ value k i (current k n m)
-  field-le k n i = by-current k n (λ r s. value k i r ≤ value k i s) (le-refl _) (λ r s q w. subst (λ (j : ℕ). value j i r ≤ value j i s) w (raised-le q i))
+  field-le : (k n i : ℕ) → told k i (current k n l) ≤ told k i (current k n m)
+  field-le k n i = by-current k n (λ r s. told k i r ≤ told k i s) (le-refl _) (λ r s q w. told-le q k i w)
 
   present-same : (k n : ℕ) → present (current k n l) ≡ present (current k n m)
   unfolding present
   present-same k n = ap (λ (x : ℕ). ltb 0 x) (current-raised k n a .long)
 
-  says-same : (k n i : ℕ) → cond (isMoney (fieldOf k i .role)) 0 (value k i (current k n l)) ≡ cond (isMoney (fieldOf k i .role)) 0
-      (value k i (current k n m))
+  says-same : (k n i : ℕ) → cond (isMoney (fieldOf k i .role)) 0 (told k i (current k n l)) ≡ cond (isMoney (fieldOf k i .role)) 0 (told k i (current k n m))
   says-same k n i = go (isMoney (fieldOf k i .role)) (field-same k n i)
     where
-      go : (b : Bool) → (b ≡ false → value k i (current k n l) ≡ value k i (current k n m))
-          → cond b 0 (value k i (current k n l)) ≡ cond b 0 (value k i (current k n m))
+      go : (b : Bool) → (b ≡ false → told k i (current k n l) ≡ told k i (current k n m)) → cond b 0 (told k i (current k n l)) ≡ cond b 0 (told k i
+          (current k n m))
       go true f = refl
       go false f = f refl
 
@@ -84,9 +85,24 @@ module _ {t : ℕ} {l m : List (List ℕ)} (a : Pairwise (Raised t) l m) where
   unfolding amounts
   higher k n i = go (isMoney (fieldOf k i .role))
     where
-      go : (b : Bool) → cond b (value k i (current k n l)) 0 ≤ cond b (value k i (current k n m)) 0
+      go : (b : Bool) → cond b (told k i (current k n l)) 0 ≤ cond b (told k i (current k n m)) 0
       go true = field-le k n i
       go false = le-refl 0
+
+-- ---- at an hour: what kinds without first hours say is the same at every hour
+
+module _ (h k : ℕ) (other : datable k ≡ false) (l : List (List ℕ)) where
+  pub has-always : (n : ℕ) → parameters (inForce h l) .has k n ≡ parameters l .has k n
+  unfolding parameters
+  has-always n = ap present (always-current h k n other l)
+
+  pub says-always : (n i : ℕ) → parameters (inForce h l) .says k n i ≡ parameters l .says k n i
+  unfolding parameters
+  says-always n i = ap (λ (r : List ℕ). cond (isMoney (fieldOf k i .role)) 0 (told k i r)) (always-current h k n other l)
+
+  pub of-always : (n i : ℕ) → amounts (inForce h l) .of k n i ≡ amounts l .of k n i
+  unfolding amounts
+  of-always n i = ap (λ (r : List ℕ). cond (isMoney (fieldOf k i .role)) (told k i r) 0) (always-current h k n other l)
 
 -- ---- bounds: the 64-bit sums of the code rest on these
 
@@ -107,13 +123,16 @@ unfolding value read fieldOf number
 past-fields k i r h = rw (List·getD-eq-default (rowOf k .fields) noField h) refl
 
 -- a field of a current record, present or not, is at most its highest
-pub current-high : {l : List (List ℕ)} → Each (λ r. fault r ≡ 0) l → (k n i : ℕ) → value k i (current k n l) ≤ fieldOf k i .highest
+pub current-high : {l : List (List ℕ)} → Each (λ r. fault r ≡ 0) l → (k n i : ℕ) → told k i (current k n l) ≤ fieldOf k i .highest
 current-high {l} e k n i = go (current k n l) (current-found k n l)
   where
-    go : (r : List ℕ) → CurrentOf k n l r → value k i r ≤ fieldOf k i .highest
-    go r (absent p w) = rw p (value-nil k i)
-    go r (standing q) = rw (← q .marked) (inside (decLt i (length (rowOf (mark r) .fields))))
+    go : (r : List ℕ) → CurrentOf k n l r → told k i r ≤ fieldOf k i .highest
+    go r (absent p w) = rw (p, told-nil k i) (value-nil k i)
+    go r (standing q) = rw (told-value k i r (q .marked), ← own) (inside (decLt i (length (rowOf (mark r) .fields))))
       where
+        own : fieldOf (mark r) i ≡ fieldOf k i
+        own = unfold kind in kind-field (mark r) k i (q .marked)
+
         inside : Dec (i < length (rowOf (mark r) .fields)) → value (mark r) i r ≤ fieldOf (mark r) i .highest
         inside (yes p) = range-high (fieldOf (mark r) i) (value (mark r) i r) (field-range r (faultless r (member-each (q .member) e)) i p)
         inside (no p) = omega (arith, past-fields (mark r) i r (omega arith))
@@ -122,7 +141,7 @@ pub says-high : {l : List (List ℕ)} → Each (λ r. fault r ≡ 0) l → (k n 
 unfolding parameters
 says-high {l} e k n i = go (isMoney (fieldOf k i .role))
   where
-    go : (b : Bool) → cond b 0 (value k i (current k n l)) ≤ fieldOf k i .highest
+    go : (b : Bool) → cond b 0 (told k i (current k n l)) ≤ fieldOf k i .highest
     go true = omega arith
     go false = current-high e k n i
 
@@ -130,6 +149,6 @@ pub amount-high : {l : List (List ℕ)} → Each (λ r. fault r ≡ 0) l → (k 
 unfolding amounts
 amount-high {l} e k n i = go (isMoney (fieldOf k i .role))
   where
-    go : (b : Bool) → cond b (value k i (current k n l)) 0 ≤ fieldOf k i .highest
+    go : (b : Bool) → cond b (told k i (current k n l)) 0 ≤ fieldOf k i .highest
     go true = current-high e k n i
     go false = omega arith

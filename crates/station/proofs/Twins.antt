@@ -7,18 +7,18 @@ use native.Mathlib.Omega.{arith}
 use lib.Dec.{leb, eqb}
 use lib.ListN.{length}
 use borrow.Author.Tests.{leb-true, leb-false, eqb-true, eqb-false, eq-eqb, ne-eqb}
-use Rattle.lists.specs.Lists.{Each, done, also, Pairwise, none, more, Permutation, empty, keep, swap, then}
-use Rattle.lists.proofs.Lists.{each-permuted, each-of}
+use Rattle.lists.specs.Lists.{Each, done, also, Pairwise, none, more, Permutation, empty, keep, swap, then, those}
+use Rattle.lists.proofs.Lists.{each-permuted, each-of, those-each}
 use Rattle.lists.proofs.Tests.{or-false-left, or-false-right}
 use Rattle.records.specs.declared.Answer.the-variants.{Accepted}
-use Rattle.records.specs.Record.{mark, issue, keyOf}
+use Rattle.records.specs.Record.{kind, issue, keyOf}
 use Rattle.records.specs.Answers.{refuseIf}
 use Rattle.records.specs.Raise.{Raised}
 use Rattle.records.proofs.Answers.{orElse-parts, parts-orElse, not-refuseIf, refuseIf-not}
-use Rattle.records.proofs.Raise.{raised-mark, raised-issue, raised-key}
+use Rattle.records.proofs.Raise.{raised-kind, raised-issue, raised-key}
 use Rattle.station.specs.Current.{matches, better, currentFrom, current, twin, anyTwin, twins}
 use Rattle.station.specs.Declared.{Apart, Distinct}
-use Rattle.station.proofs.Current.{matches-mark, matches-key}
+use Rattle.station.proofs.Current.{matches-kind, matches-key}
 
 eqb-sym : (a b : ℕ) → eqb a b ≡ eqb b a
 eqb-sym a b = go (eqb a b) refl
@@ -29,7 +29,7 @@ eqb-sym a b = go (eqb a b) refl
 
 twin-sym : (r s : List ℕ) → twin r s ≡ twin s r
 unfolding twin
-twin-sym r s = rw (eqb-sym (mark r) (mark s), eqb-sym (keyOf r) (keyOf s), eqb-sym (issue r) (issue s)) refl
+twin-sym r s = rw (eqb-sym (kind r) (kind s), eqb-sym (keyOf r) (keyOf s), eqb-sym (issue r) (issue s)) refl
 
 -- ---- 4 is not drawn exactly if the records are distinct
 
@@ -81,6 +81,16 @@ distinct-permuted (keep a p) d = (each-permuted p (d .0), distinct-permuted p (d
 distinct-permuted (swap a b l) d = swapped (d .0) (d .1 .0) (d .1 .1)
 distinct-permuted (then p q) d = distinct-permuted q (distinct-permuted p d)
 
+-- some of them are distinct too
+pub distinct-those : (f : List ℕ → Bool) (l : List (List ℕ)) → Distinct l → Distinct (those f l)
+unfolding those
+distinct-those f [] d = d
+distinct-those f (r ∷ l) d = go (f r) (distinct-those f l (d .1))
+  where
+    go : (b : Bool) → Distinct (those f l) → Distinct (cond b (r ∷ those f l) (those f l))
+    go true e = (those-each f (d .0), e)
+    go false e = e
+
 -- of two that are no twins the better one does not depend on the order
 better-swap : (k n : ℕ) (b x y : List ℕ) → twin x y ≡ false → better k n (better k n b x) y ≡ better k n (better k n b y) x
 unfolding better twin
@@ -91,14 +101,15 @@ better-swap k n b x y t = go (matches k n x) refl (matches k n y) refl
         false≢true
         (sym t
         ∙ rw (
-          matches-mark k n x p,
-          matches-mark k n y q,
+          matches-kind k n x p,
+          matches-kind k n y q,
           matches-key k n x p,
           matches-key k n y q,
           e,
           eq-eqb k k refl,
           eq-eqb n n refl,
-          eq-eqb (issue y) (issue y) refl,
+          eq-eqb (issue y)
+              (issue y) refl,
         ) refl)
 
     both : (issue x ≡ issue y → ⊥) → (p q u v : Bool) → leb (issue b) (issue x) ≡ p → leb (issue b) (issue y) ≡ q → leb (issue x) (issue y) ≡ u
@@ -144,7 +155,7 @@ current-permuted k n p d = from-permuted k n p d []
 twin-same : {t u : ℕ} {r s : List ℕ} {l m : List (List ℕ)} → Raised t r s → Pairwise (Raised u) l m → anyTwin r l ≡ anyTwin s m
 unfolding anyTwin twin
 twin-same q none = refl
-twin-same q (more p a) = rw (raised-mark q, raised-mark p, raised-key q, raised-key p, raised-issue q, raised-issue p, twin-same q a) refl
+twin-same q (more p a) = rw (raised-kind q, raised-kind p, raised-key q, raised-key p, raised-issue q, raised-issue p, twin-same q a) refl
 
 pub twins-same : {t : ℕ} {l m : List (List ℕ)} → Pairwise (Raised t) l m → {x y : List (List ℕ)} → Pairwise (Raised t) x y → (p : ℕ)
     → twins p x l ≡ twins p y m

@@ -1,4 +1,4 @@
--- The current record of a mark and key; 4; the lookup.
+-- The current record of a kind and key; 4; the lookup. "A key is shared by old and new mark", so it is a kind that has keys: FU's for FU and FV.
 use mathlib.Core.Bool.{Bool, false, cond, _&&_, _||_}
 use mathlib.Core.List.{List, [], _∷_}
 use Prim.Native.Nat.{ℕ, _+_}
@@ -8,14 +8,14 @@ use Rattle.fields.specs.Numbers.{number}
 use Rattle.records.specs.declared.Answer.{Answer}
 use Rattle.records.specs.declared.Answer.the-variants.{Accepted}
 use Rattle.records.specs.Answers.{orElse, refuseIf, isAccepted}
-use Rattle.records.specs.Record.{mark, keyWidth, issue, keyOf}
+use Rattle.records.specs.Record.{mark, kindOf, kind, keyWidth, issue, keyOf}
 use Rattle.records.specs.Dossier.{records, scan}
 
 -- ---- "Of one mark and key, the highest issue is current."
 
--- whether a record has the mark and the key
+-- whether a record has the kind and the key
 unfoldable pub matches : ℕ → ℕ → List ℕ → Bool
-matches k n r = eqb (mark r) k && eqb (keyOf r) n
+matches k n r = eqb (kind r) k && eqb (keyOf r) n
 
 -- of the best record so far and the next one: the next, if it matches and its issue is not lower
 unfoldable pub better : ℕ → ℕ → List ℕ → List ℕ → List ℕ
@@ -35,7 +35,7 @@ unfoldable pub startFrom : ℕ → ℕ → List ℕ → ℕ → ℕ → List (Li
 startFrom k n b q p [] = q
 startFrom k n b q p (r ∷ l) = startFrom k n (better k n b r) (cond (matches k n r && leb (issue b) (issue r)) p q) (p + length r) l
 
--- where the current record of a mark and key stands, the first record at place 0; 0 where there is none
+-- where the current record of a kind and key stands, the first record at place 0; 0 where there is none
 unfoldable pub startOf : ℕ → ℕ → List (List ℕ) → ℕ
 startOf k n l = startFrom k n [] 0 0 l
 
@@ -45,9 +45,9 @@ present r = ltb 0 (length r)
 
 -- ---- "4 mark, key and issue seen before"; its place is "the first record that has an earlier twin"
 
--- whether two records have mark, key and issue in common
+-- whether two records have kind, key and issue in common: the key is shared "for 4 as well"
 unfoldable pub twin : List ℕ → List ℕ → Bool
-twin r s = eqb (mark r) (mark s) && eqb (keyOf r) (keyOf s) && eqb (issue r) (issue s)
+twin r s = eqb (kind r) (kind s) && eqb (keyOf r) (keyOf s) && eqb (issue r) (issue s)
 
 -- whether a record has a twin among some others
 unfoldable pub anyTwin : List ℕ → List (List ℕ) → Bool
@@ -76,6 +76,6 @@ readable d =
 unfoldable pub lookup : List ℕ → ℕ → ℕ → List ℕ
 lookup d k n = cond (isAccepted (readable d)) (current k n (records d)) []
 
--- the same by the bytes of a mark and a key; a key of another width than the mark's is absent
+-- the same by the bytes of a mark and a key, "the highest issue, under either mark"; a key of another width than the mark's is absent
 unfoldable pub lookupBytes : List ℕ → List ℕ → List ℕ → List ℕ
-lookupBytes d m key = cond (eqb (length m) 2 && eqb (length key) (keyWidth (mark m))) (lookup d (mark m) (number 0 (length key) key)) []
+lookupBytes d m key = cond (eqb (length m) 2 && eqb (length key) (keyWidth (mark m))) (lookup d (kindOf (mark m)) (number 0 (length key) key)) []

@@ -1,4 +1,5 @@
 pub mod Current
+pub mod InForce
 pub mod Declared
 pub mod Parameters
 pub mod Week

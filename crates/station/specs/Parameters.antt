@@ -3,15 +3,15 @@ use mathlib.Core.Bool.{Bool, cond}
 use mathlib.Core.List.{List}
 use Prim.Native.Nat.{ℕ, _+_, _*_, _≤_}
 use Rattle.records.specs.Table.{fieldOf, RS, HP, FU, AD, MM, RQ, HR, CH, TH, FP, LC}
-use Rattle.records.specs.Record.{isMoney, value}
+use Rattle.records.specs.Record.{isMoney, told}
 use Rattle.station.specs.Current.{current, present}
 
--- by mark and key: whether there is a current record, and what its fields say, money left out
+-- by kind and key: whether there is a current record, and what its fields say, money left out
 pub record Parameters : Type 0 where
   pub has : ℕ → ℕ → Bool
   pub says : ℕ → ℕ → ℕ → ℕ
 
--- by mark, key and field: the money amounts of the current records, prices plus 2^31
+-- by kind, key and field: the money amounts of the current records, prices plus 2^31
 pub record Amounts : Type 0 where
   pub of : ℕ → ℕ → ℕ → ℕ
 
@@ -20,12 +20,12 @@ unfoldable pub parameters : List (List ℕ) → Parameters
 parameters l =
     record {
       has = λ k n. present (current k n l);
-      says = λ k n i. cond (isMoney (fieldOf k i .role)) 0 (value k i (current k n l));
+      says = λ k n i. cond (isMoney (fieldOf k i .role)) 0 (told k i (current k n l));
     }
 
 -- their money amounts; of a record that is not there every amount is 0, a price 0 cents
 unfoldable pub amounts : List (List ℕ) → Amounts
-amounts l = record { of = λ k n i. cond (isMoney (fieldOf k i .role)) (value k i (current k n l)) 0 }
+amounts l = record { of = λ k n i. cond (isMoney (fieldOf k i .role)) (told k i (current k n l)) 0 }
 
 -- no amount is lower
 abbrev pub Higher : Amounts → Amounts → Type 0

@@ -7,7 +7,7 @@ use lib.ListN.{getD}
 use Rattle.lists.specs.Sums.{sumTo, upTo}
 use Rattle.fields.specs.Numbers.{unbiased}
 use Rattle.records.specs.Table.{CH}
-use Rattle.records.specs.Record.{value}
+use Rattle.records.specs.Record.{told}
 use Rattle.records.specs.Dossier.{records}
 use Rattle.station.specs.Current.{lookup}
 use Rattle.station.specs.Parameters.{parameters, amounts, chargePrice, chargeEnergy}
@@ -18,11 +18,11 @@ intervals = 2_016
 
 -- the price of interval n, in cents: "what the lookup by key gives", "both 0 where there is none"
 unfoldable pub weekPrice : List ℕ → ℕ → ℤ
-weekPrice d n = unbiased (value CH 1 (lookup d CH n))
+weekPrice d n = unbiased (told CH 1 (lookup d CH n))
 
 -- its energy, in kWh: "what the lookup by key gives", "both 0 where there is none"
 unfoldable pub weekEnergy : List ℕ → ℕ → ℕ
-weekEnergy d n = value CH 2 (lookup d CH n)
+weekEnergy d n = told CH 2 (lookup d CH n)
 
 -- the prices of the week, interval 1 first: "the dossier is read once into prices and energies", "at each interval"
 unfoldable pub weekPrices : List ℕ → List ℤ
