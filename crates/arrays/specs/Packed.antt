@@ -9,7 +9,7 @@ use Rattle.rules.specs.Fit.{energy, start, noLoad, reserve, holds}
 use Rattle.arrays.specs.declared.HourLevels.{HourLevels}
 use Rattle.arrays.specs.declared.SingleLevels.{SingleLevels}
 use Rattle.formulas.specs.Exact.{Sum}
-use Rattle.formulas.specs.Levels.{parametersIn, profile, Line, amount, adders, startCost, noLoadCost, Shown, shownAs, levels}
+use Rattle.formulas.specs.Levels.{parametersAt, profile, Line, amount, adders, startCost, noLoadCost, Shown, shownAs, levels}
 
 -- ---- from the arrays to lines
 
@@ -93,7 +93,7 @@ packed t p l =
 
 -- the levels of dossier d at hour h, packed
 abbrev pub packedAt : List ℕ → ℕ → HourLevels
-packedAt d h = packed (technology (parametersIn d)) (profile (parametersIn d) h) (levels d h)
+packedAt d h = packed (technology (parametersAt d h)) (profile (parametersAt d h) h) (levels d h)
 
 -- the sum of a level v without laminations, where it is held
 unfoldable pub singleSum : Parameters → Amounts → ℕ → ℕ → Sum

@@ -2,6 +2,7 @@ pub mod Computed
 pub mod Cases
 pub mod CasesExact
 pub mod CasesLines
+pub mod CasesHours
 pub mod Sums
 pub mod Rounding
 pub mod Exact

@@ -1,10 +1,16 @@
 -- The profile at an hour, declared: what the highest request that covers the hour names, 1 where none does.
+use Rattle.records.specs.Record.{datable}
 use mathlib.Core.Path.{_≡_, refl, _∙_}
 use mathlib.Core.Bool.{true, false}
+use mathlib.Core.List.{List}
 use Prim.Native.Nat.{ℕ, zero, suc, _≤_, _<_}
 use native.Mathlib.Decide.{ℕ-discrete}
 use native.Mathlib.Omega.{arith}
-use Rattle.station.specs.Parameters.{Parameters, requested}
+use Rattle.lists.specs.Tests.{among}
+use Rattle.records.specs.Table.{table, RQ}
+use Rattle.station.specs.InForce.{inForce}
+use Rattle.station.specs.Parameters.{Parameters, parameters, requested}
+use Rattle.station.proofs.Parameters.{has-always, says-always}
 use Rattle.formulas.specs.Levels.{covers, profileOf, profile}
 
 module _ (s : Parameters) (h : ℕ) where
@@ -26,3 +32,19 @@ module _ (s : Parameters) (h : ℕ) where
   pub profile-none : ((m : ℕ) → 1 ≤ m → m ≤ 16 → covers s h m ≡ false) → profile s h ≡ 1
   unfolding profile profileOf
   profile-none none = past 0 16 (omega arith) (λ m a b. none m (omega arith) b)
+
+-- ---- the profile at an hour, whatever has come by then
+
+module _ (l : List (List ℕ)) (h : ℕ) where
+  covers-always : (n : ℕ) → covers (parameters (inForce h l)) h n ≡ covers (parameters l) h n
+  unfolding covers datable among table
+  covers-always n = rw (has-always h RQ refl l n, says-always h RQ refl l n 3, says-always h RQ refl l n 1, says-always h RQ refl l n 2) refl
+
+  of-always : (n : ℕ) → profileOf (parameters (inForce h l)) h n ≡ profileOf (parameters l) h n
+  unfolding profileOf datable among table
+  of-always zero = refl
+  of-always (suc n) = rw (covers-always (suc n), says-always h RQ refl l (suc n) 3, of-always n) refl
+
+  pub profile-always : profile (parameters (inForce h l)) h ≡ profile (parameters l) h
+  unfolding profile
+  profile-always = of-always 16

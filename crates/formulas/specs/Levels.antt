@@ -4,9 +4,11 @@ use mathlib.Core.Bool.{Bool, cond, _&&_, not}
 use mathlib.Core.List.{List, [], _∷_}
 use Prim.Native.Nat.{ℕ, zero, suc, _+_, _*_, _-_, _/_, _≤_}
 use lib.Dec.{leb, eqb}
-use Rattle.records.specs.Table.{thermal, nuclear, storage, hydro, RQ}
+use Rattle.records.specs.Table.{thermal, nuclear, storage, hydro, FU, RQ}
 use Rattle.records.specs.declared.Answer.{Answer}
+use Rattle.records.specs.Answers.{orElse, refuseIf}
 use Rattle.records.specs.Dossier.{records}
+use Rattle.station.specs.InForce.{inForce}
 use Rattle.station.specs.Parameters.{Parameters, Amounts, parameters, amounts, technology, capacity, factor, startHeat, noLoadHeat, incrementalFuel}
 use Rattle.station.specs.Parameters.{efficiency, window, output, heat, fuel, emission, adder, costC, outputW, intervalT, hoursPerStartS, firstHour, lastHour}
 use Rattle.station.specs.Parameters.{requested, hourPrice, chargePrice, chargeEnergy, placePrice, lastCost}
@@ -19,13 +21,21 @@ use Rattle.formulas.specs.Exact.{Sum, whole, share, _⊕_, total, perTho
 
 -- ---- what a dossier's current records say
 
--- without money
+-- those of any hour, without money
 abbrev pub parametersIn : List ℕ → Parameters
 parametersIn d = parameters (records d)
 
 -- the money
 abbrev pub amountsIn : List ℕ → Amounts
 amountsIn d = amounts (records d)
+
+-- those that count at an hour, without money: "At an hour, the highest issue whose first hour has come counts."
+abbrev pub parametersAt : List ℕ → ℕ → Parameters
+parametersAt d h = parameters (inForce h (records d))
+
+-- the money
+abbrev pub amountsAt : List ℕ → ℕ → Amounts
+amountsAt d h = amounts (inForce h (records d))
 
 -- ---- the profile at an hour
 
@@ -41,6 +51,16 @@ profileOf s h (suc n) = let r = profileOf s h n in cond (covers s h (suc n)) (re
 -- "profile choice": of all 16
 unfoldable pub profile : Parameters → ℕ → ℕ
 profile s h = profileOf s h 16
+
+-- ---- what an hour draws
+
+-- not "the hour's profile has no fuel in force"
+unfoldable pub fuelled : Parameters → ℕ → Bool
+fuelled s h = s .has FU (profile s h)
+
+-- what a dossier draws before it is asked for anything at an hour: its own refusal; or 20, "tried after 17, at place 0"
+unfoldable pub hourAnswer : List ℕ → ℕ → Answer
+hourAnswer d h = orElse (answer d) (refuseIf (not (fuelled (parametersAt d h) h)) 20 0)
 
 -- ---- the formulas, of a profile p
 
@@ -176,13 +196,9 @@ linesOf s m p =
 unfoldable pub lines : Parameters → Amounts → ℕ → List Line
 lines s m h = linesOf s m (profile s h)
 
--- the levels of a dossier at an hour
+-- the levels of a dossier at an hour; "an hour without fuel in force has no level"
 unfoldable pub levels : List ℕ → ℕ → List Line
-levels d h = lines (parametersIn d) (amountsIn d) h
-
--- what a dossier draws before it is asked for anything at an hour; no hour draws more than another
-unfoldable pub hourAnswer : List ℕ → ℕ → Answer
-hourAnswer d h = answer d
+levels d h = cond (fuelled (parametersAt d h) h) (lines (parametersAt d h) (amountsAt d h) h) []
 
 -- ---- what a line shows
 

@@ -7,8 +7,8 @@ use lib.ListN.{replicate}
 use Rattle.lists.specs.Lists.{joined}
 use Rattle.records.specs.declared.Answer.the-variants.{Accepted, Refused}
 use Rattle.records.specs.Answers.{refuseIf, isAccepted}
-use Rattle.records.specs.Table.{RS, FU, RQ}
-use Rattle.records.specs.Made.{made}
+use Rattle.records.specs.Table.{RS, FU, RQ, FV}
+use Rattle.records.specs.Made.{made, madeFrom}
 use Rattle.formulas.specs.Levels.{shownAs}
 use Rattle.layout.specs.Report.{levelLines, shortFor, bufferWith, written, writtenNumbers, reportAnswer, bufferAfter, prints}
 use Rattle.layout.proofs.Computed.{computed}
@@ -79,6 +79,27 @@ printed = (refl, refl, refl, refl)
 pub answered : (reportAnswer reactor 256 34 ≡ Accepted) × (reportAnswer reactor 256 33 ≡ Refused 15 0) × (reportAnswer [] 256 0 ≡ Refused 5 0)
 unfolding computed
 answered = (refl, refl, refl)
+
+-- the same station with profile 2's fuel from hour 300 on: 20, printed and told, before 15, until then
+abbrev late : List ℕ
+late =
+    joined (made RS 1 (2 ∷ 1000 ∷ 1000 ∷ 0 ∷ 0 ∷ 20000 ∷ 0 ∷ 0 ∷ 0 ∷ [])
+    ∷ made FU 1 (1 ∷ 0 ∷ 0 ∷ []) ∷ madeFrom FV 1 300 (2 ∷ 100000000 ∷ 0 ∷ [])
+    ∷ made RQ 1 (1 ∷ 256 ∷ 999 ∷ 2 ∷ [])
+    ∷ [])
+
+pub late-printed : (prints (0 ∷ 0 ∷ 1 ∷ 0 ∷ late) ≡ 114 ∷ 101 ∷ 102 ∷ 117 ∷ 115 ∷ 101 ∷ 100 ∷ 32 ∷ 50 ∷ 48 ∷ 32 ∷ 97 ∷ 116 ∷ 32 ∷ 48 ∷ 10 ∷ [])
+    × (prints (0 ∷ 0 ∷ 1 ∷ 44 ∷ late) ≡ lines)
+unfolding computed
+late-printed = (refl, refl)
+
+pub late-answered : (reportAnswer late 299 0 ≡ Refused 20 0) × (reportAnswer late 300 33 ≡ Refused 15 0) × (reportAnswer late 300 34 ≡ Accepted)
+unfolding computed
+late-answered = (refl, refl, refl)
+
+pub late-buffered : (bufferAfter late 299 (replicate 36 7) ≡ replicate 36 7) × (bufferAfter late 300 (replicate 36 7) ≡ lines ++ (7 ∷ 7 ∷ []))
+unfolding computed
+late-buffered = (refl, refl)
 
 -- of 36 bytes two stay, and of 33 all
 pub buffered : (bufferAfter reactor 256 (replicate 36 7) ≡ lines ++ (7 ∷ 7 ∷ [])) × (bufferAfter reactor 256 (replicate 33 7) ≡ replicate 33 7) × (bufferAfter [] 256 (7 ∷ []) ≡ 7 ∷ [])

@@ -8,10 +8,8 @@ use Rattle.fields.specs.Numbers.{number}
 use Rattle.records.specs.declared.Answer.{Answer}
 use Rattle.records.specs.declared.Answer.the-variants.{Accepted, Refused as Turned}
 use Rattle.records.specs.Answers.{orElse, refuseIf, isAccepted}
-use Rattle.records.specs.Dossier.{records}
-use Rattle.station.specs.Parameters.{parameters}
 use Rattle.rules.specs.Fit.{energy, start, noLoad}
-use Rattle.formulas.specs.Levels.{profile, levels, hourAnswer, Shown, shown}
+use Rattle.formulas.specs.Levels.{parametersAt, profile, hourAnswer, levels, Shown, shown}
 use Rattle.layout.specs.declared.Written.{Written}
 use Rattle.layout.specs.declared.Written.the-variants.{Bytes, Refused}
 use Rattle.text.specs.Text.{decimal, tenths, hundredths, refusalLine, profileWord, energyWord, startWord, noLoadWord, reserveWord, space, newline, over}
@@ -49,7 +47,7 @@ reportText p l = profileLine p ++ levelLines l
 
 -- the report of a dossier at an hour, "a text report"
 unfoldable pub report : List ℕ → ℕ → List ℕ
-report d h = reportText (profile (parameters (records d)) h) (map shown (levels d h))
+report d h = reportText (profile (parametersAt d h) h) (map shown (levels d h))
 
 -- ---- written to a lent buffer
 

@@ -2,3 +2,4 @@ pub mod Signed
 pub mod Turns
 pub mod Laminations
 pub mod Single
+pub mod Always

@@ -7,8 +7,8 @@ use lib.Dec.{leb, eqb}
 use Rattle.lists.specs.Lists.{Each, done, also, joined}
 use Rattle.records.specs.declared.Answer.{Answer}
 use Rattle.records.specs.declared.Answer.the-variants.{Accepted, Refused}
-use Rattle.records.specs.Table.{thermal, nuclear, storage, hydro, RS, HP, FU, AD, MM, RQ, HR, CH, TH, FP, LC}
-use Rattle.records.specs.Made.{made}
+use Rattle.records.specs.Table.{thermal, nuclear, storage, hydro, RS, HP, FU, AD, MM, RQ, HR, CH, TH, FP, LC, FV, AV, MV}
+use Rattle.records.specs.Made.{made, madeFrom}
 use Rattle.station.specs.Parameters.{Parameters}
 use Rattle.rules.specs.Curve.{fullHours}
 use Rattle.rules.specs.Fit.{fits}
@@ -31,6 +31,10 @@ Answers l = Each (λ c. answer (joined (c .dossier)) ≡ c .wanted) l
 -- the fuel of a profile
 abbrev fuelled : ℕ → List ℕ
 fuelled p = made FU 1 (p ∷ 0 ∷ 0 ∷ [])
+
+-- the same from an hour on, 19 bytes
+abbrev fuelledFrom : ℕ → ℕ → List ℕ
+fuelledFrom h p = madeFrom FV 1 h (p ∷ 0 ∷ 0 ∷ [])
 
 -- a thermal unit without its points and fuel, 31 bytes
 abbrev unit : ℕ → List ℕ
@@ -75,7 +79,7 @@ reactor = made RS 1 (2 ∷ 1000 ∷ 1000 ∷ 0 ∷ 0 ∷ 1 ∷ 0 ∷ 0 ∷ 0 ∷
 abbrev request : ℕ → ℕ → List ℕ
 request n profile = made RQ 1 (n ∷ 0 ∷ 0 ∷ profile ∷ [])
 
--- "8 no FU for profile 1 or for one named in a current RQ"
+-- "8 no FU for profile 1 or for one named in a current RQ"; "8 is met by FU or FV of any hour"
 abbrev fuels : List Case
 fuels =
     case (reactor ∷ fuelled 1 ∷ []) Accepted
@@ -84,11 +88,14 @@ fuels =
     ∷ case (reactor ∷ fuelled 1 ∷ request 16 2 ∷ []) (Refused 8 62)  -- or request 16
     ∷ case (reactor ∷ fuelled 1 ∷ request 16 0 ∷ []) Accepted  -- which is withdrawn
     ∷ case (reactor ∷ fuelled 1 ∷ fuelled 2 ∷ request 16 2 ∷ []) Accepted
+    ∷ case (reactor ∷ fuelledFrom 4294967295 1 ∷ []) Accepted  -- the last hour has fuel
+    ∷ case (reactor ∷ fuelled 1 ∷ fuelledFrom 200 2 ∷ request 16 2 ∷ []) Accepted  -- request 16 is of hour 0
+    ∷ case (reactor ∷ fuelledFrom 0 2 ∷ []) (Refused 8 50)
     ∷ []
 
 pub fuels-answered : Answers fuels
 unfolding computed
-fuels-answered = also refl (also refl (also refl (also refl (also refl (also refl done)))))
+fuels-answered = also refl (also refl (also refl (also refl (also refl (also refl (also refl (also refl (also refl done))))))))
 
 -- a battery of 80.0 MW without fuel, 31 bytes
 abbrev battery : ℕ → ℕ → List ℕ
@@ -138,21 +145,59 @@ pub turns-answered : Answers turns
 unfolding computed
 turns-answered = also refl (also refl (also refl (also refl (also refl (also refl (also refl (also refl (also refl (also refl (also refl done))))))))))
 
+-- ---- "A key is shared by old and new mark, for 4 as well"; "6 is tried on every record that counts at some hour"
+
+-- fuel of profile 1 with an emission price, which no nuclear station has: issue 1, of hour 0 and of hour 100
+abbrev emitting : List ℕ
+emitting = made FU 1 (1 ∷ 0 ∷ 1 ∷ [])
+
+abbrev emittingFrom : List ℕ
+emittingFrom = madeFrom FV 1 100 (1 ∷ 0 ∷ 1 ∷ [])
+
+-- without one: issue 2
+abbrev cleanFrom : ℕ → List ℕ
+cleanFrom h = madeFrom FV 2 h (1 ∷ 0 ∷ 0 ∷ [])
+
+abbrev dated : List Case
+dated =
+    case (reactor ∷ fuelled 1 ∷ fuelledFrom 100 1 ∷ []) (Refused 4 46)  -- one key and issue, whatever the hours
+    ∷ case (reactor ∷ fuelledFrom 100 1 ∷ fuelledFrom 200 1 ∷ []) (Refused 4 50)
+    ∷ case (reactor ∷ fuelled 1 ∷ fuelledFrom 100 2 ∷ []) Accepted  -- another key
+    ∷ case (reactor ∷ fuelled 1 ∷ cleanFrom 100 ∷ []) Accepted  -- another issue
+    ∷ case (reactor ∷ emitting ∷ cleanFrom 100 ∷ []) (Refused 6 31)  -- it counts until hour 99
+    ∷ case (reactor ∷ emitting ∷ cleanFrom 1 ∷ []) (Refused 6 31)  -- and at hour 0 alone
+    ∷ case (reactor ∷ emitting ∷ cleanFrom 0 ∷ []) Accepted  -- at no hour: a higher issue is there from the first on
+    ∷ case (reactor ∷ emittingFrom ∷ cleanFrom 101 ∷ []) (Refused 6 31)  -- it counts at hour 100
+    ∷ case (reactor ∷ emittingFrom ∷ cleanFrom 100 ∷ []) Accepted  -- a higher issue comes with it
+    ∷ case (reactor ∷ emittingFrom ∷ cleanFrom 99 ∷ []) Accepted  -- or before it, and a later hour wins nothing
+    ∷ case (reactor ∷ fuelled 1 ∷ madeFrom AV 1 4294967295 (4 ∷ 3 ∷ 4 ∷ 0 ∷ []) ∷ []) (Refused 6 46)  -- of a profile that nothing asks for
+    ∷ case (reactor ∷ fuelled 1 ∷ madeFrom AV 1 9 (4 ∷ 3 ∷ 4 ∷ 0 ∷ []) ∷ made LC 1 (0 ∷ []) ∷ []) (Refused 6 46)  -- the first of two
+    ∷ []
+
+pub dated-answered : Answers dated
+unfolding computed
+dated-answered =
+    also refl (also refl (also refl (also refl (also refl (also refl (also refl (also refl (also refl (also refl (also refl (also refl done)))))))))))
+
 -- ---- which technologies a record fits
 
--- those of some technologies that a record of these values fits
+-- those of some technologies that a record of mark k fits
 unfoldable pub fitted : ℕ → List ℕ → List ℕ → List ℕ
-fitted k vs [] = []
-fitted k vs (t ∷ l) = cond (fits t k (made k 1 vs)) (t ∷ fitted k vs l) (fitted k vs l)
+fitted k r [] = []
+fitted k r (t ∷ l) = cond (fits t k r) (t ∷ fitted k r l) (fitted k r l)
 
--- a record's mark and values, and the technologies that it fits
+-- a record and its mark, and the technologies that it fits
 record Fitting : Type 0 where
   mark : ℕ
-  values : List ℕ
+  bytes : List ℕ
   wanted : List ℕ
 
 abbrev only : ℕ → List ℕ → List ℕ → Fitting
-only k vs w = record { mark = k; values = vs; wanted = w }
+only k vs w = record { mark = k; bytes = made k 1 vs; wanted = w }
+
+-- the same of a mark with a first hour, 7 here
+abbrev onlyFrom : ℕ → List ℕ → List ℕ → Fitting
+onlyFrom k vs w = record { mark = k; bytes = madeFrom k 1 7 vs; wanted = w }
 
 -- RS by the seven fields that not every technology uses
 abbrev station : ℕ → ℕ → ℕ → ℕ → ℕ → ℕ → ℕ → List ℕ → Fitting
@@ -210,7 +255,22 @@ levels =
     ∷ only TH (1 ∷ 4 ∷ 1 ∷ 1 ∷ 1 ∷ []) (thermal ∷ storage ∷ hydro ∷ [])
     ∷ []
 
-pub records-fit : map (λ c. fitted (c .mark) (c .values) (thermal ∷ nuclear ∷ storage ∷ hydro ∷ [])) (stations ++ others ++ levels) ≡ map (λ c. c .wanted) (stations ++ others ++ levels)
+-- FV, AV and MV as FU, AD and MM
+abbrev later : List Fitting
+later =
+    onlyFrom FV (1 ∷ 0 ∷ 0 ∷ []) (thermal ∷ nuclear ∷ storage ∷ hydro ∷ [])
+    ∷ onlyFrom FV (1 ∷ 1 ∷ 0 ∷ []) (thermal ∷ nuclear ∷ storage ∷ [])
+    ∷ onlyFrom FV (1 ∷ 1 ∷ 1 ∷ []) (thermal ∷ [])
+    ∷ onlyFrom AV (1 ∷ 4 ∷ 1 ∷ 1 ∷ []) (thermal ∷ nuclear ∷ storage ∷ hydro ∷ [])
+    ∷ onlyFrom AV (1 ∷ 4 ∷ 2 ∷ 1 ∷ []) (thermal ∷ [])
+    ∷ onlyFrom AV (1 ∷ 4 ∷ 4 ∷ 1 ∷ []) (thermal ∷ storage ∷ hydro ∷ [])
+    ∷ onlyFrom AV (1 ∷ 5 ∷ 1 ∷ 1 ∷ []) (nuclear ∷ [])
+    ∷ onlyFrom MV (1 ∷ 1 ∷ 1 ∷ 1 ∷ 1 ∷ 0 ∷ []) (thermal ∷ nuclear ∷ storage ∷ hydro ∷ [])
+    ∷ onlyFrom MV (1 ∷ 1 ∷ 1 ∷ 1 ∷ 1 ∷ 1 ∷ []) (thermal ∷ [])
+    ∷ []
+
+pub records-fit : map (λ c. fitted (c .mark) (c .bytes) (thermal ∷ nuclear ∷ storage ∷ hydro ∷ [])) (stations ++ others ++ levels ++ later)
+    ≡ map (λ c. c .wanted) (stations ++ others ++ levels ++ later)
 unfolding fitted computed
 records-fit = refl
 

@@ -10,8 +10,9 @@ use borrow.Author.Tests.{eqb-true, eq-eqb, ltb-true, lt-ltb}
 use Rattle.lists.specs.Tests.{allBelow, among}
 use Rattle.lists.proofs.Tests.{split, and-left, and-right, and-both, below-at, at-below}
 use Rattle.records.specs.Table.{Field, table, rowOf, fieldOf, AD, TH}
-use Rattle.records.specs.Record.{mark, isMoney, value}
+use Rattle.records.specs.Record.{mark, kindOf, isMoney, value}
 use Rattle.records.specs.Raise.{Rise, stays, rises, limitOf, Raised}
+use Rattle.records.proofs.Dated.{kind-field}
 use Rattle.records.proofs.Raise.{raised-same}
 use Rattle.rules.specs.Fit.{holds, fieldFits, ruleFits, fits}
 
@@ -36,14 +37,20 @@ module _ {t : ℕ} {r s : List ℕ} (q : Raised t r s) where
   same-at k j e m = subst (λ (x : ℕ). value x j r ≡ value x j s) e (raised-same q j (rw e m))
 
   rule-stays : ruleFits t (mark r) r ≡ true → ruleFits t (mark r) s ≡ true
-  unfolding ruleFits fieldOf rowOf table
-  rule-stays = go (eqb (mark r) AD) refl (eqb (mark r) TH) refl
+  unfolding ruleFits
+  rule-stays = go (eqb (kindOf (mark r)) AD) refl (eqb (mark r) TH) refl
     where
-      go : (a : Bool) → eqb (mark r) AD ≡ a → (b : Bool) → eqb (mark r) TH ≡ b
-          → cond a (holds t (value AD 2 r) && (not (eqb (value AD 1 r) 5) || (eqb t 2 && eqb (value AD 2 r) 1))) (cond b (holds t (value TH 1 r)) true) ≡ true
-          → cond a (holds t (value AD 2 s) && (not (eqb (value AD 1 s) 5) || (eqb t 2 && eqb (value AD 2 s) 1))) (cond b (holds t (value TH 1 s)) true) ≡ true
-      go true e b f h = rw (← same-at AD 1 (eqb-true (mark r) AD e) refl, ← same-at AD 2 (eqb-true (mark r) AD e) refl) h
-      go false e true f h = rw (← same-at TH 1 (eqb-true (mark r) TH f) refl) h
+      -- an adder's cost and level, and a threshold's level, are no money
+      adders : (j : ℕ) → eqb (kindOf (mark r)) AD ≡ true → isMoney (fieldOf AD j .role) ≡ false → value (mark r) j r ≡ value (mark r) j s
+      adders j e m = raised-same q j (rw (kind-field (mark r) AD j (eqb-true (kindOf (mark r)) AD e)) m)
+
+      go : (a : Bool) → eqb (kindOf (mark r)) AD ≡ a → (b : Bool) → eqb (mark r) TH ≡ b
+          → cond a (holds t (value (mark r) 2 r) && (not (eqb (value (mark r) 1 r) 5) || (eqb t 2 && eqb (value (mark r) 2 r) 1)))
+          (cond b (holds t (value TH 1 r)) true) ≡ true
+          → cond a (holds t (value (mark r) 2 s) && (not (eqb (value (mark r) 1 s) 5) || (eqb t 2 && eqb (value (mark r) 2 s) 1)))
+          (cond b (holds t (value TH 1 s)) true) ≡ true
+      go true e b f h = rw (← adders 1 e (unfold fieldOf rowOf table in refl), ← adders 2 e (unfold fieldOf rowOf table in refl)) h
+      go false e true f h = rw (← same-at TH 1 (eqb-true (mark r) TH f) (unfold fieldOf rowOf table in refl)) h
       go false e false f h = refl
 
   pub fits-stays : fits t (mark r) r ≡ true → fits t (mark r) s ≡ true

@@ -5,28 +5,31 @@ use mathlib.Core.List.{List, []}
 use Prim.Native.Nat.{ℕ, _≤_, _<_}
 use lib.Dec.{ltb, lit≤}
 use lib.ListN.{length}
-use borrow.Author.Tests.{eq-eqb, ltb-true, ltb-false, le-ltb, not-false}
+use borrow.Author.Tests.{ltb-true, ltb-false, le-ltb, not-false}
 use Rattle.lists.specs.Lists.{Each, done, also, Pairwise, none, more, Permutation}
 use Rattle.lists.specs.Tests.{allBelow, among}
 use Rattle.lists.proofs.Lists.{each-map, each-permuted, member-each}
 use Rattle.lists.proofs.Tests.{and-left, and-right, below-at}
 use Rattle.records.specs.declared.Answer.the-variants.{Accepted}
 use Rattle.records.specs.Table.{table, rowOf, fieldOf, RS}
-use Rattle.records.specs.Record.{mark, issue, keyOf, value, inRange, agrees, rangesHold, fault}
+use Rattle.records.specs.Record.{datable, mark, kind, since, value, told, inRange, agrees, rangesHold, fault}
 use Rattle.records.specs.Answers.{orElse, refuseIf}
 use Rattle.records.specs.Dossier.{records, scan}
 use Rattle.records.specs.Raise.{Raised}
 use Rattle.records.proofs.Record.{faultless, field-range, range-low}
 use Rattle.records.proofs.Answers.{orElse-parts, parts-orElse, not-refuseIf, refuseIf-not}
 use Rattle.records.proofs.Dossier.{scan-each, each-scan, first-each, each-first}
-use Rattle.records.proofs.Raise.{raised-mark, raised-issue, raised-key, fault-stays}
+use Rattle.records.proofs.Raise.{raised-mark, raised-since, fault-stays}
+use Rattle.records.proofs.Dated.{kind-fields, kind-field, told-value, other-mark}
 use Rattle.station.specs.Current.{current, present, twins, readable}
 use Rattle.station.specs.Parameters.{Parameters, parameters, technology, efficiency}
 use Rattle.station.specs.Declared.{IsCurrent, CurrentOf, absent, standing}
-use Rattle.station.proofs.Current.{current-found, current-raised}
-use Rattle.station.proofs.Twins.{twins-distinct, distinct-twins, distinct-permuted, current-permuted, twins-same}
+use Rattle.station.specs.InForce.{counts}
+use Rattle.station.proofs.Current.{current-found}
+use Rattle.station.proofs.InForce.{counts-permuted, counts-raised, current-counts}
+use Rattle.station.proofs.Twins.{twins-distinct, distinct-twins, distinct-permuted, twins-same}
 use Rattle.station.proofs.Parameters.{parameters-permuted, same-parameters}
-use Rattle.rules.specs.Fit.{fieldFits, ruleFits, fits, isCurrent, unfit}
+use Rattle.rules.specs.Fit.{fieldFits, ruleFits, fits, unfit}
 use Rattle.rules.specs.Curve.{curveFits, fuelHolds, windowFits, forecastFits}
 use Rattle.rules.specs.Answer.{unsupported, IsAccepted}
 use Rattle.rules.specs.Sound.{FitsIn, Sound}
@@ -37,8 +40,8 @@ unfit-each : (l : List (List ℕ)) → unfit (technology (parameters l)) l ≡ A
 unfolding unfit
 unfit-each l h =
     first-each
-    (λ p r e. go (isCurrent l r) (fits (technology (parameters l)) (mark r) r)
-    (not-refuseIf (isCurrent l r && not (fits (technology (parameters l)) (mark r) r)) 6 p e))
+    (λ p r e. go (counts l r) (fits (technology (parameters l)) (mark r) r)
+    (not-refuseIf (counts l r && not (fits (technology (parameters l)) (mark r) r)) 6 p e))
     0 l h
   where
     go : (b c : Bool) → b && not c ≡ false → b ≡ true → c ≡ true
@@ -50,8 +53,8 @@ pub each-unfit : {l : List (List ℕ)} → Each (FitsIn l) l → unfit (technolo
 unfolding unfit
 each-unfit {l} e =
     each-first
-    (λ p r f. refuseIf-not (isCurrent l r && not (fits (technology (parameters l)) (mark r) r)) 6 p
-    (go (isCurrent l r) (fits (technology (parameters l)) (mark r) r) f))
+    (λ p r f. refuseIf-not (counts l r && not (fits (technology (parameters l)) (mark r) r)) 6 p
+    (go (counts l r) (fits (technology (parameters l)) (mark r) r) f))
     0 e
   where
     go : (b c : Bool) → (b ≡ true → c ≡ true) → b && not c ≡ false
@@ -135,14 +138,14 @@ sound-accepted d n h =
 -- ---- in another order
 
 pub sound-permuted : {l m : List (List ℕ)} → Permutation l m → Sound l → Sound m
-unfolding isCurrent
+unfolding counts
 sound-permuted {l} {m} p h =
     let f : parameters l ≡ parameters m = parameters-permuted p (h .distinct) in
     record {
       clean = each-permuted p (h .clean);
       distinct = distinct-permuted p (h .distinct);
       station = rw (← f) (h .station);
-      fit = each-map (λ r w. rw (← f, ← current-permuted (mark r) (keyOf r) p (h .distinct)) w) (each-permuted p (h .fit));
+      fit = each-map (λ r w. rw (← f, ← counts-permuted p (h .distinct) (since r) r) w) (each-permuted p (h .fit));
       curve = rw (← f) (h .curve);
       fuel = rw (← f) (h .fuel);
       window = rw (← f) (h .window);
@@ -156,17 +159,13 @@ module _ {t : ℕ} where
   clean-stays none e = done
   clean-stays (more q a) (also h e) = also (fault-stays q h) (clean-stays a e)
 
-  current-same : {r s : List ℕ} {x y : List (List ℕ)} → Raised t r s → Pairwise (Raised t) x y → isCurrent x r ≡ isCurrent y s
-  unfolding isCurrent
-  current-same {r} {s} q b =
-      rw (← raised-mark q, ← raised-key q, ← raised-issue q, ← raised-issue (current-raised (mark r) (keyOf r) b)) refl
-
   fit-stays : {x y : List (List ℕ)} → Pairwise (Raised t) x y → technology (parameters x) ≡ t → {l m : List (List ℕ)} → Pairwise (Raised t) l m
       → Each (FitsIn x) l → Each (FitsIn y) m
+  unfolding counts
   fit-stays b w none e = done
   fit-stays {x} {y} b w (more {a = r} {b = s} q a) (also h e) =
       also {a = s}
-      (λ c. rw (← same-parameters b, w, ← raised-mark q) (fits-stays q (rw w at (h (current-same q b ∙ c)))))
+      (λ c. rw (← same-parameters b, w, ← raised-mark q) (fits-stays q (rw w at (h (counts-raised q b (since r) ∙ rw (raised-since q) c)))))
       (fit-stays b w a e)
 
 pub sound-raised : {l m : List (List ℕ)} → Pairwise (Raised (technology (parameters l))) l m → Sound l → Sound m
@@ -193,47 +192,51 @@ module _ {l : List (List ℕ)} (e : Each (λ r. fault r ≡ 0) l) (k n : ℕ) (t
       go r (standing q) e = q
       go r (absent p w) e = absurd (false≢true (rw p at e))
 
-  pub clean-range : (i : ℕ) → i < length (rowOf k .fields) → inRange (fieldOf k i) (value k i (current k n l)) ≡ true
+  pub clean-range : (i : ℕ) → i < length (rowOf k .fields) → inRange (fieldOf k i) (told k i (current k n l)) ≡ true
+  unfolding kind
   clean-range = go (current k n l) current-there
     where
-      go : (r : List ℕ) → IsCurrent k n l r → (i : ℕ) → i < length (rowOf k .fields) → inRange (fieldOf k i) (value k i r) ≡ true
-      go r q = rw (← q .marked) (field-range r (faultless r (member-each (q .member) e)))
+      go : (r : List ℕ) → IsCurrent k n l r → (i : ℕ) → i < length (rowOf k .fields) → inRange (fieldOf k i) (told k i r) ≡ true
+      go r q i p =
+          rw (told-value k i r (q .marked), ← kind-field (mark r) k i (q .marked))
+          (field-range r (faultless r (member-each (q .member) e)) i (rw (kind-fields (mark r), q .marked) p))
 
-  pub clean-agrees : agrees k (current k n l) ≡ true
+  pub clean-agrees : datable k ≡ false → agrees k (current k n l) ≡ true
   unfolding rangesHold
-  clean-agrees = go (current k n l) current-there
+  clean-agrees other = go (current k n l) current-there
     where
       go : (r : List ℕ) → IsCurrent k n l r → agrees k r ≡ true
       go r q =
-          rw (← q .marked)
+          rw (← other-mark r other (q .marked))
           (and-right (allBelow (length (rowOf (mark r) .fields)) (λ i. inRange (fieldOf (mark r) i) (value (mark r) i r))) (agrees (mark r) r)
           (faultless r (member-each (q .member) e) .ranges))
 
 module _ {l : List (List ℕ)} (h : Sound l) (k n : ℕ) (there : parameters l .has k n ≡ true) where
-  pub its-range : (i : ℕ) → i < length (rowOf k .fields) → inRange (fieldOf k i) (value k i (current k n l)) ≡ true
+  pub its-range : (i : ℕ) → i < length (rowOf k .fields) → inRange (fieldOf k i) (told k i (current k n l)) ≡ true
   its-range = clean-range (h .clean) k n there
 
-  its-fit : fits (technology (parameters l)) k (current k n l) ≡ true
-  unfolding isCurrent
+  -- the current record, of any hour, counts at some hour
+  its-fit : fits (technology (parameters l)) (mark (current k n l)) (current k n l) ≡ true
   its-fit =
       let q = current-there (h .clean) k n there in
-      let r : List ℕ = current k n l in
-      let c : isCurrent l r ≡ true = rw (q .marked, q .keyed) (eq-eqb (issue r) (issue r) refl) in
-      rw (q .marked) at (member-each (q .member) (h .fit) c)
+      member-each (q .member) (h .fit) (current-counts q)
 
-  pub field-fits : (i : ℕ) → i < length (rowOf k .fields) → fieldFits (technology (parameters l)) (fieldOf k i) (value k i (current k n l)) ≡ true
-  unfolding fits
+  pub field-fits : (i : ℕ) → i < length (rowOf k .fields) → fieldFits (technology (parameters l)) (fieldOf k i) (told k i (current k n l)) ≡ true
+  unfolding fits kind
   field-fits i p =
       let t : ℕ = technology (parameters l) in
       let r : List ℕ = current k n l in
-      let f : ℕ → Bool = λ j. fieldFits t (fieldOf k j) (value k j r) in
-      let m : ℕ = length (rowOf k .fields) in
-      below-at m f (and-left (allBelow m f) (ruleFits t k r) (and-right (among t (rowOf k .technologies)) (allBelow m f && ruleFits t k r) its-fit)) i p
+      let q = current-there (h .clean) k n there in
+      let f : ℕ → Bool = λ j. fieldFits t (fieldOf (mark r) j) (value (mark r) j r) in
+      let m : ℕ = length (rowOf (mark r) .fields) in
+      rw (told-value k i r (q .marked), ← kind-field (mark r) k i (q .marked))
+      (below-at m f (and-left (allBelow m f) (ruleFits t (mark r) r)
+      (and-right (among t (rowOf (mark r) .technologies)) (allBelow m f && ruleFits t (mark r) r) its-fit)) i (rw (kind-fields (mark r), q .marked) p))
 
 -- what the exact level of a storage asks for
 pub efficient : {l : List (List ℕ)} → Sound l → technology (parameters l) ≡ 3 → 500 ≤ efficiency (parameters l)
 unfolding parameters fieldFits table rowOf fieldOf among
 efficient {l} h t =
-    let x : ℕ = value RS 7 (current RS 0 l) in
+    let x : ℕ = told RS 7 (current RS 0 l) in
     let f : ltb 0 x ≡ true = rw t at (field-fits h RS 0 (h .station) 7 (lit≤ tt)) in
     range-low (fieldOf RS 7) x (its-range h RS 0 (h .station) 7 (lit≤ tt)) (ltb-true 0 x f)

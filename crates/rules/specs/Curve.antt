@@ -27,7 +27,7 @@ curveHolds s n =
 unfoldable pub curveFits : Parameters → Bool
 curveFits s = not (eqb (technology s) thermal) || curveHolds s (points s)
 
--- not "8 no FU for profile 1 or for one named in a current RQ"; 0 names none; of hydroelectric too "FU is still needed"
+-- not "8 no FU for profile 1 or for one named in a current RQ"; 0 names none; of hydroelectric too "FU is still needed"; "8 is met by FU or FV of any hour"
 unfoldable pub fuelHolds : Parameters → Bool
 fuelHolds s = s .has FU 1 && allTo 16 (λ n. not (s .has RQ n) || eqb (requested s n) 0 || s .has FU (requested s n))
 

@@ -1,4 +1,4 @@
--- 6: what a technology may have, and the first current record that it may not.
+-- 6: what a technology may have, and the first record that counts at some hour and that it may not.
 use mathlib.Core.Bool.{Bool, true, cond, _&&_, _||_, not}
 use mathlib.Core.List.{List, [], _∷_}
 use Prim.Native.Nat.{ℕ, _≤_}
@@ -7,10 +7,10 @@ use lib.ListN.{length}
 use Rattle.lists.specs.Tests.{allBelow, among}
 use Rattle.records.specs.declared.Answer.{Answer}
 use Rattle.records.specs.Table.{Field, rowOf, fieldOf, thermal, nuclear, storage, hydro, AD, TH}
-use Rattle.records.specs.Record.{mark, issue, keyOf, value}
+use Rattle.records.specs.Record.{mark, kindOf, value}
 use Rattle.records.specs.Answers.{refuseIf}
 use Rattle.records.specs.Dossier.{firstDrawn}
-use Rattle.station.specs.Current.{current}
+use Rattle.station.specs.InForce.{counts}
 
 -- ---- the levels by number
 
@@ -53,10 +53,10 @@ holds t v = among v (levelsOf t)
 unfoldable pub fieldFits : ℕ → Field → ℕ → Bool
 fieldFits t f x = cond (among t (f .usedBy)) (not (f .positive) || ltb 0 x) (eqb x 0)
 
--- the level is held: "storage 1 and 4, for AD and TH alike", "levels 1 and 4 are held, for AD and TH alike"; "Cost 5 is nuclear and level 1"
+-- the level is held: "storage 1 and 4, for AD and TH alike", "levels 1 and 4 are held, for AD and TH alike"; "Cost 5 is nuclear and level 1"; of AV as of AD
 unfoldable pub ruleFits : ℕ → ℕ → List ℕ → Bool
 ruleFits t k r =
-    cond (eqb k AD) (holds t (value AD 2 r) && (not (eqb (value AD 1 r) 5) || (eqb t nuclear && eqb (value AD 2 r) energy)))
+    cond (eqb (kindOf k) AD) (holds t (value k 2 r) && (not (eqb (value k 1 r) 5) || (eqb t nuclear && eqb (value k 2 r) energy)))
     (cond (eqb k TH) (holds t (value TH 1 r)) true)
 
 -- a record of mark k fits technology t: "HP is thermal only; HR and CH storage only"; "an FP at another technology is 6"; "LC is a storage record"; its
@@ -65,10 +65,6 @@ unfoldable pub fits : ℕ → ℕ → List ℕ → Bool
 fits t k r =
     among t (rowOf k .technologies) && (allBelow (length (rowOf k .fields)) (λ i. fieldFits t (fieldOf k i) (value k i r)) && ruleFits t k r)
 
--- whether a record of a dossier is current: it has the issue of the current one of its mark and key
-unfoldable pub isCurrent : List (List ℕ) → List ℕ → Bool
-isCurrent all r = eqb (issue r) (issue (current (mark r) (keyOf r) all))
-
--- "6 current record unfit for the technology", at the start of the "first in the dossier" that is
+-- "6 current record unfit for the technology", at the start of the "first in the dossier" that is; "6 is tried on every record that counts at some hour"
 unfoldable pub unfit : ℕ → List (List ℕ) → Answer
-unfit t l = firstDrawn (λ p r. refuseIf (isCurrent l r && not (fits t (mark r) r)) 6 p) 0 l
+unfit t l = firstDrawn (λ p r. refuseIf (counts l r && not (fits t (mark r) r)) 6 p) 0 l

@@ -7,16 +7,17 @@ use Prim.Native.Nat.{ℕ}
 use Rattle.lists.specs.Lists.{Each}
 use Rattle.records.specs.Table.{RS}
 use Rattle.records.specs.Record.{mark, fault}
+use Rattle.station.specs.InForce.{counts}
 use Rattle.station.specs.Declared.{Distinct}
 use Rattle.station.specs.Parameters.{parameters, technology}
-use Rattle.rules.specs.Fit.{fits, isCurrent}
+use Rattle.rules.specs.Fit.{fits}
 use Rattle.rules.specs.Curve.{curveFits, fuelHolds, windowFits, forecastFits}
 
--- a record of some fits their technology, if it is current
+-- a record of some fits their technology, if it counts at some hour
 abbrev pub FitsIn : List (List ℕ) → List ℕ → Type 0
-FitsIn l r = isCurrent l r ≡ true → fits (technology (parameters l)) (mark r) r ≡ true
+FitsIn l r = counts l r ≡ true → fits (technology (parameters l)) (mark r) r ≡ true
 
--- none draws 1 to 3, no two are twins, there is an RS, current ones fit, and 7, 8, 9 and 17 are not drawn
+-- none draws 1 to 3, no two are twins, there is an RS, those that count at some hour fit, and 7, 8, 9 and 17 are not drawn
 pub record Sound (l : List (List ℕ)) : Type 0 where
   pub clean : Each (λ r. fault r ≡ 0) l
   pub distinct : Distinct l

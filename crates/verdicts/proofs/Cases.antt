@@ -11,8 +11,8 @@ use lib.ListN.{replicate}
 use Rattle.lists.specs.Lists.{Each, done, also, joined}
 use Rattle.fields.specs.Numbers.{bias}
 use Rattle.records.specs.declared.Answer.the-variants.{Accepted, Refused as Turned}
-use Rattle.records.specs.Table.{RS, HP, FU, AD, RQ, TH}
-use Rattle.records.specs.Made.{minus, made, pair}
+use Rattle.records.specs.Table.{RS, HP, FU, AD, RQ, TH, FV}
+use Rattle.records.specs.Made.{minus, made, madeFrom, pair}
 use Rattle.station.specs.Parameters.{Parameters, thresholdKey}
 use Rattle.rules.specs.Fit.{energy, start, noLoad, reserve}
 use Rattle.formulas.specs.Exact.{whole}
@@ -246,15 +246,18 @@ prices-judged =
 
 -- a thermal unit without cost but for reserve's, 0.25, and from hour 5 on, in profile 2, an adder of 1.00 to energy; condition 1 has 50 percent, no margin
 -- and no floor for both
-abbrev unit : List ℕ
-unit =
+abbrev unitWith : List ℕ → List ℕ → List ℕ
+unitWith fuel otherFuel =
     joined (made RS 1 (1 ∷ 1000 ∷ 1000 ∷ 0 ∷ 0 ∷ 0 ∷ 0 ∷ 0 ∷ 0 ∷ [])
     ∷ made HP 1 (1 ∷ 500 ∷ 0 ∷ []) ∷ made HP 1 (2 ∷ 1000 ∷ 0 ∷ [])
-    ∷ made FU 1 (1 ∷ 0 ∷ 0 ∷ []) ∷ made FU 1 (2 ∷ 0 ∷ 0 ∷ [])
+    ∷ fuel ∷ otherFuel
     ∷ made RQ 1 (1 ∷ 5 ∷ 9 ∷ 2 ∷ [])
     ∷ made AD 1 (2 ∷ 3 ∷ 1 ∷ 1000000 ∷ []) ∷ made AD 1 (1 ∷ 3 ∷ 4 ∷ 250000 ∷ [])
     ∷ made TH 1 (1 ∷ 1 ∷ 50 ∷ noMargin ∷ 0 ∷ []) ∷ made TH 1 (1 ∷ 4 ∷ 50 ∷ noMargin ∷ 0 ∷ [])
     ∷ [])
+
+abbrev unit : List ℕ
+unit = unitWith (made FU 1 (1 ∷ 0 ∷ 0 ∷ [])) (made FU 1 (2 ∷ 0 ∷ 0 ∷ []))
 
 -- at hour 4 the limit is 0.00, at hour 5 it is 1.50; a dossier that is refused comes first
 offers-of-unit : (onOffer unit 4 1 (pair 1000 1) ≡ Fails 1 1) × (onOffer unit 5 1 (pair 1000 150) ≡ Passes) × (onOffer unit 5 1 (pair 1000 151) ≡ Fails 1 1)
@@ -267,3 +270,18 @@ prices-of-unit : (onPrice unit 4 4 1 (pos 37) ≡ Passes) × (onPrice unit 4 4 1
     × (onPrice unit 5 4 1 (pos 1) ≡ Fails 0 0) × (onPrice [] 0 1 4 (pos 0) ≡ Refused 5 0)
 unfolding computed
 prices-of-unit = (refl, refl, refl, refl, refl)
+
+-- the same with fuel from hour 3 on, and in profile 2 from hour 7 on
+abbrev lateUnit : List ℕ
+lateUnit = unitWith (madeFrom FV 1 3 (1 ∷ 0 ∷ 0 ∷ [])) (madeFrom FV 1 7 (2 ∷ 0 ∷ 0 ∷ []))
+
+-- 20 comes before 12, 14 and 10, and only in hours without fuel
+offers-of-late : (onOffer lateUnit 2 4 [] ≡ Refused 20 0) × (onOffer lateUnit 3 4 [] ≡ Refused 14 0) × (onOffer lateUnit 4 1 (pair 1000 1) ≡ Fails 1 1)
+    × (onOffer lateUnit 6 1 (pair 1000 150) ≡ Refused 20 0) × (onOffer lateUnit 7 1 (pair 1000 150) ≡ Passes)
+unfolding computed
+offers-of-late = (refl, refl, refl, refl, refl)
+
+prices-of-late : (onPrice lateUnit 2 1 4 (pos 0) ≡ Refused 20 0) × (onPrice lateUnit 3 1 4 (pos 0) ≡ Refused 12 0) × (onPrice lateUnit 4 4 1 (pos 37) ≡ Passes)
+    × (onPrice lateUnit 6 4 1 (pos 0) ≡ Refused 20 0) × (onPrice [] 0 1 4 (pos 0) ≡ Refused 5 0)
+unfolding computed
+prices-of-late = (refl, refl, refl, refl, refl)

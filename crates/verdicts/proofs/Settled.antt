@@ -15,12 +15,11 @@ use Rattle.records.specs.declared.Answer.{Answer}
 use Rattle.records.specs.declared.Answer.the-variants.{Accepted, Refused as Turned}
 use Rattle.records.specs.Table.{TH}
 use Rattle.records.proofs.Answers.{not-refuseIf, orElse-parts}
-use Rattle.records.specs.Dossier.{records}
-use Rattle.station.specs.Parameters.{Parameters, parameters, technology, thresholdKey}
+use Rattle.station.specs.Parameters.{Parameters, technology, thresholdKey}
 use Rattle.rules.specs.Fit.{energy, holds, levelsOf}
-use Rattle.rules.specs.Answer.{answer, IsAccepted}
-use Rattle.formulas.specs.Levels.{Line, levels}
-use Rattle.formulas.proofs.Hours.{hour-accepted, hour-refused}
+use Rattle.rules.specs.Answer.{answer}
+use Rattle.formulas.specs.Levels.{parametersAt, hourAnswer, Line, levels}
+use Rattle.formulas.proofs.Hours.{hour-refused}
 use Rattle.verdicts.specs.declared.Verdict.{Verdict}
 use Rattle.verdicts.specs.declared.Verdict.the-variants.{Refused}
 use Rattle.verdicts.specs.Refusals.{conditionRefusal, lengthRefusal, levelRefusal, offerRefusal, priceRefusal}
@@ -108,22 +107,28 @@ pub price-refused : (s : Parameters) (v c : ℕ) (l : List Line) (price : ℕ) {
 unfolding priceVerdict
 price-refused s v c l price e = settle-refused _ e
 
--- ---- the verdict of a dossier: a refused one's refusal, or what is said of an accepted one
+-- ---- the verdict of a dossier at an hour: what is drawn there, or what is said of the levels
 
 module _ (d : List ℕ) (h : ℕ) where
-  pub on-offer-refused : (c : ℕ) (o : List ℕ) {n p : ℕ} → answer d ≡ Turned n p → Refused n p ≡ onOffer d h c o
+  pub on-offer-drawn : (c : ℕ) (o : List ℕ) {n p : ℕ} → hourAnswer d h ≡ Turned n p → Refused n p ≡ onOffer d h c o
   unfolding onOffer
-  on-offer-refused c o e = settle-refused _ (hour-refused d h e)
+  on-offer-drawn c o e = settle-refused _ e
 
-  pub on-offer : (c : ℕ) (o : List ℕ) {w : Verdict} → IsAccepted d → w ≡ offerVerdict (parameters (records d)) c (levels d h) o → w ≡ onOffer d h c o
+  pub on-offer-refused : (c : ℕ) (o : List ℕ) {n p : ℕ} → answer d ≡ Turned n p → Refused n p ≡ onOffer d h c o
+  on-offer-refused c o e = on-offer-drawn c o (hour-refused d h e)
+
+  pub on-offer : (c : ℕ) (o : List ℕ) {w : Verdict} → hourAnswer d h ≡ Accepted → w ≡ offerVerdict (parametersAt d h) c (levels d h) o → w ≡ onOffer d h c o
   unfolding onOffer
-  on-offer c o e f = settle-accepted (hour-accepted d h e) f
+  on-offer c o e f = settle-accepted e f
+
+  pub on-price-drawn : (v c : ℕ) (price : ℤ) {n p : ℕ} → hourAnswer d h ≡ Turned n p → Refused n p ≡ onPrice d h v c price
+  unfolding onPrice
+  on-price-drawn v c price e = settle-refused _ e
 
   pub on-price-refused : (v c : ℕ) (price : ℤ) {n p : ℕ} → answer d ≡ Turned n p → Refused n p ≡ onPrice d h v c price
-  unfolding onPrice
-  on-price-refused v c price e = settle-refused _ (hour-refused d h e)
+  on-price-refused v c price e = on-price-drawn v c price (hour-refused d h e)
 
-  pub on-price : (v c : ℕ) (price : ℤ) {w : Verdict} → IsAccepted d → w ≡ priceVerdict (parameters (records d)) v c (levels d h) (biasedOf price)
+  pub on-price : (v c : ℕ) (price : ℤ) {w : Verdict} → hourAnswer d h ≡ Accepted → w ≡ priceVerdict (parametersAt d h) v c (levels d h) (biasedOf price)
       → w ≡ onPrice d h v c price
   unfolding onPrice
-  on-price v c price e f = settle-accepted (hour-accepted d h e) f
+  on-price v c price e f = settle-accepted e f

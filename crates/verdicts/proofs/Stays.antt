@@ -65,6 +65,11 @@ under-keeps : (s : Parameters) (c v price x y : ℕ) → x ≤ y → failsUnder 
 unfolding failsUnder
 under-keeps s c v price x y h e = pass-stays (percent s c v) (margin s c v) (floor s c v) price h e
 
+pub settle-stays : (z : Answer) {v w : Verdict} → (v ≡ Passes → w ≡ Passes) → settle z v ≡ Passes → settle z w ≡ Passes
+unfolding settle
+settle-stays Accepted f e = f e
+settle-stays (Turned n p) f e = e
+
 module _ (s : Parameters) (c : ℕ) {l m : List Line} (a : Pairwise NoLower l m) where
   from-stays : (o : List ℕ) (k n : ℕ) → offerFrom s c l o k n ≡ Passes → offerFrom s c m o k n ≡ Passes
   unfolding offerFrom
@@ -76,11 +81,6 @@ module _ (s : Parameters) (c : ℕ) {l m : List Line} (a : Pairwise NoLower l m)
   test-stays : (v price : ℕ) → priceTest s c v price l ≡ Passes → priceTest s c v price m ≡ Passes
   unfolding priceTest
   test-stays v price e = failing-stays v (λ x y. true) (failsUnder s c v price) (under-keeps s c v price) 0 a Passes Passes (λ w. w) e
-
-  settle-stays : (z : Answer) {v w : Verdict} → (v ≡ Passes → w ≡ Passes) → settle z v ≡ Passes → settle z w ≡ Passes
-  unfolding settle
-  settle-stays Accepted f e = f e
-  settle-stays (Turned n p) f e = e
 
   pub offer-stays : (o : List ℕ) → offerVerdict s c l o ≡ Passes → offerVerdict s c m o ≡ Passes
   unfolding offerVerdict

@@ -6,9 +6,8 @@ use lib.ListN.{length}
 use Rattle.fields.specs.Numbers.{biasedOf}
 use Rattle.records.specs.declared.Answer.{Answer}
 use Rattle.records.specs.declared.Answer.the-variants.{Accepted, Refused as Turned}
-use Rattle.records.specs.Dossier.{records}
-use Rattle.station.specs.Parameters.{Parameters, parameters}
-use Rattle.formulas.specs.Levels.{Line, levels, hourAnswer}
+use Rattle.station.specs.Parameters.{Parameters}
+use Rattle.formulas.specs.Levels.{parametersAt, hourAnswer, Line, levels}
 use Rattle.verdicts.specs.declared.Verdict.{Verdict}
 use Rattle.verdicts.specs.declared.Verdict.the-variants.{Passes, Fails, Refused}
 use Rattle.verdicts.specs.Test.{offerFrom, priceTest}
@@ -35,8 +34,8 @@ priceVerdict s v c l price = settle (priceRefusal s v c) (priceTest s c v price 
 
 -- on an energy offer, of a dossier at an hour and under a condition: "the conduct test"
 unfoldable pub onOffer : List ℕ → ℕ → ℕ → List ℕ → Verdict
-onOffer d h c o = settle (hourAnswer d h) (offerVerdict (parameters (records d)) c (levels d h) o)
+onOffer d h c o = settle (hourAnswer d h) (offerVerdict (parametersAt d h) c (levels d h) o)
 
 -- on a signed price in cents, of a dossier at an hour, for a level and under a condition: "An energy offer and a single price are both offers"
 unfoldable pub onPrice : List ℕ → ℕ → ℕ → ℕ → ℤ → Verdict
-onPrice d h v c price = settle (hourAnswer d h) (priceVerdict (parameters (records d)) v c (levels d h) (biasedOf price))
+onPrice d h v c price = settle (hourAnswer d h) (priceVerdict (parametersAt d h) v c (levels d h) (biasedOf price))
