@@ -1,19 +1,97 @@
 -- The declared readings hold.
-use mathlib.Core.Path.{_≡_, refl, ap}
-use mathlib.Core.List.{[], _∷_}
-use Prim.Native.Nat.{ℕ}
+use mathlib.Core.Path.{_≡_, refl, ap, sym, _∙_}
+use mathlib.Core.Bool.{true, false, true≢false}
+use mathlib.Core.List.{List, [], _∷_}
+use Prim.Native.Nat.{ℕ, _≤_, _<_}
 use native.Mathlib.Omega.{arith}
-use lib.ListN.{getD}
+use lib.Dec.{leb}
+use lib.ListN.{length, getD}
+use borrow.Author.Tests.{leb-true, leb-false, eq-eqb, lt-ltb}
+use Rattle.lists.specs.Lists.{Each}
+use Rattle.lists.proofs.Lists.{each-map, member-each, those-each, those-test, each-those}
+use Rattle.lists.proofs.Tests.{split, and-both}
 use Rattle.records.specs.declared.Answer.{Answer}
 use Rattle.records.specs.declared.Answer.the-variants.{Accepted, Refused}
-use Rattle.records.specs.Answers.{answerNumbers}
+use Rattle.records.specs.Table.{table, rowOf, FU}
+use Rattle.records.specs.Record.{markIn, mark, isDated, kindOf, kind, since, keyOf}
+use Rattle.records.specs.Answers.{answerNumbers, numberOf}
+use Rattle.records.specs.Dossier.{records}
+use Rattle.station.specs.Current.{matches, current, present}
+use Rattle.station.specs.Declared.{CurrentOf, absent, standing}
+use Rattle.station.specs.InForce.{inForce, counts}
+use Rattle.station.specs.Parameters.{parameters}
 use Rattle.station.proofs.Current.{current-found}
-use Rattle.rules.specs.Answer.{answer}
+use Rattle.station.proofs.InForce.{counts-some, counts-declared, declared-counts}
+use Rattle.rules.specs.Answer.{answer, IsAccepted}
 use Rattle.rules.proofs.Sound.{accepted-sound, sound-accepted}
-use Rattle.promise.specs.Declared.{CurrentDeclared, AcceptanceDeclared}
+use Rattle.formulas.specs.Levels.{parametersIn, parametersAt, profile, fuelled, hourAnswer}
+use Rattle.formulas.proofs.Profile.{profile-always}
+use Rattle.formulas.proofs.Hours.{hour-accepted, hour-without}
+use Rattle.promise.specs.Declared.{CurrentDeclared, CountingDeclared, FuelDeclared, AcceptanceDeclared}
 
 pub current-declared : CurrentDeclared
 current-declared = current-found
+
+pub counting-declared : CountingDeclared
+unfolding counts
+counting-declared = record { some = counts-some; own = λ all r e. e; only = counts-declared; always = declared-counts }
+
+-- ---- fuel at an hour
+
+-- no record is empty
+marked-present : (r : List ℕ) → kind r ≡ FU → present r ≡ true
+unfolding kind kindOf isDated mark markIn table rowOf present
+marked-present [] e = absurd (let z : _≡_ {A = ℕ} 0 3 = e in omega arith)
+marked-present (b ∷ r) e = lt-ltb 0 (length (b ∷ r)) (omega arith)
+
+module _ (h n : ℕ) (l : List (List ℕ)) where
+  -- every record of the profile's fuel has a later first hour
+  abbrev Ahead : Type 0
+  Ahead = Each (λ r. matches FU n r ≡ true → h < since r) l
+
+  none-ahead : present (current FU n (inForce h l)) ≡ false → Ahead
+  unfolding inForce
+  none-ahead = go (current FU n (inForce h l)) (current-found FU n (inForce h l))
+    where
+      go : (r : List ℕ) → CurrentOf FU n (inForce h l) r → present r ≡ false → Ahead
+      go r (absent q w) e =
+          each-map (λ s f m. split (leb (since s) h) (λ c. absurd (true≢false (sym m ∙ f c))) (λ c. leb-false (since s) h c))
+          (each-those (λ s. leb (since s) h) l w)
+      go r (standing q) e = absurd (true≢false (sym (marked-present r (q .marked)) ∙ e))
+
+  ahead-none : Ahead → present (current FU n (inForce h l)) ≡ false
+  unfolding inForce present matches
+  ahead-none w = go (current FU n (inForce h l)) (current-found FU n (inForce h l))
+    where
+      go : (r : List ℕ) → CurrentOf FU n (inForce h l) r → present r ≡ false
+      go r (absent q e) = rw q refl
+      go r (standing q) =
+          let come : since r ≤ h = leb-true (since r) h (member-each (q .member) (those-test (λ s. leb (since s) h) l)) in
+          let later : h < since r =
+          member-each (q .member) (those-each (λ s. leb (since s) h) w) (and-both _ _ (eq-eqb (kind r) FU (q .marked)) (eq-eqb (keyOf r) n (q .keyed))) in
+          absurd (omega arith)
+
+module _ (d : List ℕ) (a : IsAccepted d) (h : ℕ) where
+  -- the hour's profile is the same, whatever has come
+  in-force : fuelled (parametersAt d h) h ≡ present (current FU (profile (parametersIn d) h) (inForce h (records d)))
+  unfolding fuelled parameters
+  in-force = ap (λ (n : ℕ). present (current FU n (inForce h (records d)))) (profile-always (records d) h)
+
+  without-fuel : hourAnswer d h ≡ Refused 20 0 → fuelled (parametersAt d h) h ≡ false
+  unfolding numberOf
+  without-fuel e =
+      split (fuelled (parametersAt d h) h)
+      (λ f. absurd (let z : _≡_ {A = ℕ} 0 20 = ap numberOf (sym (hour-accepted d h a f) ∙ e) in omega arith))
+      (λ f. f)
+
+pub fuel-declared : FuelDeclared
+fuel-declared =
+    record {
+      only = λ d a h e. none-ahead h (profile (parametersIn d) h) (records d) (sym (in-force d a h) ∙ without-fuel d a h e);
+      always = λ d a h e. hour-without d h a (in-force d a h ∙ ahead-none h (profile (parametersIn d) h) (records d) e);
+    }
+
+-- ---- acceptance
 
 accepted-numbers : (a : Answer) → answerNumbers a ≡ 0 ∷ [] → a ≡ Accepted
 unfolding answerNumbers

@@ -9,30 +9,35 @@ use mathlib.Core.List.{List, [], _∷_}
 use Prim.Native.Nat.{ℕ, _-_, _≤_}
 use lib.IntN.{ℤ, pos, negsuc}
 use borrow.Author.Tests.{ltb-true, ltb-false}
-use Rattle.lists.specs.Lists.{Pairwise, none, more}
+use Rattle.lists.specs.Lists.{Pairwise, none, more, Each, done}
 use Rattle.lists.specs.Sums.{upTo}
+use Rattle.lists.specs.Tests.{among}
+use Rattle.lists.proofs.Tests.{split, cond-holds, cond-relates}
 use Rattle.fields.specs.Numbers.{biasedOf, unbiased}
+use Rattle.records.specs.Table.{table, RS, CH}
+use Rattle.records.specs.Record.{datable, since}
 use Rattle.records.specs.Dossier.{records}
 use Rattle.records.specs.Raise.{Raised}
-use Rattle.records.proofs.Raise.{raised, raised-self}
-use Rattle.records.specs.Table.{CH}
-use Rattle.station.specs.Parameters.{parameters, amounts, technology, chargePrice, chargeEnergy}
+use Rattle.records.proofs.Raise.{raised, raised-self, raised-since}
+use Rattle.station.specs.InForce.{inForce}
+use Rattle.station.specs.Parameters.{parameters, amounts, technology, efficiency, chargePrice, chargeEnergy}
 use Rattle.station.specs.Week.{intervals, weekPrice, weekEnergy, weekPrices, weekEnergies}
-use Rattle.station.proofs.Parameters.{same-parameters, higher}
+use Rattle.station.proofs.Parameters.{same-parameters, higher, says-always}
+use Rattle.station.proofs.InForce.{force-raised}
 use Rattle.station.proofs.Week.{price-told, energy-of-week}
 use Rattle.rules.specs.Answer.{IsAccepted}
 use Rattle.rules.specs.Week.{weekAnswer}
 use Rattle.lists.proofs.Sums.{upTo-pairwise}
 use Rattle.rules.proofs.Week.{accepted-readable}
 use Rattle.rules.proofs.Sound.{accepted-sound, sound-accepted, sound-raised, efficient}
-use Rattle.formulas.specs.Levels.{NoLower, levels}
-use Rattle.formulas.proofs.Hours.{hour-accepted}
+use Rattle.formulas.specs.Levels.{parametersAt, amountsAt, fuelled, hourAnswer, NoLower, CloseLine, levels}
+use Rattle.formulas.proofs.Hours.{hour-accepted, hour-without, hour-same, levels-fuelled, levels-without}
 use Rattle.formulas.proofs.Lines.{lines-upper, lines-close}
 use Rattle.verdicts.specs.declared.Verdict.{Verdict}
 use Rattle.verdicts.specs.declared.Verdict.the-variants.{Passes, Fails, Refused}
-use Rattle.verdicts.specs.Verdict.{settle, numbers, onOffer, onPrice}
-use Rattle.verdicts.proofs.Stays.{offer-stays, price-stays}
-use Rattle.promise.specs.Demand.{Raise, Passed, Demand3}
+use Rattle.verdicts.specs.Verdict.{numbers, onOffer, onPrice}
+use Rattle.verdicts.proofs.Stays.{settle-stays, offer-stays, price-stays}
+use Rattle.promise.specs.Demand.{Raise, Passed, AtHour, withFuel, noFuel, Demand3}
 
 -- passing, in the paper's numbers, is the verdict `Passes`
 passed : (v : Verdict) → Passed v → v ≡ Passes
@@ -57,6 +62,11 @@ held-order m n h = leZ-yes (go (ltb m 2147483648) (ltb n 2147483648) refl refl)
     go false true e f = absurd (omega (arith, ltb-false m 2147483648 e, ltb-true n 2147483648 f))
     go false false e f = le→leb (m - 2147483648) (n - 2147483648) (omega arith)
 
+-- first hours are no money
+since-stays : {t : ℕ} {l m : List (List ℕ)} → Pairwise (Raised t) l m → Pairwise (λ r s. since r ≡ since s) l m
+since-stays none = none
+since-stays (more q a) = more (raised-since q) (since-stays a)
+
 module _ {d e : List ℕ} (q : Raise d e) (h : IsAccepted d) where
   pairs : Pairwise (Raised (technology (parameters (records d)))) (records d) (records e)
   pairs = raised q
@@ -66,20 +76,32 @@ module _ {d e : List ℕ} (q : Raise d e) (h : IsAccepted d) where
       let z = accepted-sound d h in
       sound-accepted e (rw (← q .long) (z .0)) (sound-raised pairs (z .1))
 
+  -- at an hour, the records in force
+  pairs-at : (t : ℕ) → Pairwise (Raised (technology (parameters (records d)))) (inForce t (records d)) (inForce t (records e))
+  pairs-at t = force-raised t pairs
+
+  first-hours-stay : Pairwise (λ r s. since r ≡ since s) (records d) (records e)
+  first-hours-stay = since-stays pairs
+
+  hours-same : (t : ℕ) → hourAnswer d t ≡ hourAnswer e t
+  hours-same t = hour-same d t e (h .clean ∙ sym (accepted-stays .clean)) (ap (λ s. fuelled s t) (same-parameters (pairs-at t)))
+
   levels-upper : (t : ℕ) → Pairwise NoLower (levels d t) (levels e t)
   unfolding levels
-  levels-upper t = rw (← same-parameters pairs) (lines-upper (parameters (records d)) (higher pairs) t)
+  levels-upper t =
+      rw (← same-parameters (pairs-at t))
+      (cond-relates (Pairwise NoLower) (fuelled (parametersAt d t) t) _ _ _ _ (lines-upper (parametersAt d t) (higher (pairs-at t)) t) none)
 
   offers-stay : (t c : ℕ) (o : List ℕ) → onOffer d t c o ≡ Passes → onOffer e t c o ≡ Passes
-  unfolding onOffer settle
+  unfolding onOffer
   offers-stay t c o =
-      rw (hour-accepted d t h, hour-accepted e t accepted-stays, ← same-parameters pairs) (offer-stays (parameters (records d)) c (levels-upper t) o)
+      rw (← hours-same t, ← same-parameters (pairs-at t)) (settle-stays (hourAnswer d t) (offer-stays (parametersAt d t) c (levels-upper t) o))
 
   prices-stay : (t v c : ℕ) (price : ℤ) → onPrice d t v c price ≡ Passes → onPrice e t v c price ≡ Passes
-  unfolding onPrice settle
+  unfolding onPrice
   prices-stay t v c price =
-      rw (hour-accepted d t h, hour-accepted e t accepted-stays, ← same-parameters pairs)
-      (price-stays (parameters (records d)) c (levels-upper t) v (biasedOf price))
+      rw (← hours-same t, ← same-parameters (pairs-at t))
+      (settle-stays (hourAnswer d t) (price-stays (parametersAt d t) c (levels-upper t) v (biasedOf price)))
 
   week-stays : (n m : ℕ) → weekAnswer d n m ≡ weekAnswer e n m
   unfolding weekAnswer
@@ -102,13 +124,33 @@ module _ {d e : List ℕ} (q : Raise d e) (h : IsAccepted d) where
       (held-order (chargePrice (amounts (records d)) n) (chargePrice (amounts (records e)) n) (higher pairs CH n 1)))
       intervals
 
+-- ---- an hour of an accepted dossier
+
+module _ (d : List ℕ) (a : IsAccepted d) (h : ℕ) where
+  -- a battery's efficiency is the same at every hour
+  efficient-at : technology (parametersAt d h) ≡ 3 → 500 ≤ efficiency (parametersAt d h)
+  unfolding datable among table
+  efficient-at =
+      rw (says-always h RS refl (records d) 0 0, says-always h RS refl (records d) 0 7) (efficient (accepted-sound d a .1))
+
+  all-close : Each CloseLine (levels d h)
+  unfolding levels
+  all-close = cond-holds (Each CloseLine) (fuelled (parametersAt d h) h) _ _ (lines-close (parametersAt d h) (amountsAt d h) efficient-at h) done
+
+  at-hour : AtHour d h
+  at-hour =
+      split (fuelled (parametersAt d h) h)
+      (λ e. withFuel e (hour-accepted d h a e) (levels-fuelled d h e))
+      (λ e. noFuel e (hour-without d h a e) (levels-without d h e))
+
 pub demand3 : Demand3
-unfolding levels
 demand3 =
     record {
       raise = λ d e h q.
           record {
             accepted = accepted-stays q h;
+            first-hours = first-hours-stay q h;
+            hours = hours-same q h;
             higher = levels-upper q h;
             offers = λ t c o. in-numbers (offers-stay q h t c o);
             prices = λ t v c price. in-numbers (prices-stay q h t v c price);
@@ -116,7 +158,8 @@ demand3 =
             week-energies = energies-stay q h;
             week-prices = no-price-lower q h;
           };
-      distance = λ d h. lines-close (parameters (records d)) (amounts (records d)) (efficient (accepted-sound d h .1));
+      distance = all-close;
+      hours = at-hour;
     }
 
 -- every dossier is a raise of itself

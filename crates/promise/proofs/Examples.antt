@@ -5,9 +5,9 @@ use mathlib.Core.List.{List, [], _∷_, _++_}
 use Prim.Native.Nat.{ℕ}
 use lib.IntN.{pos, negsuc}
 use Rattle.lists.specs.Lists.{Permutation, empty, keep, swap, then, joined}
+use Rattle.records.specs.declared.Answer.the-variants.{Accepted, Refused}
 use Rattle.records.specs.Table.{thermal, storage, hydro, LC}
 use Rattle.records.specs.Answers.{numberOf}
-use Rattle.records.specs.declared.Answer.the-variants.{Accepted, Refused}
 use Rattle.records.specs.Made.{minus, made}
 use Rattle.records.proofs.RaiseTest.{riseTest, recordTest, recordsTest, raiseTest, raise-by}
 use Rattle.station.specs.Week.{weekPrice, weekEnergy}
@@ -24,7 +24,7 @@ use Rattle.promise.proofs.Demand.{demand3}
 use Rattle.promise.proofs.Order.{arrival-order}
 use Rattle.promise.proofs.Week.{week-looked-up}
 
-r1-accepted : IsAccepted (joined r1)
+pub r1-accepted : IsAccepted (joined r1)
 unfolding computed
 r1-accepted = record { clean = refl }
 
@@ -36,7 +36,7 @@ pub r1-keeps : RaiseKeeps (joined r1) (joined r1Raised)
 r1-keeps = demand3 .raise (joined r1) (joined r1Raised) r1-accepted r1-raise
 
 -- an element behind the others
-behind : {A : Type 0} (a : A) (l : List A) → Permutation (a ∷ l) (l ++ (a ∷ []))
+pub behind : {A : Type 0} (a : A) (l : List A) → Permutation (a ∷ l) (l ++ (a ∷ []))
 behind a [] = keep a empty
 behind a (b ∷ l) = then (swap a b l) (keep b (behind a l))
 
@@ -45,7 +45,7 @@ unfoldable pub turned : List (List ℕ) → List (List ℕ)
 turned [] = []
 turned (r ∷ l) = l ++ (r ∷ [])
 
-turned-permuted : (l : List (List ℕ)) → Permutation l (turned l)
+pub turned-permuted : (l : List (List ℕ)) → Permutation l (turned l)
 unfolding turned
 turned-permuted [] = empty
 turned-permuted (r ∷ l) = behind r l

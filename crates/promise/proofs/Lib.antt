@@ -1,7 +1,9 @@
 pub mod Demand
 pub mod Meaning
 pub mod Order
+pub mod Dated
 pub mod Week
 pub mod Declared
 pub mod Marked
 pub mod Examples
+pub mod DatedExamples

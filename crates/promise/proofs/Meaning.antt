@@ -1,47 +1,78 @@
--- Two accepted dossiers whose current records say the same mean the same: all that is said of a dossier is said of its parameters and amounts.
+-- Two accepted dossiers whose records in force say the same mean the same: all that is said of an hour is said of what they say, and so is the week.
+use Rattle.records.specs.Record.{datable}
 use mathlib.Core.Path.{_≡_, refl, ap, sym, _∙_}
 use mathlib.Core.List.{List}
 use Prim.Native.Nat.{ℕ}
 use lib.ListN.{length}
 use Rattle.lists.specs.Sums.{upTo}
+use Rattle.lists.specs.Tests.{among}
 use Rattle.fields.specs.Numbers.{unbiased}
+use Rattle.records.specs.Table.{table, CH}
 use Rattle.records.specs.Dossier.{records}
-use Rattle.station.specs.Parameters.{parameters, amounts, chargePrice, chargeEnergy}
+use Rattle.station.specs.Parameters.{chargePrice, chargeEnergy}
 use Rattle.station.specs.Week.{intervals, weekPrice, weekEnergy, weekPrices, weekEnergies}
+use Rattle.station.proofs.Parameters.{says-always, of-always}
 use Rattle.station.proofs.Week.{price-told, energy-of-week}
 use Rattle.rules.specs.Answer.{IsAccepted}
 use Rattle.rules.specs.Week.{weekAnswer, pricesAfter, energiesAfter}
 use Rattle.rules.proofs.Week.{accepted-readable}
-use Rattle.formulas.specs.Levels.{levels, hourAnswer}
+use Rattle.formulas.specs.Levels.{parametersIn, amountsIn, parametersAt, amountsAt, fuelled, hourAnswer, levels}
 use Rattle.formulas.proofs.Hours.{hour-same}
 use Rattle.verdicts.specs.Verdict.{onOffer, onPrice}
 use Rattle.layout.specs.Report.{report, reportAnswer, bufferAfter}
-use Rattle.promise.specs.Order.{SameMeaning}
+use Rattle.promise.specs.Order.{SameAt, SameMeaning}
 
-module _ {d e : List ℕ} (h : IsAccepted d) (g : IsAccepted e) (parameters-same : parameters (records d) ≡ parameters (records e))
-    (amounts-same : amounts (records d) ≡ amounts (records e)) where
-  same-answer : (t : ℕ) → hourAnswer d t ≡ hourAnswer e t
-  same-answer t = hour-same d t e (h .clean ∙ sym (g .clean))
+-- ---- at an hour
 
-  same-levels : (t : ℕ) → levels d t ≡ levels e t
+module _ {d e : List ℕ} (a : IsAccepted d) (b : IsAccepted e) (h : ℕ) (parameters-same : parametersAt d h ≡ parametersAt e h)
+    (amounts-same : amountsAt d h ≡ amountsAt e h) where
+  same-answer : hourAnswer d h ≡ hourAnswer e h
+  same-answer = hour-same d h e (a .clean ∙ sym (b .clean)) (ap (λ s. fuelled s h) parameters-same)
+
+  same-levels : levels d h ≡ levels e h
   unfolding levels
-  same-levels t = rw (parameters-same, amounts-same) refl
+  same-levels = rw (parameters-same, amounts-same) refl
 
-  same-report : (t : ℕ) → report d t ≡ report e t
+  same-report : report d h ≡ report e h
   unfolding report
-  same-report t = rw (parameters-same, same-levels t) refl
+  same-report = rw (parameters-same, same-levels) refl
 
-  same-reported : (t n : ℕ) → reportAnswer d t n ≡ reportAnswer e t n
+  same-reported : (n : ℕ) → reportAnswer d h n ≡ reportAnswer e h n
   unfolding reportAnswer
-  same-reported t n = rw (same-answer t, same-report t) refl
+  same-reported n = rw (same-answer, same-report) refl
+
+  pub same-at : SameAt d e h
+  unfolding onOffer onPrice bufferAfter
+  same-at =
+      record {
+        drawn = same-answer;
+        levels = same-levels;
+        offers = λ c o. rw (same-answer, parameters-same, same-levels) refl;
+        prices = λ v c price. rw (same-answer, parameters-same, same-levels) refl;
+        report = same-report;
+        answer = same-reported;
+        told = λ n. rw (same-reported n, same-report) refl;
+        buffer = λ buf. rw (same-reported (length buf), same-report) refl;
+      }
+
+-- ---- at every hour
+
+module _ {d e : List ℕ} (a : IsAccepted d) (b : IsAccepted e) (parameters-same : (h : ℕ) → parametersAt d h ≡ parametersAt e h)
+    (amounts-same : (h : ℕ) → amountsAt d h ≡ amountsAt e h) where
+  -- CH has no first hour
+  same-charge : (n : ℕ) → chargePrice (amountsIn d) n ≡ chargePrice (amountsIn e) n
+  unfolding datable among table
+  same-charge n = sym (of-always 0 CH refl (records d) n 1) ∙ ap (λ m. chargePrice m n) (amounts-same 0) ∙ of-always 0 CH refl (records e) n 1
+
+  same-charged : (n : ℕ) → chargeEnergy (parametersIn d) n ≡ chargeEnergy (parametersIn e) n
+  unfolding datable among table
+  same-charged n = sym (says-always 0 CH refl (records d) n 2) ∙ ap (λ s. chargeEnergy s n) (parameters-same 0) ∙ says-always 0 CH refl (records e) n 2
 
   same-price : (n : ℕ) → weekPrice d n ≡ weekPrice e n
-  same-price n =
-      price-told d (accepted-readable h) n ∙ ap (λ m. unbiased (chargePrice m n)) amounts-same ∙ sym (price-told e (accepted-readable g) n)
+  same-price n = price-told d (accepted-readable a) n ∙ ap unbiased (same-charge n) ∙ sym (price-told e (accepted-readable b) n)
 
   same-energy : (n : ℕ) → weekEnergy d n ≡ weekEnergy e n
-  same-energy n =
-      sym (energy-of-week d (accepted-readable h) n) ∙ ap (λ s. chargeEnergy s n) parameters-same ∙ energy-of-week e (accepted-readable g) n
+  same-energy n = sym (energy-of-week d (accepted-readable a) n) ∙ same-charged n ∙ energy-of-week e (accepted-readable b) n
 
   same-prices : weekPrices d ≡ weekPrices e
   unfolding weekPrices
@@ -53,20 +84,14 @@ module _ {d e : List ℕ} (h : IsAccepted d) (g : IsAccepted e) (parameters-same
 
   same-week : (n m : ℕ) → weekAnswer d n m ≡ weekAnswer e n m
   unfolding weekAnswer
-  same-week n m = rw (h .clean, g .clean) refl
+  same-week n m = rw (a .clean, b .clean) refl
 
   pub same-meaning : SameMeaning d e
-  unfolding onOffer onPrice bufferAfter pricesAfter energiesAfter
+  unfolding pricesAfter energiesAfter
   same-meaning =
       record {
-        accepted = g;
-        levels = same-levels;
-        offers = λ t c o. rw (same-answer t, parameters-same, same-levels t) refl;
-        prices = λ t v c price. rw (same-answer t, parameters-same, same-levels t) refl;
-        report = same-report;
-        answer = same-reported;
-        told = λ t n. rw (same-reported t n, same-report t) refl;
-        buffer = λ t buf. rw (same-reported t (length buf), same-report t) refl;
+        accepted = b;
+        hours = λ h. same-at a b h (parameters-same h) (amounts-same h);
         week-prices = same-prices;
         week-energies = same-energies;
         week-answer = same-week;

@@ -8,9 +8,11 @@ use Rattle.lists.proofs.Lists.{each-permuted, joined-length}
 use Rattle.records.specs.Dossier.{records}
 use Rattle.records.proofs.Dossier.{joined-records, records-joined, records-whole}
 use Rattle.station.proofs.Parameters.{parameters-permuted, amounts-permuted}
+use Rattle.station.proofs.InForce.{force-permuted, force-distinct}
 use Rattle.rules.specs.Answer.{IsAccepted}
 use Rattle.rules.specs.Sound.{Sound}
 use Rattle.rules.proofs.Sound.{accepted-sound, sound-accepted, sound-permuted}
+use Rattle.formulas.specs.Levels.{parametersAt, amountsAt}
 use Rattle.promise.specs.Order.{Reordered, ArrivalOrder}
 use Rattle.promise.proofs.Meaning.{same-meaning}
 
@@ -32,7 +34,12 @@ module _ {d e : List ℕ} (h : IsAccepted d) (q : Reordered d e) where
   accepted : IsAccepted e
   accepted = sound-accepted e (rw (← same-length) (accepted-sound d h .0)) (sound-permuted permuted sound)
 
+  -- at an hour, what has come is the same in another order
+  same-parameters : (t : ℕ) → parametersAt d t ≡ parametersAt e t
+  same-parameters t = parameters-permuted (force-permuted t permuted) (force-distinct t (records d) (sound .distinct))
+
+  same-amounts : (t : ℕ) → amountsAt d t ≡ amountsAt e t
+  same-amounts t = amounts-permuted (force-permuted t permuted) (force-distinct t (records d) (sound .distinct))
+
 pub arrival-order : ArrivalOrder
-arrival-order d e h q =
-    let p = permuted h q in
-    same-meaning h (accepted h q) (parameters-permuted p (sound h q .distinct)) (amounts-permuted p (sound h q .distinct))
+arrival-order d e h q = same-meaning h (accepted h q) (same-parameters h q) (same-amounts h q)

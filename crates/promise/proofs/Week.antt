@@ -12,19 +12,22 @@ use Rattle.lists.specs.Sums.{sumTo, upTo}
 use Rattle.lists.proofs.Sums.{sumTo-same}
 use Rattle.fields.specs.Numbers.{number, bytesOnto, bytesOf, bias, biased, unbiased, signed}
 use Rattle.fields.proofs.Numbers.{number-bytesOf, unbiased-biased}
-use Rattle.records.specs.Table.{table, rowOf, fieldOf, CH}
-use Rattle.records.specs.Record.{markIn, mark, keyIn, keyWidth, offsetIn, offset, read, value}
+use Rattle.records.specs.Table.{table, rowOf, CH}
+use Rattle.records.specs.Record.{markIn, mark, isDated, kindOf, keyIn, keyWidth}
 use Rattle.records.specs.Answers.{isAccepted}
-use Rattle.station.specs.Current.{lookup, lookupBytes}
+use Rattle.records.specs.Dossier.{records}
+use Rattle.station.specs.Current.{current, lookup, lookupBytes}
 use Rattle.station.specs.Parameters.{chargePrice, chargeEnergy, lastCost}
 use Rattle.station.specs.Week.{intervals, weekPrice, weekEnergy, weekPrices, weekEnergies}
-use Rattle.station.proofs.Week.{price-told, energy-of-week}
+use Rattle.station.proofs.Fields.{chargePrice-at, chargeEnergy-at}
+use Rattle.station.proofs.Week.{looked-up, price-told, energy-of-week}
 use Rattle.rules.specs.Answer.{IsAccepted}
 use Rattle.rules.specs.Week.{pricesAfter, energiesAfter}
 use Rattle.lists.proofs.Sums.{upTo-length}
 use Rattle.rules.proofs.Week.{prices-length, energies-length, price-at, energy-at, accepted-readable, week-taken}
 use Rattle.formulas.specs.Sums.{sumOf}
 use Rattle.formulas.specs.Levels.{parametersIn, amountsIn, totalEnergy, chargingSum, chargingCost}
+use Rattle.formulas.proofs.Hours.{charging-always}
 use Rattle.formulas.proofs.Signed.{charging-signed}
 use Rattle.promise.specs.Week.{partOf, priceIn, energyIn, paidFor, orZero, charged, costOfWeek, WeekLookedUp}
 
@@ -32,7 +35,7 @@ use Rattle.promise.specs.Week.{partOf, priceIn, energyIn, paidFor, orZer
 
 -- the key in two bytes is the key
 part-looked-up : (d : List ℕ) (n : ℕ) → n ≤ intervals → partOf d n ≡ lookup d CH n
-unfolding lookupBytes mark markIn keyWidth keyIn table rowOf bytesOf bytesOnto
+unfolding lookupBytes mark markIn isDated kindOf keyWidth keyIn table rowOf bytesOf bytesOnto
 part-looked-up d n h = ap (lookup d CH) (number-bytesOf 2 n (omega arith))
 
 -- what is held of four numbers, whether they are bytes or not, is their signed number
@@ -42,14 +45,17 @@ held-signed n =
     let e : (n + 2147483648) % 4294967296 ≡ (n % 4294967296 + 2147483648) % 4294967296 = omega arith in
     ap unbiased e ∙ unbiased-biased (n % 4294967296) (omega arith)
 
-module _ (d : List ℕ) (n : ℕ) (b : n ≤ intervals) where
+module _ {d : List ℕ} (h : IsAccepted d) (n : ℕ) (b : n ≤ intervals) where
+  part-current : partOf d n ≡ current CH n (records d)
+  part-current = part-looked-up d n b ∙ looked-up d (accepted-readable h) CH n
+
   price-of-part : weekPrice d n ≡ priceIn (partOf d n)
-  unfolding weekPrice value read offset offsetIn fieldOf rowOf table
-  price-of-part = rw (part-looked-up d n b) (held-signed (number 8 4 (lookup d CH n)))
+  price-of-part =
+      price-told d (accepted-readable h) n ∙ ap unbiased (chargePrice-at (records d) n)
+      ∙ rw part-current (held-signed (number 8 4 (current CH n (records d))))
 
   energy-of-part : weekEnergy d n ≡ energyIn (partOf d n)
-  unfolding weekEnergy value read offset offsetIn fieldOf rowOf table
-  energy-of-part = rw (part-looked-up d n b) refl
+  energy-of-part = sym (energy-of-week d (accepted-readable h) n) ∙ chargeEnergy-at (records d) n ∙ rw part-current refl
 
 -- ---- sums of signed numbers: what is paid, less what is received
 
@@ -176,11 +182,11 @@ week-looked-up d h =
       no-energy = λ n a b e. energy n a b ∙ rw e refl;
       prices-after = λ ps es a b. unfold pricesAfter isAccepted in rw (week-taken h (length ps) (length es) a b) refl;
       energies-after = λ ps es a b. unfold energiesAfter isAccepted in rw (week-taken h (length ps) (length es) a b) refl;
-      cost = week-cost h;
+      cost = λ t. charging-always (records d) t ∙ week-cost h;
     }
   where
     price : (n : ℕ) → 1 ≤ n → n ≤ intervals → getD (weekPrices d) (n - 1) (pos 0) ≡ priceIn (partOf d n)
-    price n a b = price-at d n a b (pos 0) ∙ price-of-part d n b
+    price n a b = price-at d n a b (pos 0) ∙ price-of-part h n b
 
     energy : (n : ℕ) → 1 ≤ n → n ≤ intervals → getD (weekEnergies d) (n - 1) 0 ≡ energyIn (partOf d n)
-    energy n a b = energy-at d n a b 0 ∙ energy-of-part d n b
+    energy n a b = energy-at d n a b 0 ∙ energy-of-part h n b

@@ -1,5 +1,6 @@
 pub mod Demand
 pub mod Order
+pub mod Dated
 pub mod Week
 pub mod Declared
 pub mod Stations

@@ -9,7 +9,7 @@ use Rattle.records.specs.Dossier.{records}
 use Rattle.station.specs.Week.{weekPrices, weekEnergies}
 use Rattle.rules.specs.Answer.{IsAccepted}
 use Rattle.rules.specs.Week.{weekAnswer, pricesAfter, energiesAfter}
-use Rattle.formulas.specs.Levels.{levels}
+use Rattle.formulas.specs.Levels.{hourAnswer, levels}
 use Rattle.verdicts.specs.Verdict.{onOffer, onPrice}
 use Rattle.layout.specs.Report.{report, written, writtenNumbers, reportAnswer, bufferAfter}
 
@@ -23,17 +23,22 @@ pub record Reordered (d e : List ℕ) : Type 0 where
 abbrev pub told : List ℕ → ℕ → ℕ → List ℕ
 told d h n = writtenNumbers (written (reportAnswer d h n) (length (report d h)))
 
--- e is accepted, has the levels, verdicts and report of d at every hour, and its week: its prices and energies, and for lent lists of any length the answer
--- and what the lists hold after the call
+-- at an hour e has what d has: what is drawn, the levels, the verdicts and the report, told and written
+pub record SameAt (d e : List ℕ) (h : ℕ) : Type 0 where
+  pub drawn : hourAnswer d h ≡ hourAnswer e h
+  pub levels : levels d h ≡ levels e h
+  pub offers : (c : ℕ) (o : List ℕ) → onOffer d h c o ≡ onOffer e h c o
+  pub prices : (v c : ℕ) (price : ℤ) → onPrice d h v c price ≡ onPrice e h v c price
+  pub report : report d h ≡ report e h
+  pub answer : (n : ℕ) → reportAnswer d h n ≡ reportAnswer e h n
+  pub told : (n : ℕ) → told d h n ≡ told e h n
+  pub buffer : (buf : List ℕ) → bufferAfter d h buf ≡ bufferAfter e h buf
+
+-- e is accepted, has all of that at every hour, and d's week: its prices and energies, and for lent lists of any length the answer and what the lists hold
+-- after the call
 pub record SameMeaning (d e : List ℕ) : Type 0 where
   pub accepted : IsAccepted e
-  pub levels : (h : ℕ) → levels d h ≡ levels e h
-  pub offers : (h c : ℕ) (o : List ℕ) → onOffer d h c o ≡ onOffer e h c o
-  pub prices : (h v c : ℕ) (price : ℤ) → onPrice d h v c price ≡ onPrice e h v c price
-  pub report : (h : ℕ) → report d h ≡ report e h
-  pub answer : (h n : ℕ) → reportAnswer d h n ≡ reportAnswer e h n
-  pub told : (h n : ℕ) → told d h n ≡ told e h n
-  pub buffer : (h : ℕ) (buf : List ℕ) → bufferAfter d h buf ≡ bufferAfter e h buf
+  pub hours : (h : ℕ) → SameAt d e h
   pub week-prices : weekPrices d ≡ weekPrices e
   pub week-energies : weekEnergies d ≡ weekEnergies e
   pub week-answer : (n m : ℕ) → weekAnswer d n m ≡ weekAnswer e n m

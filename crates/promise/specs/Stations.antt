@@ -1,23 +1,27 @@
--- The stations and offers of the marked cases, a station on a river, an idle battery and one that charged, in the papers' numbers and, through the table,
--- as bytes.
+-- The stations and offers of the marked cases, a station on a river, an idle battery, one that charged and R1 with dated fuel, in the papers' numbers and,
+-- through the table, as bytes.
 use mathlib.Core.List.{List, [], _∷_, _++_}
 use Prim.Native.Nat.{ℕ, zero, suc, _+_, _*_}
-use Rattle.records.specs.Table.{RS, HP, FU, AD, MM, HR, CH, TH, FP, LC}
-use Rattle.records.specs.Made.{minus, made}
+use Rattle.records.specs.Table.{RS, HP, FU, AD, MM, HR, CH, TH, FP, LC, FV}
+use Rattle.records.specs.Made.{minus, made, madeFrom}
 
 -- ---- "Case R1 (thermal, hour 0, profile 1, all issues 1)"
 
--- its records; its fuel price and first adder are given
-abbrev pub r1With : ℕ → ℕ → List (List ℕ)
-r1With fuel adder =
+-- its records, with those of its fuel; its first adder is given
+abbrev pub r1Fuelled : List (List ℕ) → ℕ → List (List ℕ)
+r1Fuelled fuels adder =
     made RS 1 (1 ∷ 1000 ∷ 1000 ∷ 500000 ∷ 100000 ∷ 0 ∷ 0 ∷ 0 ∷ 0 ∷ [])  -- capacity 100.0, factor 1,000, start heat, no-load heat
     ∷ made HP 1 (1 ∷ 500 ∷ 500000 ∷ [])  -- 50.0 MW 500,000
     ∷ made HP 1 (2 ∷ 1000 ∷ 900000 ∷ [])  -- 100.0 MW 900,000
-    ∷ made FU 1 (1 ∷ fuel ∷ 1000000 ∷ [])  -- fuel, emission 1,000,000
-    ∷ made AD 1 (1 ∷ 3 ∷ 1 ∷ adder ∷ [])  -- consumables, energy
+    ∷ fuels
+    ++ (made AD 1 (1 ∷ 3 ∷ 1 ∷ adder ∷ [])  -- consumables, energy
     ∷ made AD 1 (1 ∷ 3 ∷ 4 ∷ 250000 ∷ [])  -- consumables, reserve
     ∷ made MM 1 (1 ∷ 1 ∷ 200000000 ∷ 1000 ∷ 25000 ∷ 100 ∷ [])  -- C, W, T, S
-    ∷ []
+    ∷ [])
+
+-- with one fuel, and emission 1,000,000
+abbrev pub r1With : ℕ → ℕ → List (List ℕ)
+r1With fuel adder = r1Fuelled (made FU 1 (1 ∷ fuel ∷ 1000000 ∷ []) ∷ []) adder
 
 -- fuel 4,000,000 and the adder 1,500,000
 abbrev pub r1 : List (List ℕ)
@@ -122,3 +126,44 @@ weekWith price =
 -- its price -5.00
 abbrev pub week : List (List ℕ)
 week = weekWith (minus 500)
+
+-- ---- document 02, request 8: R1 with fuel of a first hour, emission 1,000,000 throughout
+
+-- fuel 6.00 from hour 100 on, as issue 2
+abbrev pub dearer : List ℕ
+dearer = madeFrom FV 2 100 (1 ∷ 6000000 ∷ 1000000 ∷ [])
+
+-- R1 and, behind its records, that
+abbrev pub r1Dearer : List (List ℕ)
+r1Dearer = r1 ++ (dearer ∷ [])
+
+-- fuel 4.00; as issue 2 it is 5.00 from hour 200 on, and as issue 3 a price from hour 100 on, which hides issue 2
+abbrev pub datedWith : ℕ → List (List ℕ)
+datedWith fuel =
+    r1Fuelled
+    (made FU 1 (1 ∷ 4000000 ∷ 1000000 ∷ [])
+    ∷ madeFrom FV 2 200 (1 ∷ 5000000 ∷ 1000000 ∷ [])
+    ∷ madeFrom FV 3 100 (1 ∷ fuel ∷ 1000000 ∷ [])
+    ∷ [])
+    1500000
+
+-- 6.00
+abbrev pub datedFuel : List (List ℕ)
+datedFuel = datedWith 6000000
+
+-- no fuel before hour 10, and then a price
+abbrev pub lateWith : ℕ → List (List ℕ)
+lateWith fuel = r1Fuelled (madeFrom FV 1 10 (1 ∷ fuel ∷ 1000000 ∷ []) ∷ []) 1500000
+
+-- 4.00
+abbrev pub lateFuel : List (List ℕ)
+lateFuel = lateWith 4000000
+
+-- a battery with an emission price, which counts until a higher issue without one comes
+abbrev pub unfitUntil : ℕ → List (List ℕ)
+unfitUntil hour =
+    made RS 1 (3 ∷ 800 ∷ 0 ∷ 0 ∷ 0 ∷ 0 ∷ 800 ∷ 800 ∷ 1 ∷ [])
+    ∷ made FU 1 (1 ∷ 0 ∷ 1 ∷ [])
+    ∷ madeFrom FV 2 hour (1 ∷ 0 ∷ 0 ∷ [])
+    ∷ made HR 1 (1 ∷ 0 ∷ [])
+    ∷ []

@@ -14,7 +14,7 @@ use Rattle.rules.specs.Answer.{IsAccepted}
 use Rattle.rules.specs.Week.{pricesAfter, energiesAfter}
 use Rattle.formulas.specs.Sums.{sumOf}
 use Rattle.formulas.specs.Exact.{Sum, whole, share}
-use Rattle.formulas.specs.Levels.{parametersIn, amountsIn, chargingCost}
+use Rattle.formulas.specs.Levels.{amountsIn, parametersAt, amountsAt, chargingCost}
 
 -- ---- an interval
 
@@ -54,7 +54,7 @@ costOfWeek ps es last = cond (eqb (charged es) 0) (whole last) (share (orZero (p
 -- ---- the claim
 
 -- "In an accepted dossier they equal, at each interval, what the lookup by key gives": interval n is at place n - 1, and both are 0 where the part is empty; so
--- it is in lent lists of 2,016 places or more, after the call; and the charging cost is that of these prices and energies, and of LC
+-- it is in lent lists of 2,016 places or more, after the call; and the charging cost, at every hour, is that of these prices and energies, and of LC
 pub record LookedUp (d : List ℕ) : Type 0 where
   pub prices-many : length (weekPrices d) ≡ 2016
   pub energies-many : length (weekEnergies d) ≡ 2016
@@ -64,7 +64,7 @@ pub record LookedUp (d : List ℕ) : Type 0 where
   pub no-energy : (n : ℕ) → 1 ≤ n → n ≤ 2016 → partOf d n ≡ [] → getD (weekEnergies d) (n - 1) 0 ≡ 0
   pub prices-after : (ps : List ℤ) (es : List ℕ) → 2016 ≤ length ps → 2016 ≤ length es → pricesAfter d ps es ≡ weekPrices d ++ drop 2016 ps
   pub energies-after : (ps : List ℤ) (es : List ℕ) → 2016 ≤ length ps → 2016 ≤ length es → energiesAfter d ps es ≡ weekEnergies d ++ drop 2016 es
-  pub cost : chargingCost (parametersIn d) (amountsIn d) ≡ costOfWeek (weekPrices d) (weekEnergies d) (lastCost (amountsIn d))
+  pub cost : (h : ℕ) → chargingCost (parametersAt d h) (amountsAt d h) ≡ costOfWeek (weekPrices d) (weekEnergies d) (lastCost (amountsIn d))
 
 -- the week of every accepted dossier
 abbrev pub WeekLookedUp : Type 0

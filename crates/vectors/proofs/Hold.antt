@@ -3,133 +3,161 @@ use mathlib.Core.Path.{refl}
 use Rattle.layout.proofs.Computed.{computed}
 use Rattle.vectors.specs.Cases as cases
 
-line90 : cases.Line90
+line60 : cases.Line60
 unfolding computed
-line90 = refl
+line60 = refl
 
-line134 : cases.Line134
+line67 : cases.Line67
 unfolding computed
-line134 = refl
+line67 = refl
 
-line194 : cases.Line194
+line96 : cases.Line96
 unfolding computed
-line194 = refl
+line96 = refl
 
-line317 : cases.Line317
+line179 : cases.Line179
 unfolding computed
-line317 = refl
+line179 = refl
 
-line355 : cases.Line355
+line272 : cases.Line272
 unfolding computed
-line355 = refl
+line272 = refl
 
-line356 : cases.Line356
+line308 : cases.Line308
 unfolding computed
-line356 = refl
+line308 = refl
 
-line357 : cases.Line357
+line377 : cases.Line377
 unfolding computed
-line357 = refl
+line377 = refl
 
-line437 : cases.Line437
+line384 : cases.Line384
 unfolding computed
-line437 = refl
+line384 = refl
 
-line455 : cases.Line455
+line467 : cases.Line467
 unfolding computed
-line455 = refl
+line467 = refl
 
-line495 : cases.Line495
+line483 : cases.Line483
 unfolding computed
-line495 = refl
+line483 = refl
 
-line512 : cases.Line512
+line551 : cases.Line551
 unfolding computed
-line512 = refl
+line551 = refl
 
-line523 : cases.Line523
+line557 : cases.Line557
 unfolding computed
-line523 = refl
+line557 = refl
 
-line526 : cases.Line526
+line582 : cases.Line582
 unfolding computed
-line526 = refl
+line582 = refl
 
-line591 : cases.Line591
+line593 : cases.Line593
 unfolding computed
-line591 = refl
+line593 = refl
 
-line659 : cases.Line659
+line614 : cases.Line614
 unfolding computed
-line659 = refl
+line614 = refl
 
-line691 : cases.Line691
+line625 : cases.Line625
 unfolding computed
-line691 = refl
+line625 = refl
 
-line774 : cases.Line774
+line655 : cases.Line655
 unfolding computed
-line774 = refl
+line655 = refl
 
-line801 : cases.Line801
+line719 : cases.Line719
 unfolding computed
-line801 = refl
+line719 = refl
 
-line802 : cases.Line802
+line721 : cases.Line721
 unfolding computed
-line802 = refl
+line721 = refl
 
-line803 : cases.Line803
+line767 : cases.Line767
 unfolding computed
-line803 = refl
+line767 = refl
 
-line827 : cases.Line827
+line836 : cases.Line836
 unfolding computed
-line827 = refl
+line836 = refl
 
-line831 : cases.Line831
+line837 : cases.Line837
 unfolding computed
-line831 = refl
+line837 = refl
 
-line843 : cases.Line843
+line838 : cases.Line838
 unfolding computed
-line843 = refl
+line838 = refl
 
-line870 : cases.Line870
+line839 : cases.Line839
 unfolding computed
-line870 = refl
+line839 = refl
 
-line880 : cases.Line880
+line872 : cases.Line872
 unfolding computed
-line880 = refl
+line872 = refl
 
-line883 : cases.Line883
+line967 : cases.Line967
 unfolding computed
-line883 = refl
+line967 = refl
 
-line884 : cases.Line884
+line993 : cases.Line993
 unfolding computed
-line884 = refl
+line993 = refl
 
-line974 : cases.Line974
+line995 : cases.Line995
 unfolding computed
-line974 = refl
+line995 = refl
 
-line976 : cases.Line976
+line1023 : cases.Line1023
 unfolding computed
-line976 = refl
+line1023 = refl
 
-line1112 : cases.Line1112
+line1060 : cases.Line1060
 unfolding computed
-line1112 = refl
+line1060 = refl
 
-line1118 : cases.Line1118
+line1066 : cases.Line1066
 unfolding computed
-line1118 = refl
+line1066 = refl
 
-line1119 : cases.Line1119
+line1067 : cases.Line1067
 unfolding computed
-line1119 = refl
+line1067 = refl
+
+line1103 : cases.Line1103
+unfolding computed
+line1103 = refl
+
+line1107 : cases.Line1107
+unfolding computed
+line1107 = refl
+
+line1146 : cases.Line1146
+unfolding computed
+line1146 = refl
+
+line1149 : cases.Line1149
+unfolding computed
+line1149 = refl
+
+line1153 : cases.Line1153
+unfolding computed
+line1153 = refl
+
+line1190 : cases.Line1190
+unfolding computed
+line1190 = refl
+
+line1192 : cases.Line1192
+unfolding computed
+line1192 = refl
 
 week2 : cases.Week2
 unfolding computed
