@@ -1,3 +1,3 @@
-pub mod Trials
+pub mod Plain
 pub mod Unfit
 pub mod Search

@@ -1,49 +1,52 @@
 -- 6 by the slots of the index: where no slot has a record that does not fit, none does.
 use mathlib.Core.Path.{_≡_, refl, ap, sym, subst, _∙_}
 use mathlib.Core.Bool.{Bool, true, false, _&&_, _||_, not, false≢true}
-use mathlib.Core.List.{List, [], _∷_}
+use mathlib.Core.List.{List, []}
 use Prim.Native.Nat.{ℕ, _+_, _-_, _*_, _/_, _%_, _≤_, _<_}
 use native.Mathlib.Numerals.{add-one}
 use native.Mathlib.Omega.{arith}
 use lib.Bits.{bitOr}
 use lib.Dec.{ltb, eqb}
 use lib.ListN.{length, getD, List·getD-eq-default}
-use borrow.Author.Tests.{ltb-true, ltb-false, eqb-true, eq-eqb}
-use Rattle.lists.specs.Lists.{Each, done, also, Member, here, there}
+use borrow.Author.Tests.{ltb-true, ltb-false, lt-ltb, eqb-true, eq-eqb, not-true}
+use Rattle.lists.specs.Lists.{Member, here, there}
 use Rattle.lists.specs.Tests.{allBelow, allTo}
-use Rattle.lists.proofs.Lists.{member-each}
+use Rattle.lists.proofs.Lists.{each-map, member-each, members}
 use Rattle.lists.proofs.Tests.{and-true, and-left, and-right, split, below-at, to-at, at-to, or-none}
 use Rattle.fields.specs.Numbers.{number}
 use Rattle.records.specs.declared.Answer.the-variants.{Accepted}
 use Rattle.records.specs.Table.{table, rowOf, thermal, nuclear, storage, hydro, RS, HP, FU, AD, MM, HR, CH, TH, FP, LC}
 use Rattle.records.specs.MarkShapes.{shape, shapeOf}
-use Rattle.records.specs.Record.{mark, issue, keyIn, keyWidth, keyOf, rangesHold, fault}
+use Rattle.records.specs.Record.{mark, isDated, kind, issue, keyIn, keyWidth, keyOf, rangesHold, fault}
 use Rattle.records.specs.Answers.{refuseIf}
 use Rattle.records.specs.Dossier.{records, scan}
-use Rattle.records.proofs.Record.{mark-nil, faultless}
+use Rattle.records.proofs.Record.{size-ge, faultless}
 use Rattle.records.proofs.Answers.{orElse-parts}
+use Rattle.records.proofs.Dated.{undated-at, plain-mark}
 use Rattle.records.proofs.Dossier.{scan-each}
 use Rattle.station.specs.Current.{current, twin, twins, readable}
+use Rattle.station.specs.InForce.{counts}
 use Rattle.station.specs.Parameters.{parameters, technology}
 use Rattle.station.specs.Declared.{CurrentOf, absent, standing, Distinct}
 use Rattle.station.proofs.Current.{current-found, matches-self}
 use Rattle.station.proofs.Twins.{twins-distinct}
 use Rattle.index.specs.Slots.{narrow, slot, slotsEmpty}
-use Rattle.index.proofs.KeyBounds.{Spans, InKey, in-key, at-mark}
+use Rattle.index.proofs.KeyBounds.{Spans, InKey, in-key, at-kind}
 use Rattle.index.proofs.Slots.{low, high, limits, in-empty}
-use Rattle.lookup.specs.Parts.{Indexed, Complete, UpTo}
+use Rattle.lookup.specs.Parts.{Whole, Complete, Undated, UpTo}
 use Rattle.lookup.proofs.Keys.{item-key}
-use Rattle.lookup.proofs.Parts.{current-none, current-in-empty, slot-fits}
-use Rattle.rules.specs.Fit.{Known, holds, fits, isCurrent, unfit}
+use Rattle.lookup.proofs.Parts.{current-in-empty, slot-tells, fits as roomy-fits}
+use Rattle.rules.specs.Fit.{Known, holds, fits, unfit}
 use Rattle.fit.specs.BySlots.{fourthsEmpty, pointsFit, itemsFit, profilesFit, levelFits, proratedFit, pricedFit, allFit}
 use Rattle.rules.proofs.ByMark.{fits-rs, fits-hp, fits-fu, fits-mm, fits-rq, fits-hr, fits-ch, fits-fp, fits-lc, held-ad, held-th}
 use Rattle.rules.proofs.Sound.{each-unfit}
+use Rattle.fit.proofs.Plain.{undated-counts}
 
 -- ---- where no two records are twins, one that has the current one's issue is the current one
 
-twin-of : (r s : List ℕ) → mark r ≡ mark s → keyOf r ≡ keyOf s → issue r ≡ issue s → twin r s ≡ true
+twin-of : (r s : List ℕ) → kind r ≡ kind s → keyOf r ≡ keyOf s → issue r ≡ issue s → twin r s ≡ true
 unfolding twin
-twin-of r s a b c = rw (a, b, c, eq-eqb (mark s) (mark s) refl, eq-eqb (keyOf s) (keyOf s) refl, eq-eqb (issue s) (issue s) refl) refl
+twin-of r s a b c = rw (a, b, c, eq-eqb (kind s) (kind s) refl, eq-eqb (keyOf s) (keyOf s) refl, eq-eqb (issue s) (issue s) refl) refl
 
 same-member : {l : List (List ℕ)} {r s : List ℕ} → Distinct l → Member r l → Member s l → twin r s ≡ true → twin s r ≡ true → r ≡ s
 same-member d here here e f = refl
@@ -51,14 +54,14 @@ same-member d here (there m) e f = absurd (false≢true (sym (member-each m (d .
 same-member d (there m) here e f = absurd (false≢true (sym (member-each m (d .0)) ∙ f))
 same-member d (there m) (there n) e f = same-member (d .1) m n e f
 
-is-the-current : {l : List (List ℕ)} {r : List ℕ} → Distinct l → Member r l → isCurrent l r ≡ true → current (mark r) (keyOf r) l ≡ r
-unfolding isCurrent
-is-the-current {l} {r} d m e = go (current-found (mark r) (keyOf r) l)
+is-the-current : {l : List (List ℕ)} {r : List ℕ} → Distinct l → Member r l → eqb (issue r) (issue (current (kind r) (keyOf r) l)) ≡ true
+    → current (kind r) (keyOf r) l ≡ r
+is-the-current {l} {r} d m e = go (current-found (kind r) (keyOf r) l)
   where
-    go : CurrentOf (mark r) (keyOf r) l (current (mark r) (keyOf r) l) → current (mark r) (keyOf r) l ≡ r
+    go : CurrentOf (kind r) (keyOf r) l (current (kind r) (keyOf r) l) → current (kind r) (keyOf r) l ≡ r
     go (absent p w) = absurd (false≢true (sym (member-each m w) ∙ matches-self r))
     go (standing q) =
-        let i : issue r ≡ issue (current (mark r) (keyOf r) l) = eqb-true (issue r) (issue (current (mark r) (keyOf r) l)) e in
+        let i : issue r ≡ issue (current (kind r) (keyOf r) l) = eqb-true (issue r) (issue (current (kind r) (keyOf r) l)) e in
         same-member d (q .member) m (twin-of _ r (q .marked) (q .keyed) (sym i)) (twin-of r _ (sym (q .marked)) (sym (q .keyed)) i)
 
 pub readable-distinct : (d : List ℕ) → readable d ≡ Accepted → Distinct (records d)
@@ -66,10 +69,6 @@ unfolding readable
 readable-distinct d e =
     twins-distinct 0 (records d)
     (orElse-parts (scan 0 (records d)) (twins 0 [] (records d)) (orElse-parts (refuseIf (ltb 60000 (length d)) 13 0) _ e .1) .1)
-
-each-member : {A : Type 0} {P : A → Type 0} (l : List A) → ((a : A) → Member a l → P a) → Each P l
-each-member [] f = done
-each-member (a ∷ l) f = also (f a here) (each-member l (λ b m. f b (there m)))
 
 -- ---- every slot fits
 
@@ -208,7 +207,7 @@ module _ (t : ℕ) (d ix rs : List ℕ) (top : ℕ) where
     fit : (k n : ℕ) → InKey k n → Fit k n
     unfolding low high
     fit k n p =
-        at-mark (λ k. InKey k n → Fit k n) k n p
+        at-kind (λ k. InKey k n → Fit k n) k n p
         (fit-rs n)
         (fit-hp n)
         (fit-fu n)
@@ -222,23 +221,26 @@ module _ (t : ℕ) (d ix rs : List ℕ) (top : ℕ) where
         (λ q. fit-priced LC n (λ s. fits-lc t s known) (omega (arith, limits LC n q)) (omega (arith, limits LC n q)))
         p
 
-    module _ (h : Indexed d ix) (complete : Complete d ix) (highest : UpTo d top) (distinct : Distinct (records d)) where
-      member-fits : (r : List ℕ) → Member r (records d) → isCurrent (records d) r ≡ true → fits t (mark r) r ≡ true
+    module _ (h : Whole d ix) (complete : Complete d ix) (u : Undated d) (highest : UpTo d top) (distinct : Distinct (records d)) where
+      member-fits : (r : List ℕ) → Member r (records d) → counts (records d) r ≡ true → fits t (mark r) r ≡ true
+      unfolding keyOf
       member-fits r m c =
           let f = member-each m (scan-each 0 (records d) (h .clean)) in
           let k = in-key r f in
-          let same : current (mark r) (keyOf r) (records d) ≡ r = is-the-current distinct m c in
-          fit (mark r) (keyOf r) k r (faultless r f .ranges) (unfold keyOf in refl) same (member-each m highest) (held r f k same (member-each m complete))
+          let plain : isDated (mark r) ≡ false = member-each m u in
+          let same : current (kind r) (keyOf r) (records d) ≡ r = is-the-current distinct m (sym (undated-counts u r) ∙ c) in
+          rw (plain-mark r plain)
+          (fit (kind r) (keyOf r) k r (rw (plain-mark r plain) at (faultless r f .ranges)) (rw (undated-at (mark r) plain, plain-mark r plain) refl) same
+          (member-each m highest) (held r f k same (member-each m complete)))
         where
-          held : (r : List ℕ) → fault r ≡ 0 → InKey (mark r) (keyOf r) → current (mark r) (keyOf r) (records d) ≡ r → slot (mark r) (keyOf r) < length ix
-              → eqb (getD ix (slot (mark r) (keyOf r)) 0) 0 ≡ false
+          held : (r : List ℕ) → fault r ≡ 0 → InKey (kind r) (keyOf r) → current (kind r) (keyOf r) (records d) ≡ r → slot (kind r) (keyOf r) < length ix
+              → eqb (getD ix (slot (kind r) (keyOf r)) 0) 0 ≡ false
           held r f k same i =
-              split (eqb (getD ix (slot (mark r) (keyOf r)) 0) 0)
-              (λ w. absurd (faultless r f .known (ap mark (sym same ∙ current-none d ix h (mark r) (keyOf r) k i (eqb-true _ 0 w)) ∙ mark-nil)))
-              (λ w. w)
+              not-true _ (sym (slot-tells d ix h (kind r) (keyOf r) k i)
+              ∙ rw same (lt-ltb 0 (length r) (omega (arith, faultless r f .whole, size-ge (mark r)))))
 
       pub slots-accepted : t ≡ technology (parameters (records d)) → Accepted ≡ unfit t (records d)
-      slots-accepted g = sym (rw g (each-unfit (each-member (records d) (λ r m c. rw (← g) (member-fits r m c)))))
+      slots-accepted g = sym (rw g (each-unfit (each-map (λ r m c. rw (← g) (member-fits r m c)) (members (records d)))))
 
 -- ---- the tests of slots
 
@@ -287,7 +289,7 @@ item-none t known = sym (fits-mm t [] known) ∙ go (eqb t thermal)
     go false = refl
 
 -- a profile whose slots of MM are empty has no item
-pub no-items : (t : ℕ) (d ix : List ℕ) (p : ℕ) → Known t → Indexed d ix → 1 ≤ p → p ≤ 4 → {j : ℕ} → j ≡ slot MM (p * 256 + 1) → slotsEmpty ix j 8 ≡ true
+pub no-items : (t : ℕ) (d ix : List ℕ) (p : ℕ) → Known t → Whole d ix → 1 ≤ p → p ≤ 4 → {j : ℕ} → j ≡ slot MM (p * 256 + 1) → slotsEmpty ix j 8 ≡ true
     → true ≡ itemsFit t d p
 unfolding itemsFit slot
 no-items t d ix p known h a b {j} q e = sym (at-to 8 (λ i. fits t MM (current MM (p * 256 + i) (records d))) one)
@@ -295,5 +297,5 @@ no-items t d ix p known h a b {j} q e = sym (at-to 8 (λ i. fits t MM (current M
     one : (i : ℕ) → 1 ≤ i → i ≤ 8 → fits t MM (current MM (p * 256 + i) (records d)) ≡ true
     one i c z =
         let k = item-key p i a b c z in
-        rw (current-in-empty d ix h MM (p * 256 + i) k (slot-fits d ix h MM (p * 256 + i) refl k refl) j 8 e (omega (arith, q)) (omega (arith, q)))
+        rw (current-in-empty d ix h MM (p * 256 + i) k (roomy-fits ix (h .roomy) MM (p * 256 + i) k refl) j 8 e (omega (arith, q)) (omega (arith, q)))
         (item-none t known)

@@ -1,5 +1,5 @@
--- How code looks for 6: at the slots of the index first, and through the records only where these tell of one that does not fit. No
--- paper speaks of this; the law `slots-accepted` ties it to `unfit`.
+-- How code looks for 6 where no record has a first hour: at the slots of the index first, and through the records only where these tell of
+-- one that does not fit. No paper speaks of this; the law `slots-accepted` ties it to `unfit`.
 use mathlib.Core.Bool.{Bool, _&&_, _||_, not}
 use mathlib.Core.List.{List}
 use Prim.Native.Nat.{ℕ, _+_, _*_}
@@ -13,16 +13,7 @@ use Rattle.records.specs.Dossier.{records}
 use Rattle.station.specs.Current.{current}
 use Rattle.index.specs.Slots.{narrow, slotAt, slotsEmpty}
 use Rattle.lookup.specs.Parts.{partAt}
-use Rattle.fit.specs.declared.Tried.{Tried}
 use Rattle.rules.specs.Fit.{fits, holds}
-
--- a record's length, and whether it fits
-abbrev pub tried : ℕ → Bool → Tried
-tried n b = record { len = n; fits = b }
-
--- of a record of mark k at the front of s
-abbrev pub triedAs : ℕ → ℕ → List ℕ → Tried
-triedAs t k s = tried (size k) (fits t k s)
 
 -- ---- the slots, by mark; RQ fits every station
 

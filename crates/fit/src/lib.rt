@@ -1,53 +1,28 @@
-// 6: whether the current records fit the technology, told by the index. The definitions are in specs/, their laws in proofs/.
+// 6 of a dossier without first hours: whether the current records fit the technology, told by the index. The definitions are in specs/, their laws in proofs/.
 ghost use mathlib.Core.Path.{_≡_};
-ghost use mathlib.Core.Bool.{cond, _||_, not};
+ghost use mathlib.Core.Bool.{false};
 ghost use Prim.Native.Nat.{_+_, _*_, _<_, _≤_};
-ghost use lib.Dec.{ltb, eqb};
 ghost use lib.ListN.{length};
 ghost use Rattle.fields.specs.Numbers.{number};
 ghost use Rattle.records.specs.declared.Answer.the-variants.{Accepted};
-ghost use Rattle.records.specs.Table.{thermal, RS, FU, AD, MM, kinds};
-ghost use Rattle.records.specs.Record.{mark, size, keyWidth};
+ghost use Rattle.records.specs.Table.{thermal, RS};
+ghost use Rattle.records.specs.Record.{mark, isDated, size};
 ghost use Rattle.index.specs.Slots.{short, slotAt};
 ghost use Rattle.records.specs.Dossier.{records};
 ghost use Rattle.station.specs.Current.{current, readable};
 ghost use Rattle.station.specs.Parameters.{parameters, technology};
-ghost use Rattle.lookup.specs.Parts.{Indexed, Complete, UpTo};
-ghost use Rattle.rules.specs.Fit.{Known, fits, holds, unfit};
-ghost use Rattle.fit.specs.BySlots.{tried, triedAs, fourthsEmpty, pointsFit, itemsFit, profilesFit, levelFits, proratedFit, pricedFit, allFit, notFit};
+ghost use Rattle.lookup.specs.Parts.{Whole, Complete, Undated, UpTo};
+ghost use Rattle.rules.specs.Fit.{Known, fits, unfit};
+ghost use Rattle.fit.specs.BySlots.{fourthsEmpty, pointsFit, itemsFit, profilesFit, levelFits, proratedFit, pricedFit, allFit, notFit};
 use index::slots_empty;
 use records::Answer;
-use records::kinds;
 use rules::level_held;
+use trials::fu_fits;
+use trials::mm_fits;
+use trials::rs_fits;
+use trials::tried_at;
 
-// A record's length, and whether it fits.
-pub struct Tried {
-    pub len: usize,
-    pub fits: bool,
-}
-
-// A field that is used is above 0 where it must be; any other is 0.
-fn field_fits(used: bool, positive: bool, x: u32) -> bool
-    ensures { λ r. ⌜ r ≡ cond used (not positive || ltb 0 x) (eqb x 0) ⌝ }
-{
-    if used { !positive | (0 < x) } else { x == 0 }
-}
-
-// RS: what the technology uses is above 0, but for the heats, and the rest is 0.
-fn rs_fits(t: u8, s: &[u8]) -> bool
-    requires { ⌜ Known t ⌝ }
-    ensures { λ r. ⌜ r ≡ fits t RS (now (s .entry)) ⌝ }
-{
-    field_fits((t == 1) | (t == 2), true, fields::u16_at(s, 9) as u32)
-        & field_fits(t == 1, false, fields::u32_at(s, 11))
-        & field_fits(t == 1, false, fields::u32_at(s, 15))
-        & field_fits(t == 2, true, fields::u32_at(s, 19))
-        & field_fits(t == 3, true, fields::u32_at(s, 23))
-        & field_fits(t == 3, true, fields::u16_at(s, 27) as u32)
-        & field_fits((t == 3) | (t == 4), true, fields::u16_at(s, 29) as u32)
-}
-
-// The same of a thermal station: the commonest one is told sooner by what it doesn't use.
+// Whether RS of a thermal station fits: the commonest one is told sooner by what it doesn't use.
 fn rs_thermal(s: &[u8]) -> bool
     ensures { λ r. ⌜ r ≡ fits thermal RS (now (s .entry)) ⌝ }
 {
@@ -67,88 +42,6 @@ fn station_fits(t: u8, rs: &[u8]) -> bool
         return rs_thermal(rs);
     }
     rs_fits(t, rs)
-}
-
-// FU: a hydroelectric station has no fuel, and emission is thermal.
-fn fu_fits(t: u8, s: &[u8]) -> bool
-    requires { ⌜ Known t ⌝ }
-    ensures { λ r. ⌜ r ≡ fits t FU (now (s .entry)) ⌝ }
-{
-    ((t != 4) | (fields::u32_at(s, 7) == 0)) & ((t == 1) | (fields::u32_at(s, 11) == 0))
-}
-
-// AD: its level is held, and cost 5 is nuclear and level 1.
-fn ad_fits(t: u8, s: &[u8]) -> bool
-    requires { ⌜ Known t ⌝ }
-    ensures { λ r. ⌜ r ≡ fits t AD (now (s .entry)) ⌝ }
-{
-    let level = fields::u8_at(s, 8);
-    level_held(t, level) & ((fields::u8_at(s, 7) != 5) | ((t == 2) & (level == 1)))
-}
-
-// MM: hours for each start are thermal.
-fn mm_fits(t: u8, s: &[u8]) -> bool
-    requires { ⌜ Known t ⌝ }
-    ensures { λ r. ⌜ r ≡ fits t MM (now (s .entry)) ⌝ }
-{
-    (t == 1) | (fields::u16_at(s, 22) == 0)
-}
-
-// What comes of a trial.
-fn trial(len: usize, fits: bool) -> Tried
-    ensures { λ r. ⌜ r ≡ tried len fits ⌝ }
-{
-    Tried { len, fits }
-}
-
-// A record of kind k, whose mark has no key, tried against the technology.
-fn tried_keyless(t: u8, k: usize, s: &[u8]) -> Tried
-    requires { ⌜ Known t × (k < kinds) × (keyWidth k ≡ 0) ⌝ }
-    ensures { λ r. ⌜ r ≡ triedAs t k (now (s .entry)) ⌝ }
-{
-    if k == kinds::RS {
-        return trial(records::RS.length, rs_fits(t, s));
-    }
-    if k == kinds::LC {
-        return trial(records::LC.length, t == 3);
-    }
-    trial(records::UNKNOWN.length, true)
-}
-
-// The record at the front, tried against the technology.
-fn tried_at(t: u8, s: &[u8]) -> Tried
-    requires { ⌜ Known t ⌝ }
-    ensures { λ r. ⌜ r ≡ triedAs t (mark (now (s .entry))) (now (s .entry)) ⌝ }
-{
-    let k = records::kind_at(s);
-    if k == kinds::AD {
-        return trial(records::AD.length, ad_fits(t, s));
-    }
-    if k == kinds::MM {
-        return trial(records::MM.length, mm_fits(t, s));
-    }
-    if k == kinds::HP {
-        return trial(records::HP.length, t == 1);
-    }
-    if k == kinds::TH {
-        return trial(records::TH.length, level_held(t, fields::u8_at(s, 7)));
-    }
-    if k == kinds::FU {
-        return trial(records::FU.length, fu_fits(t, s));
-    }
-    if k == kinds::HR {
-        return trial(records::HR.length, t == 3);
-    }
-    if k == kinds::CH {
-        return trial(records::CH.length, t == 3);
-    }
-    if k == kinds::FP {
-        return trial(records::FP.length, t == 4);
-    }
-    if k == kinds::RQ {
-        return trial(records::RQ.length, true);
-    }
-    tried_keyless(t, k, s)
 }
 
 // Whether n slots are empty, every fourth from slot j on.
@@ -193,7 +86,7 @@ fn prorated_fit(index: &[u16], t: u8) -> bool
 
 // Whether the items of a profile fit; empty slots tell at once that it has none.
 fn items_fit(d: &[u8], index: &[u16], t: u8, p: usize) -> bool
-    requires { ⌜ Indexed (now d) (now index) × Known t × (1 ≤ p) × (p ≤ 4) ⌝ }
+    requires { ⌜ Whole (now d) (now index) × Undated (now d) × Known t × (1 ≤ p) × (p ≤ 4) ⌝ }
     ensures { λ r. ⌜ r ≡ itemsFit t (now (d .entry)) p ⌝ }
 {
     if slots_empty(index, index::keys::slot_mm(p, 1), 8) {
@@ -210,7 +103,7 @@ fn items_fit(d: &[u8], index: &[u16], t: u8, p: usize) -> bool
 
 // Whether FU and MM of every profile fit.
 fn profiles_fit(d: &[u8], index: &[u16], t: u8) -> bool
-    requires { ⌜ Indexed (now d) (now index) × Known t ⌝ }
+    requires { ⌜ Whole (now d) (now index) × Undated (now d) × Known t ⌝ }
     ensures { λ r. ⌜ r ≡ profilesFit t (now (d .entry)) ⌝ }
 {
     if t == 1 {
@@ -251,7 +144,7 @@ fn priced_fit(index: &[u16], t: u8, top: usize) -> bool
 
 // Whether every current record fits. An index has slots for FP where there is one, and only a hydroelectric station may have it.
 fn all_fit(d: &[u8], index: &[u16], rs: &[u8], t: u8, top: usize) -> bool
-    requires { ⌜ Indexed (now d) (now index) × Known t ⌝ }
+    requires { ⌜ Whole (now d) (now index) × Undated (now d) × Known t ⌝ }
     ensures { λ r. ⌜ r ≡ allFit t (now (d .entry)) (now (index .entry)) (now (rs .entry)) top ⌝ }
 {
     if (t != 4) & (index::NARROW < index.len()) {
@@ -288,13 +181,13 @@ fn key_at(s: &[u8], width: usize) -> usize
 // Whether the record at the front of s is current and does not fit. The search for twins keeps `entry_at` for itself, so that the compiler
 // puts it in line there.
 fn not_fit(d: &[u8], index: &[u16], s: &[u8], fits: bool) -> bool
-    requires { ⌜ (slotAt (mark (now s)) (now s) < length (now index)) × (size (mark (now s)) < 65536) ⌝ }
+    requires { ⌜ (slotAt (mark (now s)) (now s) < length (now index)) × (size (mark (now s)) < 65536) × (isDated (mark (now s)) ≡ false) ⌝ }
     ensures { λ r. ⌜ r ≡ notFit (now (d .entry)) (now (index .entry)) (now (s .entry)) fits ⌝ }
 {
     if fits {
         return false;
     }
-    let k = records::kind_at(s);
+    let k = records::mark_at(s);
     let m = records::mark_shape(k);
     let j = lookup::slot_of(k, key_at(s, m.width));
     let current = lookup::part_at(d, index, j, m.length);
@@ -303,7 +196,7 @@ fn not_fit(d: &[u8], index: &[u16], s: &[u8], fits: bool) -> bool
 
 // The first record that is current and does not fit.
 fn first_unfit(d: &[u8], index: &[u16], t: u8) -> Answer
-    requires { ⌜ Indexed (now d) (now index) × Complete (now d) (now index) × Known t ⌝ }
+    requires { ⌜ Whole (now d) (now index) × Complete (now d) (now index) × Undated (now d) × Known t ⌝ }
     ensures { λ r. ⌜ r ≡ unfit t (records (now (d .entry))) ⌝ }
 {
     let mut at = 0;
@@ -321,9 +214,10 @@ fn first_unfit(d: &[u8], index: &[u16], t: u8) -> Answer
     Answer::Accepted
 }
 
-// 6. Most dossiers have no unfit record, which the index tells; but for a thermal station, a short one is gone through sooner than the index.
+// 6, where no record has a first hour. Most dossiers have no unfit record, which the index tells; but for a thermal station, a short one is gone through
+// sooner than the index.
 pub fn unfit_of(d: &[u8], index: &[u16], rs: &[u8], t: u8, top: usize) -> Answer
-    requires { ⌜ Indexed (now d) (now index) × Complete (now d) (now index) × (readable (now d) ≡ Accepted) × Known t
+    requires { ⌜ Whole (now d) (now index) × Complete (now d) (now index) × Undated (now d) × (readable (now d) ≡ Accepted) × Known t
         × (t ≡ technology (parameters (records (now d)))) × (now rs ≡ current RS 0 (records (now d))) × UpTo (now d) top ⌝ }
     ensures { λ r. ⌜ r ≡ unfit t (records (now (d .entry))) ⌝ }
 {

@@ -7,8 +7,8 @@ use lib.ListN.{length, take, drop}
 use borrow.Author.Needs.{needs}
 use Rattle.records.specs.Record.{mark, size}
 use Rattle.rules.specs.Fit.{fits}
-use Rattle.fit.specs.declared.Tried.{Tried}
-use Rattle.fit.proofs.Search.{Left, begin, finish, slot-below, its-length, refuses, goes-on}
+use Rattle.trials.specs.declared.Tried.{Tried}
+use Rattle.fit.proofs.Search.{Left, begin, finish, slot-below, no-hour, its-length, refuses, goes-on}
 use Rattle.fit.proofs.first_unfit.Statement.{statement}
 use Rattle.fit.proofs.first_unfit.Tie as tie
 
@@ -43,31 +43,33 @@ its-fit c = ap (λ (x : Tried). x .fits) (c .tried-at .ensures)
 -- it lies within the dossier
 its : (c : Turn) → (1 ≤ c .tried-at .result .len) × (c .tried-at .result .len ≤ length (d-of c) - At c .loop .at)
 its c =
-    its-length (St c .args .t) (d-of c) (St c .args .index .now) (St c .pre .0) (At c .loop .at) (c .before .before .loop-test .taken) (At c .loop .inv .1)
-    (its-size c)
+    its-length (St c .args .t) (d-of c) (St c .args .index .now) (St c .pre .0) (St c .pre .2) (At c .loop .at) (c .before .before .loop-test .taken)
+    (At c .loop .inv .1) (its-size c)
 
 loop-holds : tie.Need-loop-holds Inv-loop μ-loop
 loop-holds c = (
   omega arith,
   begin (c .before .before .args .t) (c .before .before .args .d .now) (c .before .before .args .index .now) (c .before .before .pre .0)
-      (c .before .before .pre .1),
+      (c .before .before .pre .1) (c .before .before .pre .2),
 )
 
 tried-at-requires : tie.Need-tried-at-requires Inv-loop μ-loop
-tried-at-requires c κs = c .before .before .before .before .before .pre .2
+tried-at-requires c κs = c .before .before .before .before .before .pre .3
 
 not-fit-requires : tie.Need-not-fit-requires Inv-loop μ-loop
 not-fit-requires c κs = (
-  slot-below (St c .args .t) (d-of c) (St c .args .index .now) (St c .pre .0) (At c .loop .at) (c .before .before .loop-test .taken) (At c .loop .inv .1)
-      (its-size c),
+  slot-below (St c .args .t) (d-of c) (St c .args .index .now) (St c .pre .0) (St c .pre .2) (At c .loop .at) (c .before .before .loop-test .taken)
+      (At c .loop .inv .1) (its-size c),
   omega (arith, its c, its-size c, St c .pre .0 .short),
+  no-hour (St c .args .t) (d-of c) (St c .args .index .now) (St c .pre .0) (St c .pre .2) (At c .loop .at) (c .before .before .loop-test .taken)
+      (At c .loop .inv .1) (its-size c),
 )
 
 returns : tie.Need-returns Inv-loop μ-loop
 returns c =
     let u = c .before .before in
-    refuses (St u .args .t) (d-of u) (St u .args .index .now) (St u .pre .0) (At u .loop .at) (u .before .before .loop-test .taken) (At u .loop .inv .1)
-    (its-size u) (its-fit u) (c .before .not-fit .ensures) (c .if1 .taken)
+    refuses (St u .args .t) (d-of u) (St u .args .index .now) (St u .pre .0) (St u .pre .2) (At u .loop .at) (u .before .before .loop-test .taken)
+    (At u .loop .inv .1) (its-size u) (its-fit u) (c .before .not-fit .ensures) (c .if1 .taken)
 
 add-at : tie.Need-add-at Inv-loop μ-loop
 add-at c = omega (arith, its (c .before .before .before))
@@ -79,7 +81,7 @@ loop-again : tie.Need-loop-again Inv-loop μ-loop
 loop-again c =
     let u = c .before .before .before in (
       omega (arith, its u),
-      goes-on (St u .args .t) (d-of u) (St u .args .index .now) (St u .pre .0) (At u .loop .at) (u .before .before .loop-test .taken)
+      goes-on (St u .args .t) (d-of u) (St u .args .index .now) (St u .pre .0) (St u .pre .2) (At u .loop .at) (u .before .before .loop-test .taken)
           (At u .loop .inv .1) (its-size u) (its-fit u) (c .before .before .not-fit .ensures) (c .before .if1 .left),
     )
 

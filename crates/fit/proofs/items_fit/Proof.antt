@@ -8,9 +8,10 @@ use Rattle.records.specs.Table.{MM}
 use Rattle.records.specs.Dossier.{records}
 use Rattle.station.specs.Current.{current}
 use Rattle.index.specs.Slots.{slot}
-use Rattle.lookup.proofs.Held.{current-held}
+use Rattle.lookup.proofs.Held.{whole-indexed}
 use Rattle.rules.specs.Fit.{fits}
 use Rattle.fit.specs.BySlots.{itemsFit}
+use Rattle.fit.proofs.Plain.{body-whole}
 use Rattle.fit.proofs.Unfit.{no-items}
 use Rattle.fit.proofs.items_fit.Statement.{statement}
 use Rattle.fit.proofs.items_fit.Tie as tie
@@ -23,32 +24,32 @@ abbrev μ-loop : tie.MeasureT-loop
 
 slots-empty-requires : tie.Need-slots-empty-requires Inv-loop μ-loop
 unfolding slot
-slots-empty-requires c κs = let q = c .before .before .before .pre in omega (arith, c .slot-mm .ensures, q .0 .roomy, q .2, q .3)
+slots-empty-requires c κs = let q = c .before .before .before .pre in omega (arith, c .slot-mm .ensures, q .0 .roomy, q .3, q .4)
 
 returns : tie.Need-returns Inv-loop μ-loop
 returns c =
     let a = c .before .before .before .before .before .args in
     let q = c .before .before .before .before .before .pre in
-    no-items (a .t) (a .d .now) (a .index .now) (a .p) (q .1) (q .0) (q .2) (q .3) (c .before .before .slot-mm .ensures)
+    no-items (a .t) (a .d .now) (a .index .now) (a .p) (q .2) (q .0) (q .3) (q .4) (c .before .before .slot-mm .ensures)
     (sym (c .before .slots-empty .ensures) ∙ c .if1 .taken)
 
 loop-holds : tie.Need-loop-holds Inv-loop μ-loop
 loop-holds c = (omega arith, unfold allTo in refl)
 
 mm-requires : tie.Need-mm-requires Inv-loop μ-loop
-mm-requires c κs = let q = c .before .before .before .before .before .before .before .pre in (q .0, q .2, q .3, omega arith, omega arith)
+mm-requires c κs = let q = c .before .before .before .before .before .before .before .pre in (whole-indexed (q .0), q .3, q .4, omega arith, omega arith)
 
 mm-fits-requires : tie.Need-mm-fits-requires Inv-loop μ-loop
-mm-fits-requires c κs = c .before .before .before .before .before .before .before .before .pre .1
+mm-fits-requires c κs = c .before .before .before .before .before .before .before .before .pre .2
 
 loop-again : tie.Need-loop-again Inv-loop μ-loop
 loop-again c =
     let a = c .before .before .before .before .before .before .before .before .before .args in
+    let q = c .before .before .before .before .before .before .before .before .before .pre in
     let l = c .before .before .before .loop in (
       omega arith,
       to-next (l .j) (λ i. fits (a .t) 5 (current MM (a .p * 256 + i) (records (a .d .now)))) (l .inv .1)
-          (c .mm-fits .ensures ∙ ap (fits (a .t) 5) (c .before .mm .ensures
-          ∙ current-held (c .before .before .before .before .before .before .before .before .before .pre .0) 5 _)),
+          (c .mm-fits .ensures ∙ ap (fits (a .t) 5) (c .before .mm .ensures ∙ body-whole (q .0) (q .1) 5 _)),
     )
 
 returns-2 : tie.Need-returns-2 Inv-loop μ-loop

@@ -8,9 +8,10 @@ use Rattle.lists.proofs.Tests.{to-next}
 use Rattle.records.specs.Table.{FU}
 use Rattle.records.specs.Dossier.{records}
 use Rattle.station.specs.Current.{current}
-use Rattle.lookup.proofs.Held.{current-held}
+use Rattle.lookup.proofs.Held.{whole-indexed}
 use Rattle.rules.specs.Fit.{fits}
 use Rattle.fit.specs.BySlots.{itemsFit, profilesFit}
+use Rattle.fit.proofs.Plain.{body-whole}
 use Rattle.fit.proofs.profiles_fit.Statement.{statement}
 use Rattle.fit.proofs.profiles_fit.Tie as tie
 
@@ -28,23 +29,23 @@ loop-holds : tie.Need-loop-holds Inv-loop μ-loop
 loop-holds c = (omega arith, unfold allTo in refl)
 
 fu-requires : tie.Need-fu-requires Inv-loop μ-loop
-fu-requires c κs = (c .before .before .before .before .before .pre .0, omega arith, omega arith)
+fu-requires c κs = (whole-indexed (c .before .before .before .before .before .pre .0), omega arith, omega arith)
 
 fu-fits-requires : tie.Need-fu-fits-requires Inv-loop μ-loop
-fu-fits-requires c κs = c .before .before .before .before .before .before .pre .1
+fu-fits-requires c κs = c .before .before .before .before .before .before .pre .2
 
 items-fit-requires : tie.Need-items-fit-requires Inv-loop μ-loop
-items-fit-requires c κs = let q = c .before .before .before .before .before .before .before .pre in (q .0, q .1, omega arith, omega arith)
+items-fit-requires c κs = let q = c .before .before .before .before .before .before .before .pre in (q .0, q .1, q .2, omega arith, omega arith)
 
 loop-again : tie.Need-loop-again Inv-loop μ-loop
 loop-again c =
     let a = c .before .before .before .before .before .before .before .before .args in
+    let q = c .before .before .before .before .before .before .before .before .pre in
     let l = c .before .before .before .before .loop in (
       omega arith,
       to-next (l .p) (λ p. fits (a .t) 3 (current FU p (records (a .d .now))) && itemsFit (a .t) (a .d .now) p) (l .inv .1)
           (ap₂ (λ (x y : Bool). x && y) (c .before .fu-fits .ensures
-          ∙ ap (fits (a .t) 3) (c .before .before .fu .ensures
-          ∙ current-held (c .before .before .before .before .before .before .before .before .pre .0) 3 _)) (c .items-fit .ensures)),
+          ∙ ap (fits (a .t) 3) (c .before .before .fu .ensures ∙ body-whole (q .0) (q .1) 3 _)) (c .items-fit .ensures)),
     )
 
 returns-2 : tie.Need-returns-2 Inv-loop μ-loop

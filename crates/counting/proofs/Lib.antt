@@ -1,0 +1,5 @@
+pub mod Group
+pub mod Loops
+pub mod Least
+pub mod Places
+pub mod Searched
