@@ -13,7 +13,9 @@ use Rattle.lists.specs.Sums.{sumTo}
 use Rattle.lists.proofs.Sums.{sumTo-same, sumTo-within, sumTo-part, sumTo-replaced, sumTo-zeros}
 use Rattle.lists.proofs.Tests.{split}
 use Rattle.records.specs.Table.{table, rowOf, CH}
-use Rattle.records.specs.Record.{mark, keyOf}
+use Rattle.records.specs.Record.{mark, kind, datable, keyOf}
+use Rattle.lists.specs.Tests.{among}
+use Rattle.records.proofs.Dated.{other-mark}
 use Rattle.records.specs.MarkShapes.{shape, shapeOf}
 use Rattle.records.specs.Walk.{Record, found}
 use Rattle.station.specs.Week.{intervals}
@@ -33,12 +35,17 @@ pub interval-key : (n : ℕ) → 1 ≤ n → n ≤ 2016 → InKey CH n
 unfolding Spans shapeOf shape rowOf table
 interval-key n a b = record { known = lit≤ tt; low = lit< tt; spans = (a, b) }
 
+-- a record of their kind has their mark
+of-kind : (r : List ℕ) → kind r ≡ CH → mark r ≡ CH
+unfolding datable among table
+of-kind r e = other-mark r refl e
+
 -- and no other record has one of them
 pub slot-elsewhere : (s : List ℕ) (k n : ℕ) → found s ≡ Record k n → (k ≡ CH → ⊥) → {j : ℕ} → j ≡ slotAt k s → (m : ℕ) → 1 ≤ m → m ≤ 2016 → slot CH m ≡ j → ⊥
 slot-elsewhere s k n e other ej m a b z =
     let r = take n s in
-    other (sym (slot-apart CH m (mark r) (keyOf r) (interval-key m a b) (in-key r (its-fault s k n e)) (z ∙ ej ∙ sym (its-slot s k n e)) .0
-    ∙ its-mark s k n e))
+    let same : CH ≡ kind r = slot-apart CH m (kind r) (keyOf r) (interval-key m a b) (in-key r (its-fault s k n e)) (z ∙ ej ∙ sym (its-slot s k n e)) .0 in
+    other (sym (its-mark s k n e) ∙ of-kind r (sym same))
 
 -- the price and energy of a slot's value, and how high they reach
 pub record Held (d : List ℕ) (v : ℕ) : Type 0 where

@@ -12,10 +12,10 @@ use Rattle.lists.proofs.Tests.{and-left, and-right, and-true, split}
 use Rattle.fields.specs.Numbers.{number, biased}
 use Rattle.fields.proofs.Numbers.{number-drop}
 use Rattle.records.specs.Table.{table, rowOf, fieldOf, CH}
-use Rattle.records.specs.Record.{markIn, mark, widths, size, offsetIn, offset, read, value, inRange, agrees, rangesHold}
+use Rattle.records.specs.Record.{markIn, mark, widths, size, offsetIn, offset, read, value, inRange, agrees, rangesHold, fieldsAt}
 use Rattle.records.specs.MarkShapes.{begins}
 use Rattle.records.specs.Walk.{Record, found}
-use Rattle.records.proofs.Marks.{not-mark}
+use Rattle.records.proofs.EveryMark.{not-mark}
 use Rattle.records.proofs.Read.{found-known, begun}
 use Rattle.index.specs.declared.Reading.the-variants.{Fault}
 use Rattle.index.specs.Entries.{readingAs}
@@ -24,7 +24,7 @@ use Rattle.index.specs.Intervals.{intervalAs, noInterval, isInterval, in
 -- ---- one record
 
 pub ch-size : size CH ≡ 16
-unfolding size widths rowOf table
+unfolding size widths rowOf table fieldsAt
 ch-size = refl
 
 -- its letters
@@ -38,7 +38,7 @@ ch-letters s =
 -- its ranges
 ch-ranges : (s : List ℕ) → rangesHold CH s ≡ (between 1 2016 (number 6 2 s) && between 2147283648 2147683648 (biased (number 8 4 s)))
     && between 0 1000000 (number 12 4 s)
-unfolding rangesHold allBelow inRange agrees value read offset offsetIn fieldOf rowOf table
+unfolding rangesHold allBelow inRange agrees value read offset offsetIn fieldOf rowOf table fieldsAt
 ch-ranges s = and-true _
 
 -- a CH without fault: long enough, and each field in its range

@@ -11,11 +11,11 @@ use Rattle.lists.specs.Tests.{between}
 use Rattle.lists.proofs.Tests.{and-left, and-right, and-both, between-low, between-high, in-between}
 use Rattle.fields.specs.Numbers.{number}
 use Rattle.records.specs.declared.MarkShape.{MarkShape}
-use Rattle.records.specs.Table.{table, rowOf, fieldOf, kinds, RS, HP, FU, AD, MM, RQ, HR, CH, TH, FP, LC}
-use Rattle.records.specs.Record.{mark, offsetIn, offset, read, value, keyIn, keyWidth, keyOf, inRange, rangesHold, fault}
+use Rattle.records.specs.Table.{table, rowOf, fieldOf, kinds, RS, HP, FU, AD, MM, RQ, HR, CH, TH, FP, LC, FV, AV, MV}
+use Rattle.records.specs.Record.{mark, isDated, kindOf, kind, fieldsAt, offsetIn, offset, read, value, keyIn, keyWidth, keyOf, inRange, rangesHold, fault}
 use Rattle.records.specs.MarkShapes.{shape, shapeOf, keyField, keyFits, keyTest}
 use Rattle.records.proofs.Record.{faultless, field-in}
-use Rattle.records.proofs.Marks.{mark-lt, by-mark}
+use Rattle.records.proofs.EveryMark.{mark-lt, by-mark, by-kind, kind-lt, kind-known}
 
 -- a key field within its bounds
 abbrev pub Span : MarkShape → ℕ → ℕ → Type 0
@@ -30,7 +30,7 @@ Spans false false m n = Span m 0 (n / 65536) × Span m 1 (n / 256 % 256) × Span
 abbrev pub none : MarkShape → ℕ → Bool
 none m i = eqb (getD (m .highest) i 0) 0
 
--- a number is a key of mark k
+-- a number is a key of kind k
 pub record InKey (k n : ℕ) : Type 0 where
   pub known : 1 ≤ k
   pub low : k < kinds
@@ -87,78 +87,99 @@ key-test k n p =
     go m false true q = unfold Spans in rw (of-span m 0 (n / 256) (q .0), of-span m 1 (n % 256) (q .1)) refl
     go m false false q = unfold Spans in rw (of-span m 0 (n / 65536) (q .0), of-span m 1 (n / 256 % 256) (q .1), of-span m 2 (n % 256) (q .2)) refl
 
--- ---- a record without fault has a key of its mark
+-- ---- a record without fault has a key of its kind
 
 Keyed : List ℕ → ℕ → Type 0
-Keyed r k = rangesHold k r ≡ true → Spans (none (shapeOf k) 1) (none (shapeOf k) 2) (shapeOf k) (number 6 (keyWidth k) r)
+Keyed r k =
+    rangesHold k r ≡ true
+    → Spans (none (shapeOf (kindOf k)) 1) (none (shapeOf (kindOf k)) 2) (shapeOf (kindOf k)) (number (fieldsAt k) (keyWidth k) r)
 
 module _ (r : List ℕ) where
   keyed-rs : Keyed r RS
-  unfolding Keyed Spans shapeOf shape keyWidth keyIn rowOf table number
+  unfolding Keyed Spans shapeOf shape kindOf isDated fieldsAt keyWidth keyIn rowOf table number
   keyed-rs h = (omega arith, omega arith)
 
   keyed-lc : Keyed r LC
-  unfolding Keyed Spans shapeOf shape keyWidth keyIn rowOf table number
+  unfolding Keyed Spans shapeOf shape kindOf isDated fieldsAt keyWidth keyIn rowOf table number
   keyed-lc h = (omega arith, omega arith)
 
   keyed-hp : Keyed r HP
-  unfolding Keyed Spans shapeOf shape keyWidth keyIn inRange value read offset offsetIn fieldOf rowOf table
+  unfolding Keyed Spans shapeOf shape kindOf isDated fieldsAt keyWidth keyIn inRange value read offset offsetIn fieldOf rowOf table
   keyed-hp h = span-of (field-in HP 0 r h (lit< tt))
 
   keyed-fu : Keyed r FU
-  unfolding Keyed Spans shapeOf shape keyWidth keyIn inRange value read offset offsetIn fieldOf rowOf table
+  unfolding Keyed Spans shapeOf shape kindOf isDated fieldsAt keyWidth keyIn inRange value read offset offsetIn fieldOf rowOf table
   keyed-fu h = span-of (field-in FU 0 r h (lit< tt))
 
   keyed-rq : Keyed r RQ
-  unfolding Keyed Spans shapeOf shape keyWidth keyIn inRange value read offset offsetIn fieldOf rowOf table
+  unfolding Keyed Spans shapeOf shape kindOf isDated fieldsAt keyWidth keyIn inRange value read offset offsetIn fieldOf rowOf table
   keyed-rq h = span-of (field-in RQ 0 r h (lit< tt))
 
   keyed-hr : Keyed r HR
-  unfolding Keyed Spans shapeOf shape keyWidth keyIn inRange value read offset offsetIn fieldOf rowOf table
+  unfolding Keyed Spans shapeOf shape kindOf isDated fieldsAt keyWidth keyIn inRange value read offset offsetIn fieldOf rowOf table
   keyed-hr h = span-of (field-in HR 0 r h (lit< tt))
 
   keyed-ch : Keyed r CH
-  unfolding Keyed Spans shapeOf shape keyWidth keyIn inRange value read offset offsetIn fieldOf rowOf table
+  unfolding Keyed Spans shapeOf shape kindOf isDated fieldsAt keyWidth keyIn inRange value read offset offsetIn fieldOf rowOf table
   keyed-ch h = span-of (field-in CH 0 r h (lit< tt))
 
   keyed-fp : Keyed r FP
-  unfolding Keyed Spans shapeOf shape keyWidth keyIn inRange value read offset offsetIn fieldOf rowOf table
+  unfolding Keyed Spans shapeOf shape kindOf isDated fieldsAt keyWidth keyIn inRange value read offset offsetIn fieldOf rowOf table
   keyed-fp h = span-of (field-in FP 0 r h (lit< tt))
 
   keyed-mm : Keyed r MM
-  unfolding Keyed Spans shapeOf shape keyWidth keyIn inRange value read offset offsetIn fieldOf rowOf table number
+  unfolding Keyed Spans shapeOf shape kindOf isDated fieldsAt keyWidth keyIn inRange value read offset offsetIn fieldOf rowOf table number
   keyed-mm h =
       let a = span-of (field-in MM 0 r h (lit< tt)) in
       let b = span-of (field-in MM 1 r h (lit< tt)) in
       ((omega (arith, a, b), omega (arith, a, b)), (omega (arith, a, b), omega (arith, a, b)))
 
   keyed-th : Keyed r TH
-  unfolding Keyed Spans shapeOf shape keyWidth keyIn inRange value read offset offsetIn fieldOf rowOf table number
+  unfolding Keyed Spans shapeOf shape kindOf isDated fieldsAt keyWidth keyIn inRange value read offset offsetIn fieldOf rowOf table number
   keyed-th h =
       let a = span-of (field-in TH 0 r h (lit< tt)) in
       let b = span-of (field-in TH 1 r h (lit< tt)) in
       ((omega (arith, a, b), omega (arith, a, b)), (omega (arith, a, b), omega (arith, a, b)))
 
   keyed-ad : Keyed r AD
-  unfolding Keyed Spans shapeOf shape keyWidth keyIn inRange value read offset offsetIn fieldOf rowOf table number
+  unfolding Keyed Spans shapeOf shape kindOf isDated fieldsAt keyWidth keyIn inRange value read offset offsetIn fieldOf rowOf table number
   keyed-ad h =
       let a = span-of (field-in AD 0 r h (lit< tt)) in
       let b = span-of (field-in AD 1 r h (lit< tt)) in
       let c = span-of (field-in AD 2 r h (lit< tt)) in
       ((omega (arith, a, b, c), omega (arith, a, b, c)), (omega (arith, a, b, c), omega (arith, a, b, c)), (omega (arith, a, b, c), omega (arith, a, b, c)))
 
-pub in-key : (r : List ℕ) → fault r ≡ 0 → InKey (mark r) (keyOf r)
-unfolding Keyed keyOf
+  keyed-fv : Keyed r FV
+  unfolding Keyed Spans shapeOf shape kindOf isDated fieldsAt keyWidth keyIn inRange value read offset offsetIn fieldOf rowOf table
+  keyed-fv h = span-of (field-in FV 0 r h (lit< tt))
+
+  keyed-av : Keyed r AV
+  unfolding Keyed Spans shapeOf shape kindOf isDated fieldsAt keyWidth keyIn inRange value read offset offsetIn fieldOf rowOf table number
+  keyed-av h =
+      let a = span-of (field-in AV 0 r h (lit< tt)) in
+      let b = span-of (field-in AV 1 r h (lit< tt)) in
+      let c = span-of (field-in AV 2 r h (lit< tt)) in
+      ((omega (arith, a, b, c), omega (arith, a, b, c)), (omega (arith, a, b, c), omega (arith, a, b, c)), (omega (arith, a, b, c), omega (arith, a, b, c)))
+
+  keyed-mv : Keyed r MV
+  unfolding Keyed Spans shapeOf shape kindOf isDated fieldsAt keyWidth keyIn inRange value read offset offsetIn fieldOf rowOf table number
+  keyed-mv h =
+      let a = span-of (field-in MV 0 r h (lit< tt)) in
+      let b = span-of (field-in MV 1 r h (lit< tt)) in
+      ((omega (arith, a, b), omega (arith, a, b)), (omega (arith, a, b), omega (arith, a, b)))
+
+pub in-key : (r : List ℕ) → fault r ≡ 0 → InKey (kind r) (keyOf r)
+unfolding Keyed kind keyOf
 in-key r e =
     let f = faultless r e in
     record {
-      known = omega (arith, f .known);
-      low = mark-lt r;
+      known = kind-known (mark r) (f .known) (mark-lt r);
+      low = kind-lt (mark r) (mark-lt r);
       spans =
           by-mark (Keyed r) (keyed-rs r) (keyed-hp r) (keyed-fu r) (keyed-ad r) (keyed-mm r) (keyed-rq r) (keyed-hr r) (keyed-ch r) (keyed-th r) (keyed-fp r)
-          (keyed-lc r) (mark r) (f .known) (mark-lt r) (f .ranges);
+          (keyed-lc r) (keyed-fv r) (keyed-av r) (keyed-mv r) (mark r) (f .known) (mark-lt r) (f .ranges);
     }
 
--- what holds of every mark holds of a key's
-pub at-mark : (P : ℕ → Type 0) (k n : ℕ) → InKey k n → P RS → P HP → P FU → P AD → P MM → P RQ → P HR → P CH → P TH → P FP → P LC → P k
-at-mark P k n p a b c d e f g h i j m = by-mark P a b c d e f g h i j m k (λ z. omega (arith, z, p .known)) (p .low)
+-- what holds of every kind holds of a key's
+pub at-kind : (P : ℕ → Type 0) (k n : ℕ) → InKey k n → P RS → P HP → P FU → P AD → P MM → P RQ → P HR → P CH → P TH → P FP → P LC → P k
+at-kind P k n p a b c d e f g h i j m = by-kind P a b c d e f g h i j m k (λ z. omega (arith, z, p .known)) (p .low)

@@ -6,3 +6,4 @@ pub mod Entries
 pub mod Intervals
 pub mod HeldSums
 pub mod Runs
+pub mod Holding

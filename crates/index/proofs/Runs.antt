@@ -1,16 +1,16 @@
 -- One turn of a run of intervals: what it keeps of the walk, and of the sums.
-use mathlib.Core.Path.{_≡_, refl, ap, ap₂, sym, _∙_}
-use mathlib.Core.Bool.{Bool, true, false, cond, _&&_}
+use mathlib.Core.Path.{_≡_, refl, ap, ap₂, sym, subst, _∙_}
+use mathlib.Core.Bool.{Bool, true, false, cond, _&&_, _||_}
 use mathlib.Core.List.{List}
 use Prim.Native.Nat.{ℕ, _+_, _-_, _*_, _≤_, _<_}
 use native.Mathlib.Omega.{arith}
 use lib.Dec.{leb, ltb}
 use lib.ListN.{length, getD, set, take, drop, length-drop}
 use borrow.Author.Tests.{le-leb, lt-ltb}
-use Rattle.lists.proofs.Tests.{and-true, cond-holds}
+use Rattle.lists.proofs.Tests.{and-true, cond-holds, or-false}
 use Rattle.fields.specs.Numbers.{number, biased}
 use Rattle.records.specs.Table.{table, rowOf, CH}
-use Rattle.records.specs.Record.{keyIn, keyWidth}
+use Rattle.records.specs.Record.{keyIn, keyWidth, kindOf, isDated, fieldsAt}
 use Rattle.records.specs.Walk.{Rest}
 use Rattle.index.specs.Slots.{slot, slotAt, heldIssue, newer, higher, Kept, kept, keepStep}
 use Rattle.index.specs.Intervals.{intervalAs, isInterval, intervalAt, heldPrice, heldEnergy, slotPrice, slotEnergy, HeldSums}
@@ -20,7 +20,7 @@ use Rattle.index.proofs.HeldSums.{Held, held-at, cost-part, energy-part
 
 -- an interval's slot, read in place
 interval-slot : (s : List ℕ) → slotAt CH s ≡ slot CH (number 6 2 s)
-unfolding slotAt keyWidth keyIn rowOf table
+unfolding slotAt keyWidth keyIn rowOf table kindOf isDated fieldsAt
 interval-slot s = refl
 
 module _ (d : List ℕ) (at : ℕ) (there : isInterval (drop at d) ≡ true) where
@@ -46,25 +46,30 @@ module _ (d : List ℕ) (at : ℕ) (there : isInterval (drop at d) ≡ true) whe
 
   -- ---- the walk
 
-  module _ (x : Kept) (ix : List ℕ) (b : Bool) (t : ℕ) (r : Rest (keepStep d) x d at (kept ix b t)) {j m : ℕ} (ej : j ≡ slot CH (number 6 2 s))
+  module _ (x : Kept) (ix : List ℕ) (b : Bool) (t : ℕ) (f : Bool) (r : Rest (keepStep d) x d at (kept ix b t f)) {j m : ℕ} (ej : j ≡ slot CH (number 6 2 s))
       (em : m ≡ higher t j) where
+    -- it has no first hour
+    undated : (l : List ℕ) (c : Bool) (n : ℕ) → Rest (keepStep d) x d (at + 16) (kept l c n (f || isDated CH)) → Rest (keepStep d) x d (at + 16) (kept l c n f)
+    unfolding isDated rowOf table
+    undated l c n = subst (λ (g : Bool). Rest (keepStep d) x d (at + 16) (kept l c n g)) (or-false f)
+
     placed : j ≡ slotAt CH (take (length d - at) s)
     placed = ej ∙ sym (interval-slot s) ∙ ap (slotAt CH) (sym (tail d at))
 
     pub run-held : {a g : ℕ} → a ≡ heldIssue d (getD ix j 0) → g ≡ newer a (number 2 4 s + 1) (getD ix j 0) (at + 1)
-        → Rest (keepStep d) x d (at + 16) (kept (set ix j g) (b && ltb a (number 2 4 s + 1)) m)
+        → Rest (keepStep d) x d (at + 16) (kept (set ix j g) (b && ltb a (number 2 4 s + 1)) m f)
     run-held ea eg =
-        turn d x ix at CH 16 b t (omega (arith, inside)) r (interval-found s there) placed (ap (number 2 4) (sym (tail d at))) ea eg em
+        undated _ _ _ (turn d x ix at CH 16 b t f (omega (arith, inside)) r (interval-found s there) placed (ap (number 2 4) (sym (tail d at))) ea eg em)
 
-    pub run-new : getD ix j 0 ≡ 0 → Rest (keepStep d) x d (at + 16) (kept (set ix j (at + 1)) b m)
+    pub run-new : getD ix j 0 ≡ 0 → Rest (keepStep d) x d (at + 16) (kept (set ix j (at + 1)) b m f)
     unfolding heldIssue
     run-new z =
         let h : heldIssue d (getD ix j 0) ≡ 0 = rw z refl in
         let g : at + 1 ≡ newer 0 (number 2 4 s + 1) (getD ix j 0) (at + 1) = rw (le-leb 0 (number 2 4 s + 1) (omega arith)) refl in
         rw (lt-ltb 0 (number 2 4 s + 1) (omega arith), and-true b) at (run-held (sym h) g)
 
-    pub run-beyond : length ix ≤ j → Rest (keepStep d) x d (at + 16) (kept ix b m)
-    run-beyond z = turn-beyond d x ix at CH 16 b t (omega (arith, inside)) r (interval-found s there) placed z em
+    pub run-beyond : length ix ≤ j → Rest (keepStep d) x d (at + 16) (kept ix b m f)
+    run-beyond z = undated _ _ _ (turn-beyond d x ix at CH 16 b t f (omega (arith, inside)) r (interval-found s there) placed z em)
 
   -- ---- the sums
 

@@ -13,12 +13,12 @@ use Rattle.lists.proofs.Tests.{below-at, everyOf-at}
 use Rattle.records.specs.declared.MarkShape.{MarkShape}
 use Rattle.records.specs.Table.{table, rowOf, kinds, AD, CH, TH, FP}
 use Rattle.records.specs.MarkShapes.{shape, shapeOf}
-use Rattle.index.proofs.KeyBounds.{Span, Spans, none, InKey, at-mark}
+use Rattle.index.proofs.KeyBounds.{Span, Spans, none, InKey, at-kind}
 use Rattle.index.specs.Slots.{slot, short, narrow, wide, slotsEmpty}
 
 -- ---- a slot is a number in mixed radix: bounded, and no two keys share one
 
--- where the slots of a mark begin and end
+-- where the slots of a kind begin and end
 unfoldable pub low : ℕ → ℕ
 low k = getD (0 ∷ 0 ∷ 1 ∷ 22 ∷ 26 ∷ 106 ∷ 138 ∷ 166 ∷ 334 ∷ 154 ∷ 2351 ∷ 2350 ∷ []) k 0
 
@@ -71,7 +71,7 @@ same-digits false false m n o p q e =
     let z = same-field m 2 (n % 256) (o % 256) (p .2) (q .2) (ap (λ (l : List ℕ). getD l 2 0) e) in
     three-digits n ∙ rw (x, y, z) (sym (three-digits o))
 
--- of mark k
+-- of kind k
 unfoldable digitsOf : ℕ → ℕ → List ℕ
 digitsOf k n = digits (none (shapeOf k) 1) (none (shapeOf k) 2) (shapeOf k) n
 
@@ -89,7 +89,7 @@ Ranked n k = InKey k n → slot k n ≡ low k + rank (basesOf k) (digitsOf k n)
 slot-rank : (k n : ℕ) → InKey k n → slot k n ≡ low k + rank (basesOf k) (digitsOf k n)
 unfolding Ranked Spans shapeOf shape rowOf table slot low digitsOf basesOf digits bases rank product
 slot-rank k n p =
-    at-mark (Ranked n) k n p
+    at-kind (Ranked n) k n p
     (λ q. omega (arith, q .spans)) (λ q. omega (arith, q .spans)) (λ q. omega (arith, q .spans)) (λ q. omega (arith, q .spans))
     (λ q. omega (arith, q .spans)) (λ q. omega (arith, q .spans)) (λ q. omega (arith, q .spans)) (λ q. omega (arith, q .spans))
     (λ q. omega (arith, q .spans)) (λ q. omega (arith, q .spans)) (λ q. omega (arith, q .spans))
@@ -121,7 +121,7 @@ same-key k n m p q e =
     let z : rank (basesOf k) (digitsOf k n) ≡ rank (basesOf k) (digitsOf k m) = omega (arith, e, slot-rank k n p, slot-rank k m q) in
     same-digits (none (shapeOf k) 1) (none (shapeOf k) 2) (shapeOf k) n m (p .spans) (q .spans) (rank-same (under-of k n p) (under-of k m q) z)
 
--- the slots of two marks lie apart, before or behind each other
+-- the slots of two kinds lie apart, before or behind each other
 apartTest : ℕ → ℕ → Bool
 apartTest k j = eqb k 0 || eqb j 0 || eqb k j || ltb (high k) (low j) || ltb (high j) (low k)
 
@@ -132,7 +132,7 @@ apart k j a b c d e =
     below-at kinds (λ x. apartTest x j) (below-at kinds (λ y. allBelow kinds (λ x. apartTest x y)) refl j d) k c in
     rw (ne-eqb k 0 (λ z. omega (arith, z)), ne-eqb j 0 (λ z. omega (arith, z)), e) at t
 
--- the marks that every station may have, and HR
+-- the kinds that every station may have, and HR
 abbrev pub early : ℕ → Bool
 early k = ltb k CH || eqb k TH
 

@@ -1,6 +1,6 @@
 -- One turn of the pass.
 use mathlib.Core.Path.{_≡_, refl, ap, ap₂, subst, _∙_}
-use mathlib.Core.Bool.{Bool, _&&_}
+use mathlib.Core.Bool.{Bool, _&&_, _||_}
 use mathlib.Core.List.{List, [], _∷_}
 use Prim.Native.Nat.{ℕ, zero, suc, _+_, _-_, _≤_, _<_}
 use native.Mathlib.Omega.{arith}
@@ -9,24 +9,24 @@ use lib.ListN.{length, getD, set, take, drop, length-drop, List·getD-eq-default
 use lib.Seq.{take-all}
 use borrow.Author.Tests.{lt-ltb}
 use Rattle.lists.proofs.Tests.{and-true}
-use Rattle.records.specs.Table.{kinds}
+use Rattle.records.specs.Table.{marks}
 use Rattle.fields.specs.Numbers.{number}
-use Rattle.records.specs.Record.{mark, size, issue, keyWidth, keyOf, fault}
+use Rattle.records.specs.Record.{mark, kindOf, kind, fieldsAt, size, issue, keyWidth, keyOf, fault, isDated}
 use Rattle.records.specs.MarkShapes.{shortest}
 use Rattle.records.specs.Dossier.{firstOf}
 use Rattle.records.specs.Walk.{Record, found, Rest}
 use Rattle.records.proofs.Record.{mark-take, size-ge, key-ends, faultless}
-use Rattle.records.proofs.Marks.{mark-lt, size-least}
+use Rattle.records.proofs.EveryMark.{mark-lt, size-least}
 use Rattle.records.proofs.Walk.{found-record, found-within, next}
 use Rattle.records.proofs.Read.{number-take}
-use Rattle.index.specs.Slots.{slotAt, slot, wide, heldIssue, newer, higher, Kept, kept, keepStep}
+use Rattle.index.specs.Slots.{slotAt, slot, wide, heldIssue, newer, higher, Kept, kept, keepStep, put}
 use Rattle.index.proofs.KeyBounds.{in-key}
 use Rattle.index.proofs.Slots.{slot-lt}
 
 pub tail : (d : List ℕ) (at : ℕ) → take (length d - at) (drop at d) ≡ drop at d
 tail d at = take-all (length d - at) (drop at d) (simp length-drop (omega arith))
 
-pub bounds : (d : List ℕ) (at k n : ℕ) → found (drop at d) ≡ Record k n → (1 ≤ n) × (n ≤ length d - at) × (k < kinds)
+pub bounds : (d : List ℕ) (at k n : ℕ) → found (drop at d) ≡ Record k n → (1 ≤ n) × (n ≤ length d - at) × (k < marks)
 bounds d at k n e =
     let w = found-within (drop at d) k n e in
     (w .0, simp length-drop at (w .1), rw (found-record (drop at d) k n e .0) (mark-lt (drop at d)))
@@ -52,20 +52,20 @@ module _ (s : List ℕ) (k n : ℕ) (e : found s ≡ Record k n) where
   unfolding issue
   its-issue = number-take n 2 4 s (omega (arith, long))
 
-  pub its-slot : slot (mark (take n s)) (keyOf (take n s)) ≡ slotAt k s
-  unfolding keyOf slotAt
+  pub its-slot : slot (kind (take n s)) (keyOf (take n s)) ≡ slotAt k s
+  unfolding kind keyOf slotAt
   its-slot =
-      ap₂ slot its-mark (ap (λ (x : ℕ). number 6 (keyWidth x) (take n s)) its-mark
-      ∙ number-take n 6 (keyWidth k) s (omega (arith, key-ends k, ap size (found-record s k n e .0), found-record s k n e .1)))
+      ap₂ slot (ap kindOf its-mark) (ap (λ (x : ℕ). number (fieldsAt x) (keyWidth x) (take n s)) its-mark
+      ∙ number-take n (fieldsAt k) (keyWidth k) s (omega (arith, key-ends k, ap size (found-record s k n e .0), found-record s k n e .1)))
 
   slot-below : slotAt k s < wide
-  slot-below = rw (← its-slot) (slot-lt (mark (take n s)) (keyOf (take n s)) (in-key (take n s) its-fault))
+  slot-below = rw (← its-slot) (slot-lt (kind (take n s)) (keyOf (take n s)) (in-key (take n s) its-fault))
 
-  step-is : (d ix : List ℕ) (b : Bool) (c p : ℕ) → keepStep d (kept ix b c) p (take n s) ≡ kept
+  step-is : (d ix : List ℕ) (b : Bool) (c : ℕ) (f : Bool) (p : ℕ) → keepStep d (kept ix b c f) p (take n s) ≡ kept
       (set ix (slotAt k s) (newer (heldIssue d (getD ix (slotAt k s) 0)) (number 2 4 s + 1) (getD ix (slotAt k s) 0) (p + 1)))
-      (b && ltb (heldIssue d (getD ix (slotAt k s) 0)) (number 2 4 s + 1)) (higher c (slotAt k s))
-  unfolding keepStep
-  step-is d ix b c p = rw (its-slot, its-issue) refl
+      (b && ltb (heldIssue d (getD ix (slotAt k s) 0)) (number 2 4 s + 1)) (higher c (slotAt k s)) (f || isDated k)
+  unfolding keepStep put
+  step-is d ix b c f p = rw (its-slot, its-issue, its-mark) refl
 
 -- what lies beyond a list is not set
 set-beyond : (l : List ℕ) (i x : ℕ) → length l ≤ i → set l i x ≡ l
@@ -73,15 +73,16 @@ set-beyond [] i x h = refl
 set-beyond (y ∷ l) zero x h = absurd (omega arith)
 set-beyond (y ∷ l) (suc i) x h = ap (λ (m : List ℕ). y ∷ m) (set-beyond l i x (omega arith))
 
-module _ (d : List ℕ) (x : Kept) (ix : List ℕ) (at k n : ℕ) (b : Bool) (c : ℕ) (h : at < length d) (r : Rest (keepStep d) x d at (kept ix b c))
+module _ (d : List ℕ) (x : Kept) (ix : List ℕ) (at k n : ℕ) (b : Bool) (c : ℕ) (f : Bool) (h : at < length d)
+    (r : Rest (keepStep d) x d at (kept ix b c f))
     (e : found (drop at d) ≡ Record k n) {j : ℕ} (ej : j ≡ slotAt k (take (length d - at) (drop at d))) where
   after : Rest (keepStep d) x d (at + n)
       (kept (set ix (slotAt k (drop at d)) (newer (heldIssue d (getD ix (slotAt k (drop at d)) 0)) (number 2 4 (drop at d) + 1)
       (getD ix (slotAt k (drop at d)) 0) (at + 1))) (b && ltb (heldIssue d (getD ix (slotAt k (drop at d)) 0)) (number 2 4 (drop at d) + 1))
-      (higher c (slotAt k (drop at d))))
+      (higher c (slotAt k (drop at d))) (f || isDated k))
   after =
-      subst (Rest (keepStep d) x d (at + n)) (step-is (drop at d) k n e d ix b c at)
-      (next (keepStep d) x d at (kept ix b c) k n h r e)
+      subst (Rest (keepStep d) x d (at + n)) (step-is (drop at d) k n e d ix b c f at)
+      (next (keepStep d) x d at (kept ix b c f) k n h r e)
 
   ej′ : j ≡ slotAt k (drop at d)
   ej′ = ej ∙ ap (slotAt k) (tail d at)
@@ -89,13 +90,13 @@ module _ (d : List ℕ) (x : Kept) (ix : List ℕ) (at k n : ℕ) (b : Bool) (c 
   -- a record with a slot in the index
   pub turn : {w a g m : ℕ} → w ≡ number 2 4 (take (length d - at) (drop at d)) → a ≡ heldIssue d (getD ix j 0) → g ≡ newer a (w + 1) (getD ix j 0) (at + 1)
       → m ≡ higher c j
-      → Rest (keepStep d) x d (at + n) (kept (set ix j g) (b && ltb a (w + 1)) m)
+      → Rest (keepStep d) x d (at + n) (kept (set ix j g) (b && ltb a (w + 1)) m (f || isDated k))
   turn ew ea eg em =
       let ew′ = ew ∙ ap (number 2 4) (tail d at) in
       rw (em, eg, ea, ej′, ew′) after
 
   -- one without
-  pub turn-beyond : {m : ℕ} → length ix ≤ j → m ≡ higher c j → Rest (keepStep d) x d (at + n) (kept ix b m)
+  pub turn-beyond : {m : ℕ} → length ix ≤ j → m ≡ higher c j → Rest (keepStep d) x d (at + n) (kept ix b m (f || isDated k))
   unfolding heldIssue
   turn-beyond z em =
       let q : ℕ = slotAt k (drop at d) in

@@ -1,14 +1,14 @@
 -- What the record reader answers: what is found, with its slot.
-use mathlib.Core.Bool.{Bool, cond}
+use mathlib.Core.Bool.{cond}
 use mathlib.Core.List.{List}
 use Prim.Native.Nat.{ℕ}
 use lib.Dec.{ltb}
 use lib.ListN.{length}
-use Rattle.records.specs.Record.{size, rangesHold}
+use Rattle.records.specs.Record.{isDated, size, rangesHold}
 use Rattle.records.specs.Walk.{Found, Record, Faulty, found}
 use Rattle.index.specs.declared.Entry.{Entry}
 use Rattle.index.specs.declared.Reading.{Reading}
-use Rattle.index.specs.declared.Reading.the-variants.{Whole, Fault}
+use Rattle.index.specs.declared.Reading.the-variants.{Whole, Dated, Fault}
 use Rattle.index.specs.Slots.{slotAt}
 
 -- a length and a slot
@@ -19,19 +19,21 @@ entry n j = record { len = n; slot = j }
 abbrev pub entryAs : ℕ → List ℕ → Entry
 entryAs k s = entry (size k) (slotAt k s)
 
+-- of a record of mark k without fault: it is told apart whether it has a first hour
+unfoldable pub wholeAs : ℕ → Entry → Reading
+wholeAs k e = cond (isDated k) (Dated e) (Whole e)
+
 -- what is found, with its slot
 unfoldable pub placed : List ℕ → Found → Reading
-placed s (Record k n) = Whole (entry n (slotAt k s))
+placed s (Record k n) = wholeAs k (entry n (slotAt k s))
 placed s (Faulty m) = Fault m
 
 -- at the front of the rest of a dossier
 unfoldable pub readingOf : List ℕ → Reading
 readingOf s = placed s (found s)
 
--- of a record that is long enough, by whether its ranges hold
-abbrev pub checked : Bool → Entry → Reading
-checked b e = cond b (Whole e) (Fault 3)
-
 -- the same of a rest that begins with mark k
 unfoldable pub readingAs : ℕ → List ℕ → Reading
-readingAs k s = cond (ltb (length s) (size k)) (Fault 2) (checked (rangesHold k s) (entryAs k s))
+readingAs k s =
+    cond (ltb (length s) (size k)) (Fault 2)
+    (cond (rangesHold k s) (wholeAs k (entryAs k s)) (Fault 3))

@@ -1,17 +1,17 @@
--- The index: a slot for each mark and key, which holds the current record so far.
-use mathlib.Core.Bool.{Bool, true, cond, _&&_, _||_, not}
+-- The index: a slot for each kind and key, which holds the current record so far.
+use mathlib.Core.Bool.{Bool, true, false, cond, _&&_, _||_, not}
 use mathlib.Core.List.{List}
 use Prim.Native.Nat.{ℕ, zero, suc, _+_, _*_, _/_, _%_}
 use lib.Dec.{leb, ltb, eqb}
 use lib.ListN.{length, getD, set, replicate}
 use Rattle.lists.specs.Tests.{allBelow}
 use Rattle.fields.specs.Numbers.{number}
-use Rattle.records.specs.Record.{head, mark, issue, keyWidth, keyOf}
+use Rattle.records.specs.Record.{mark, isDated, kindOf, kind, fieldsAt, issue, keyWidth, keyOf}
 use Rattle.records.specs.Walk.{Step, Walked, ended, stopped}
 use Rattle.index.specs.declared.Passed.{Passed}
 use Rattle.index.specs.declared.Passed.the-variants.{Ended, Stopped}
 
--- ---- the slot of a mark and key: mixed radix, the marks one after the other; HR, CH and LC come behind those that every station may have, FP last
+-- ---- the slot of a kind and key: mixed radix, the kinds one after the other; HR, CH and LC come behind those that every station may have, FP last
 
 -- by the key as a number; key fields count from 1, so no field is lessened
 unfoldable pub slot : ℕ → ℕ → ℕ
@@ -42,7 +42,7 @@ wide = 6351
 
 -- of a record of mark k at the front of the rest of a dossier, read in place
 unfoldable pub slotAt : ℕ → List ℕ → ℕ
-slotAt k s = slot k (number head (keyWidth k) s)
+slotAt k s = slot (kindOf k) (number (fieldsAt k) (keyWidth k) s)
 
 -- ---- what a slot holds: the place of the current record so far, plus 1; 0 for none
 
@@ -58,30 +58,37 @@ newer a b v w = cond (leb a b) w v
 abbrev pub higher : ℕ → ℕ → ℕ
 higher a b = cond (ltb a b) b a
 
--- the index, whether every issue so far was above all earlier ones of its mark and key, and the highest slot of a record
+-- the index, whether every issue so far was above all earlier ones of its kind and key, the highest slot of a record, and whether one had a first hour
 pub record Kept : Type 0 where
   pub slots : List ℕ
   pub rising : Bool
   pub top : ℕ
+  pub dated : Bool
 
--- all three at once
-abbrev pub kept : List ℕ → Bool → ℕ → Kept
-kept l b m = record { slots = l; rising = b; top = m }
+-- all four at once
+abbrev pub kept : List ℕ → Bool → ℕ → Bool → Kept
+kept l b m f = record { slots = l; rising = b; top = m; dated = f }
 
 -- an index of w empty slots, before the first record
 abbrev pub fresh : ℕ → Kept
-fresh w = kept (replicate w 0) true 0
+fresh w = kept (replicate w 0) true 0 false
 
--- a record r at place p of dossier d goes into the slot of its mark and key, unless a higher issue is there; one without a slot is passed over
+-- a record r at place p of dossier d goes into the slot of its kind and key, unless a higher issue is there; one without a slot is passed over
+unfoldable pub put : List ℕ → List ℕ → ℕ → List ℕ → List ℕ
+put d ix p r =
+    let j = slot (kind r) (keyOf r) in
+    let v = getD ix j 0 in
+    set ix j (newer (heldIssue d v) (issue r + 1) v (p + 1))
+
+-- and it is noted whether its issue was above all earlier ones, how high its slot is, and whether it has a first hour
 unfoldable pub keepStep : List ℕ → Step Kept
 keepStep d x p r =
-    let j = slot (mark r) (keyOf r) in
-    let v = getD (x .slots) j 0 in
-    kept (set (x .slots) j (newer (heldIssue d v) (issue r + 1) v (p + 1))) (x .rising && ltb (heldIssue d v) (issue r + 1)) (higher (x .top) j)
+    let j = slot (kind r) (keyOf r) in
+    kept (put d (x .slots) p r) (x .rising && ltb (heldIssue d (getD (x .slots) j 0)) (issue r + 1)) (higher (x .top) j) (x .dated || isDated (mark r))
 
 -- what the pass answers
 unfoldable pub passOf : Walked Kept → Passed
-passOf (ended x) = Ended (x .rising) (x .top)
+passOf (ended x) = Ended (x .rising) (x .top) (x .dated)
 passOf (stopped n p) = Stopped n p
 
 -- and the index that it leaves, l where it stopped

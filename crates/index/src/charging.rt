@@ -1,7 +1,7 @@
 // The records of charging intervals, read as they lie together, with the week's sums: price × energy, the price plus 2^31, and energy. A record that takes
 // another's slot takes its part of the sums as well, so that no record is looked up for an interval afterwards.
 ghost use mathlib.Core.Path.{_≡_};
-ghost use mathlib.Core.Bool.{false};
+ghost use mathlib.Core.Bool.{Bool, false};
 ghost use Prim.Native.Nat.{_+_, _-_, _*_, _≤_};
 ghost use lib.ListN.{length, drop};
 ghost use Rattle.records.specs.Walk.{Rest};
@@ -102,8 +102,9 @@ pub fn intervals_from(d: &[u8], before: Run, index: &mut [u16], lent: &mut [u64]
     requires { ⌜ (length (now d) ≤ 60000) × (before .end ≤ length (now d)) × (length (now lent) ≡ 2) × HeldIn (now d) (now index) (now lent) ⌝ }
     ensures { λ r. ⌜ (before .end ≤ r .end) × (r .end ≤ length (now (d .entry))) × HeldIn (now (d .entry)) (now (index .exit)) (now (lent .exit))
         × (r .end ≡ before .end → isInterval (drop (before .end) (now (d .entry))) ≡ false)
-        × ((a : Kept) → Rest (keepStep (now (d .entry))) a (now (d .entry)) (before .end) (kept (now (index .entry)) (before .rising) (before .top))
-        → Rest (keepStep (now (d .entry))) a (now (d .entry)) (r .end) (kept (now (index .exit)) (r .rising) (r .top))) ⌝ }
+        × ((a : Kept) (f : Bool) → Rest (keepStep (now (d .entry))) a (now (d .entry)) (before .end) (kept (now (index .entry)) (before .rising) (before
+        .top) f)
+        → Rest (keepStep (now (d .entry))) a (now (d .entry)) (r .end) (kept (now (index .exit)) (r .rising) (r .top) f)) ⌝ }
 {
     let mut end = before.end;
     let mut rising = before.rising;

@@ -1,10 +1,10 @@
-// One pass over a dossier fills an index: for each mark and key the place of the current record.
+// One pass over a dossier fills an index: for each kind and key the place of the current record.
 pub mod charging;
 pub mod keys;
 pub mod reader;
 
 ghost use mathlib.Core.Path.{_≡_};
-ghost use mathlib.Core.Bool.{true};
+ghost use mathlib.Core.Bool.{true, false};
 ghost use Prim.Native.Nat.{_+_, _<_, _≤_};
 ghost use lib.ListN.{length};
 ghost use Rattle.records.specs.Walk.{walk};
@@ -20,27 +20,35 @@ pub const NARROW: usize = 2351;
 
 pub const WIDE: usize = 6351;
 
-// A record's length, and the slot of its mark and key.
+// A record's length, and the slot of its kind and key.
 pub struct Entry {
     pub len: usize,
     pub slot: usize,
 }
 
-// What the record reader answers: a whole record, or the fault that it draws.
+// What the record reader answers: a whole record, one with a first hour, or the fault that it draws.
 pub enum Reading {
     Whole(Entry),
+    Dated(Entry),
     Fault(u8),
 }
 
-// What a pass answers: whether every issue was above all earlier ones of its mark and key, and the highest slot of a record; or the
-// first fault.
+// What a pass answers: whether every issue was above all earlier ones of its kind and key, the highest slot of a record, and whether one has a first
+// hour; or the first fault.
 pub enum Passed {
-    Ended { rising: bool, top: usize },
-    Stopped { number: u8, place: usize },
+    Ended {
+        rising: bool,
+        top: usize,
+        dated: bool,
+    },
+    Stopped {
+        number: u8,
+        place: usize,
+    },
 }
 
 // The issue of the record that a slot of value v holds, plus 1; 0 if it holds none.
-fn issue_held(d: &[u8], v: u16) -> u64
+pub fn issue_held(d: &[u8], v: u16) -> u64
     requires { ⌜ length (now d) ≤ 60000 ⌝ }
     ensures { λ r. ⌜ r ≡ heldIssue (now (d .entry)) v ⌝ }
 {
@@ -52,7 +60,7 @@ fn issue_held(d: &[u8], v: u16) -> u64
 }
 
 // Of a slot's value and the next one, the next if its issue is not below the one that is held.
-fn newer_of(held: u64, issue: u64, v: u16, next: u16) -> u16
+pub fn newer_of(held: u64, issue: u64, v: u16, next: u16) -> u16
     ensures { λ r. ⌜ r ≡ newer held issue v next ⌝ }
 {
     if held <= issue { next } else { v }
@@ -70,13 +78,14 @@ fn higher_of(a: usize, b: usize) -> usize
 // The records of charging intervals are read in runs, which keep the week's sums; those of an empty index are 0.
 pub fn pass(d: &[u8], index: &mut [u16], sums: &mut [u64]) -> Passed
     requires { ⌜ (length (now d) ≤ 60000) × (length (now sums) ≡ 2) × HeldIn (now d) (now index) (now sums) ⌝ }
-    ensures { λ r. ⌜ (r ≡ passOf (walk (keepStep (now (d .entry))) (kept (now (index .entry)) true 0) (now (d .entry))))
-        × (now (index .exit) ≡ slotsOf (now (index .exit)) (walk (keepStep (now (d .entry))) (kept (now (index .entry)) true 0) (now (d .entry))))
+    ensures { λ r. ⌜ (r ≡ passOf (walk (keepStep (now (d .entry))) (kept (now (index .entry)) true 0 false) (now (d .entry))))
+        × (now (index .exit) ≡ slotsOf (now (index .exit)) (walk (keepStep (now (d .entry))) (kept (now (index .entry)) true 0 false) (now (d .entry))))
         × HeldIn (now (d .entry)) (now (index .exit)) (now (sums .exit)) ⌝ }
 {
     let mut at = 0;
     let mut rising = true;
     let mut top = 0;
+    let mut dated = false;
     while at < d.len() {
         let rest = &d[at..];
         if reader::begins_interval(rest) {
@@ -96,33 +105,36 @@ pub fn pass(d: &[u8], index: &mut [u16], sums: &mut [u64]) -> Passed
             rising = run.rising;
             top = run.top;
         } else {
-            match read(rest) {
-                Reading::Whole(entry) => {
-                    // never so: it tells the compiler that the issue's bytes are there
-                    if rest.len() < 6 {
-                        return Passed::Stopped {
-                            number: 2,
-                            place: at,
-                        };
-                    }
-                    let j = entry.slot;
-                    top = higher_of(top, j);
-                    if j < index.len() {
-                        let issue = (fields::u32_at(rest, 2) as u64) + 1;
-                        let v = index[j];
-                        let held = issue_held(d, v);
-                        rising = rising & (held < issue);
-                        index[j] = newer_of(held, issue, v, (at as u16) + 1);
-                    }
-                    at += entry.len;
+            let entry = match read(rest) {
+                Reading::Whole(entry) => entry,
+                Reading::Dated(entry) => {
+                    dated = true;
+                    entry
                 }
                 Reading::Fault(number) => {
                     return Passed::Stopped { number, place: at };
                 }
+            };
+            // never so: it tells the compiler that the issue's bytes are there
+            if rest.len() < 6 {
+                return Passed::Stopped {
+                    number: 2,
+                    place: at,
+                };
             }
+            let j = entry.slot;
+            top = higher_of(top, j);
+            if j < index.len() {
+                let issue = (fields::u32_at(rest, 2) as u64) + 1;
+                let v = index[j];
+                let held = issue_held(d, v);
+                rising = rising & (held < issue);
+                index[j] = newer_of(held, issue, v, (at as u16) + 1);
+            }
+            at += entry.len;
         }
     }
-    Passed::Ended { rising, top }
+    Passed::Ended { rising, top, dated }
 }
 
 // Whether n slots from slot j on are empty.

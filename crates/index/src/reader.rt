@@ -1,15 +1,15 @@
 // The record reader: one record at the front of the rest of a dossier, with its length and slot.
 ghost use mathlib.Core.Path.{_≡_};
-ghost use mathlib.Core.Bool.{true, false, _&&_};
+ghost use mathlib.Core.Bool.{true, false, cond, _&&_};
 ghost use Prim.Native.Nat.{_≤_};
 ghost use lib.Dec.{leb};
 ghost use lib.ListN.{length, getD};
-ghost use Rattle.records.specs.Table.{RS, HP, FU, AD, MM, RQ, HR, CH, TH, FP, LC};
-ghost use Rattle.records.specs.Record.{mark, keyWidth};
-ghost use Rattle.records.specs.MarkShapes.{begins};
+ghost use Rattle.records.specs.Table.{RS, HP, FU, AD, MM, RQ, HR, CH, TH, FP, LC, FV, AV, MV};
+ghost use Rattle.records.specs.Record.{mark};
+ghost use Rattle.records.specs.MarkShapes.{rare, begins};
 ghost use Rattle.index.specs.Intervals.{isInterval};
-ghost use Rattle.index.specs.declared.Reading.the-variants.{Fault};
-ghost use Rattle.index.specs.Entries.{entryAs, checked, readingAs, readingOf};
+ghost use Rattle.index.specs.declared.Reading.the-variants.{Whole, Dated, Fault};
+ghost use Rattle.index.specs.Entries.{entryAs, readingAs, readingOf};
 use crate::Entry;
 use crate::Reading;
 use crate::keys::slot_ad;
@@ -25,10 +25,21 @@ use crate::keys::slot_th;
 
 // A record that is long enough, by whether its ranges hold.
 fn checked(ok: bool, entry: Entry) -> Reading
-    ensures { λ r. ⌜ r ≡ checked ok entry ⌝ }
+    ensures { λ r. ⌜ r ≡ cond ok (Whole entry) (Fault 3) ⌝ }
 {
     if ok {
         Reading::Whole(entry)
+    } else {
+        Reading::Fault(3)
+    }
+}
+
+// The same of a record with a first hour.
+fn checked_dated(ok: bool, entry: Entry) -> Reading
+    ensures { λ r. ⌜ r ≡ cond ok (Dated entry) (Fault 3) ⌝ }
+{
+    if ok {
+        Reading::Dated(entry)
     } else {
         Reading::Fault(3)
     }
@@ -247,9 +258,70 @@ fn read_lc(s: &[u8]) -> Reading
     checked(records::lc_ok(s), entry_lc(s))
 }
 
-// Of a rest whose mark has no key: RS, LC, or unknown.
-fn read_keyless(rest: &[u8]) -> Reading
-    requires { ⌜ (2 ≤ length (now rest)) × (keyWidth (mark (now rest)) ≡ 0) ⌝ }
+// FV
+fn entry_fv(s: &[u8]) -> Entry
+    ensures { λ r. ⌜ r ≡ entryAs FV (now (s .entry)) ⌝ }
+{
+    Entry {
+        len: records::FV.length,
+        slot: slot_fu(fields::u8_at(s, 10) as usize),
+    }
+}
+
+fn read_fv(s: &[u8]) -> Reading
+    ensures { λ r. ⌜ r ≡ readingAs FV (now (s .entry)) ⌝ }
+{
+    if s.len() < records::FV.length {
+        return Reading::Fault(2);
+    }
+    checked_dated(records::fv_ok(s), entry_fv(s))
+}
+
+// AV
+fn entry_av(s: &[u8]) -> Entry
+    ensures { λ r. ⌜ r ≡ entryAs AV (now (s .entry)) ⌝ }
+{
+    Entry {
+        len: records::AV.length,
+        slot: slot_ad(
+            fields::u8_at(s, 10) as usize,
+            fields::u8_at(s, 11) as usize,
+            fields::u8_at(s, 12) as usize,
+        ),
+    }
+}
+
+fn read_av(s: &[u8]) -> Reading
+    ensures { λ r. ⌜ r ≡ readingAs AV (now (s .entry)) ⌝ }
+{
+    if s.len() < records::AV.length {
+        return Reading::Fault(2);
+    }
+    checked_dated(records::av_ok(s), entry_av(s))
+}
+
+// MV
+fn entry_mv(s: &[u8]) -> Entry
+    ensures { λ r. ⌜ r ≡ entryAs MV (now (s .entry)) ⌝ }
+{
+    Entry {
+        len: records::MV.length,
+        slot: slot_mm(fields::u8_at(s, 10) as usize, fields::u8_at(s, 11) as usize),
+    }
+}
+
+fn read_mv(s: &[u8]) -> Reading
+    ensures { λ r. ⌜ r ≡ readingAs MV (now (s .entry)) ⌝ }
+{
+    if s.len() < records::MV.length {
+        return Reading::Fault(2);
+    }
+    checked_dated(records::mv_ok(s), entry_mv(s))
+}
+
+// Of a rest whose mark has a first hour or no key, or is unknown.
+fn read_rare(rest: &[u8]) -> Reading
+    requires { ⌜ (2 ≤ length (now rest)) × (rare (mark (now rest)) ≡ true) ⌝ }
     ensures { λ r. ⌜ r ≡ readingOf (now (rest .entry)) ⌝ }
 {
     if records::is_mark(rest, b"RS") {
@@ -258,12 +330,21 @@ fn read_keyless(rest: &[u8]) -> Reading
     if records::is_mark(rest, b"LC") {
         return read_lc(rest);
     }
+    if records::is_mark(rest, b"FV") {
+        return read_fv(rest);
+    }
+    if records::is_mark(rest, b"AV") {
+        return read_av(rest);
+    }
+    if records::is_mark(rest, b"MV") {
+        return read_mv(rest);
+    }
     Reading::Fault(1)
 }
 
 // The entry of the same.
-fn entry_keyless(rest: &[u8]) -> Entry
-    requires { ⌜ keyWidth (mark (now rest)) ≡ 0 ⌝ }
+fn entry_rare(rest: &[u8]) -> Entry
+    requires { ⌜ rare (mark (now rest)) ≡ true ⌝ }
     ensures { λ r. ⌜ r ≡ entryAs (mark (now (rest .entry))) (now (rest .entry)) ⌝ }
 {
     if records::is_mark(rest, b"RS") {
@@ -271,6 +352,15 @@ fn entry_keyless(rest: &[u8]) -> Entry
     }
     if records::is_mark(rest, b"LC") {
         return entry_lc(rest);
+    }
+    if records::is_mark(rest, b"FV") {
+        return entry_fv(rest);
+    }
+    if records::is_mark(rest, b"AV") {
+        return entry_av(rest);
+    }
+    if records::is_mark(rest, b"MV") {
+        return entry_mv(rest);
     }
     Entry {
         len: records::UNKNOWN.length,
@@ -340,7 +430,7 @@ pub fn read(rest: &[u8]) -> Reading
     if records::is_mark(rest, b"RQ") {
         return read_rq(rest);
     }
-    read_keyless(rest)
+    read_rare(rest)
 }
 
 // The entry of a record that is known to be without fault.
@@ -374,5 +464,5 @@ pub fn entry_at(rest: &[u8]) -> Entry
     if records::is_mark(rest, b"RQ") {
         return entry_rq(rest);
     }
-    entry_keyless(rest)
+    entry_rare(rest)
 }

@@ -10,7 +10,7 @@ use lib.Seq.{getD-set-same}
 use borrow.Author.Tests.{ltb-true, ltb-false, eq-eqb, eqb-true}
 use Rattle.lists.specs.Lists.{Each, done, also, Member, here, there}
 use Rattle.lists.proofs.Lists.{each-map, member-each}
-use Rattle.records.specs.Record.{mark, issue, keyOf, fault}
+use Rattle.records.specs.Record.{kind, issue, keyOf, fault}
 use Rattle.station.specs.Current.{twin, anyTwin}
 use Rattle.index.specs.Slots.{slot}
 use Rattle.index.proofs.KeyBounds.{in-key}
@@ -18,11 +18,11 @@ use Rattle.index.proofs.Slots.{slot-apart}
 use Rattle.twins.specs.Tree.{place, node, Open, Shape}
 use Rattle.twins.proofs.Tree.{Hit, no-hit, id-same, hit-same, new-hit, place-fits}
 
--- the slot of a record's mark and key
+-- the slot of a record's kind and key
 abbrev pub slotOf : List ℕ → ℕ
-slotOf r = slot (mark r) (keyOf r)
+slotOf r = slot (kind r) (keyOf r)
 
--- mark, key and issue as one number
+-- kind, key and issue as one number
 abbrev pub id : List ℕ → ℕ
 id r = slotOf r * 4294967296 + issue r
 
@@ -48,17 +48,17 @@ unfolding twin
 same-id r s f g p q e =
     let i : issue r ≡ issue s = omega (arith, p, q, e) in
     let j : slotOf r ≡ slotOf s = omega (arith, p, q, e) in
-    let z = slot-apart (mark r) (keyOf r) (mark s) (keyOf s) (in-key r f) (in-key s g) j in
-    rw (z .0, z .1, i, eq-eqb (mark s) (mark s) refl, eq-eqb (keyOf s) (keyOf s) refl, eq-eqb (issue s) (issue s) refl) refl
+    let z = slot-apart (kind r) (keyOf r) (kind s) (keyOf s) (in-key r f) (in-key s g) j in
+    rw (z .0, z .1, i, eq-eqb (kind s) (kind s) refl, eq-eqb (keyOf s) (keyOf s) refl, eq-eqb (issue s) (issue s) refl) refl
 
--- twins have one mark, key and issue
-twin-parts : (r s : List ℕ) → twin r s ≡ true → (mark r ≡ mark s) × (keyOf r ≡ keyOf s) × (issue r ≡ issue s)
+-- twins have one kind, key and issue
+twin-parts : (r s : List ℕ) → twin r s ≡ true → (kind r ≡ kind s) × (keyOf r ≡ keyOf s) × (issue r ≡ issue s)
 unfolding twin
-twin-parts r s e = go (eqb (mark r) (mark s)) refl (eqb (keyOf r) (keyOf s)) refl (eqb (issue r) (issue s)) refl e
+twin-parts r s e = go (eqb (kind r) (kind s)) refl (eqb (keyOf r) (keyOf s)) refl (eqb (issue r) (issue s)) refl e
   where
-    go : (a : Bool) → eqb (mark r) (mark s) ≡ a → (b : Bool) → eqb (keyOf r) (keyOf s) ≡ b → (c : Bool) → eqb (issue r) (issue s) ≡ c → a && b && c ≡ true
-        → (mark r ≡ mark s) × (keyOf r ≡ keyOf s) × (issue r ≡ issue s)
-    go true x true y true z h = (eqb-true (mark r) (mark s) x, eqb-true (keyOf r) (keyOf s) y, eqb-true (issue r) (issue s) z)
+    go : (a : Bool) → eqb (kind r) (kind s) ≡ a → (b : Bool) → eqb (keyOf r) (keyOf s) ≡ b → (c : Bool) → eqb (issue r) (issue s) ≡ c → a && b && c ≡ true
+        → (kind r ≡ kind s) × (keyOf r ≡ keyOf s) × (issue r ≡ issue s)
+    go true x true y true z h = (eqb-true (kind r) (kind s) x, eqb-true (keyOf r) (keyOf s) y, eqb-true (issue r) (issue s) z)
     go true x true y false z h = absurd (false≢true h)
     go true x false y c z h = absurd (false≢true h)
     go false x b y c z h = absurd (false≢true h)
@@ -87,7 +87,7 @@ pub no-twin : {n : ℕ} {s : List (List ℕ)} {l ids : List ℕ} {count : ℕ} �
     → (m : ℕ) → Open n l ids (id r) m → node n l (id r) m ≡ 0 → anyTwin r s ≡ false
 no-twin {n} {s} {l} {ids} t r m o z = none-any r (each-map (λ w h e. no-hit n l ids (id r) m o z (moved w (twin-parts r w e) h)) (t .stored))
   where
-    moved : (w : List ℕ) → (mark r ≡ mark w) × (keyOf r ≡ keyOf w) × (issue r ≡ issue w) → Hit n l ids (id w) → Hit n l ids (id r)
+    moved : (w : List ℕ) → (kind r ≡ kind w) × (keyOf r ≡ keyOf w) × (issue r ≡ issue w) → Hit n l ids (id w) → Hit n l ids (id r)
     moved w p h = rw (p .0, p .1, p .2) h
 
 -- and then the record joins those seen

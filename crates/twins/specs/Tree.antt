@@ -1,4 +1,4 @@
--- A tree of ids in two arrays. An id is a record's mark, key and issue as one number. Each has a node; its way to it begins at a root, by a number mixed
+-- A tree of ids in two arrays. An id is a record's kind, key and issue as one number. Each has a node; its way to it begins at a root, by a number mixed
 -- of the id, and goes on by the id's bits: each node has two links.
 use mathlib.Core.Path.{_≡_}
 use mathlib.Core.Bool.{Bool, true, false}

@@ -1,4 +1,4 @@
-// 4: mark, key and issue seen before.
+// 4: kind, key and issue seen before.
 ghost use mathlib.Core.Path.{_≡_};
 ghost use mathlib.Core.List.{[]};
 ghost use Prim.Native.Nat.{_≤_};

@@ -1,5 +1,5 @@
 use borrow.Author.Needs.{needs}
-use mathlib.Core.Bool.{true, false, _&&_}
+use mathlib.Core.Bool.{true, false, _&&_, Bool}
 use mathlib.Core.List.{List}
 use mathlib.Core.Logic.{inl, inr}
 use mathlib.Core.Path.{_≡_, ap, ap₂, sym, subst, _∙_}
@@ -22,7 +22,7 @@ use Rattle.index.proofs.charging.intervals_from.Tie as tie
 abbrev Inv-loop : tie.InvT-loop
 Inv-loop d index₀ lent end₀ rising₀ top₀ sums₀ i₀ index end rising top sums i =
     (end ≤ length d) × (end₀ ≤ end) × (length index ≡ length index₀) × (i ≡ intervalAt d end) × HeldSums d index (sums .cost) (sums .energy)
-    × ((a : Kept) → Rest (keepStep d) a d end₀ (kept index₀ rising₀ top₀) → Rest (keepStep d) a d end (kept index rising top))
+    × ((a : Kept) (f : Bool) → Rest (keepStep d) a d end₀ (kept index₀ rising₀ top₀ f) → Rest (keepStep d) a d end (kept index rising top f))
 
 abbrev μ-loop : tie.MeasureT-loop
 μ-loop d index₀ lent end₀ rising₀ top₀ sums₀ i₀ index end rising top sums i = length d - end
@@ -133,17 +133,17 @@ loop-again c =
           | inr x ↦ rw (x .1, x .3) (l .inv .4)
         ]
       ],
-      λ a r.
+      λ a f r.
           elim (c .before .if2 .came) [
-            | inl x ↦ rw (x .4, x .5) (run-new (d-of t) (at-of t) (there t) a (l .index) (l .rising) (l .top) (l .inv .5 a r) ej em (x .2 .taken))
+            | inl x ↦ rw (x .4, x .5) (run-new (d-of t) (at-of t) (there t) a (l .index) (l .rising) (l .top) f (l .inv .5 a f r) ej em (x .2 .taken))
             | inr y ↦ elim y [
               | inl x ↦ rw (x .8, x .9) (subst (λ (k : ℕ). Rest (keepStep (d-of t)) a (d-of t) (at-of t + 16)
                   (kept (set (l .index) (c .before .before .before .slot-ch .result) (x .5 .result)) (l .rising && ltb (x .3 .result) k)
-                  (c .before .before .higher-of .result))) (sym (its-issue t))
-                  (run-held (d-of t) (at-of t) (there t) a (l .index) (l .rising) (l .top) (l .inv .5 a r) ej em (x .3 .ensures)
+                  (c .before .before .higher-of .result) f)) (sym (its-issue t))
+                  (run-held (d-of t) (at-of t) (there t) a (l .index) (l .rising) (l .top) f (l .inv .5 a f r) ej em (x .3 .ensures)
                   (x .5 .ensures ∙ ap (λ (k : ℕ). newer (x .3 .result) k (getD (l .index) (c .before .before .before .slot-ch .result) 0) (at-of t + 1))
                   (its-issue t))))
-              | inr x ↦ rw (x .1, x .2) (run-beyond (d-of t) (at-of t) (there t) a (l .index) (l .rising) (l .top) (l .inv .5 a r) ej em (x .0 .left))
+              | inr x ↦ rw (x .1, x .2) (run-beyond (d-of t) (at-of t) (there t) a (l .index) (l .rising) (l .top) f (l .inv .5 a f r) ej em (x .0 .left))
             ]
           ],
     )

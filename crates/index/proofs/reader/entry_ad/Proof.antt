@@ -1,6 +1,6 @@
 use mathlib.Core.Path.{ap, _∙_}
 use Rattle.records.specs.Table.{table, rowOf, AD}
-use Rattle.records.specs.Record.{widths, size, keyIn, keyWidth}
+use Rattle.records.specs.Record.{widths, size, keyIn, keyWidth, fieldsAt, kindOf, isDated}
 use Rattle.index.specs.Slots.{slot, slotAt}
 use Rattle.index.specs.Entries.{entry}
 use Rattle.index.proofs.Entries.{three-fields}
@@ -9,7 +9,7 @@ use Rattle.index.proofs.reader.entry_ad.Statement.{statement}
 use Rattle.index.proofs.reader.entry_ad.Tie as tie
 
 returns : tie.Need-returns
-unfolding slotAt size widths keyWidth keyIn rowOf table
+unfolding slotAt size widths keyWidth keyIn rowOf table fieldsAt kindOf isDated
 returns c =
     ap (entry _) (c .slot-ad .ensures ∙ ap (slot AD) (rw
     (c .before .before .before .u8-at .ensures, c .before .before .u8-at2 .ensures, c .before .u8-at3 .ensures) (three-fields _)))

@@ -1,7 +1,7 @@
 use mathlib.Core.Path.{sym, _∙_}
 use Rattle.records.specs.Table.{table}
 use Rattle.records.specs.Record.{markIn}
-use Rattle.records.proofs.Marks.{letters-no-key}
+use Rattle.records.proofs.EveryMark.{letters-rare}
 use Rattle.records.proofs.Read.{begun}
 use Rattle.index.proofs.Entries.{entry-as}
 use borrow.Author.Needs.{needs}
@@ -44,8 +44,8 @@ returns-9 : tie.Need-returns-9
 unfolding markIn table
 returns-9 c = c .entry-rq .ensures ∙ entry-as _ (begun 82 81 _ (sym (c .before .before .is-mark9 .ensures) ∙ c .before .if9 .taken))
 
-entry-keyless-requires : tie.Need-entry-keyless-requires
-entry-keyless-requires c κs =
+entry-rare-requires : tie.Need-entry-rare-requires
+entry-rare-requires c κs =
     let c8 = c .before .before .before in
     let c7 = c8 .before .before .before in
     let c6 = c7 .before .before .before in
@@ -54,14 +54,14 @@ entry-keyless-requires c κs =
     let c3 = c4 .before .before .before in
     let c2 = c3 .before .before .before in
     let c1 = c2 .before .before .before in
-    letters-no-key _ (sym (c2 .before .is-mark2 .ensures) ∙ c2 .if2 .left) (sym (c6 .before .is-mark6 .ensures) ∙ c6 .if6 .left)
+    letters-rare _ (sym (c2 .before .is-mark2 .ensures) ∙ c2 .if2 .left) (sym (c6 .before .is-mark6 .ensures) ∙ c6 .if6 .left)
     (sym (c7 .before .is-mark7 .ensures) ∙ c7 .if7 .left) (sym (c8 .before .is-mark8 .ensures) ∙ c8 .if8 .left)
     (sym (c .before .is-mark9 .ensures) ∙ c .if9 .left) (sym (c4 .before .is-mark4 .ensures) ∙ c4 .if4 .left)
     (sym (c1 .before .is-mark .ensures) ∙ c1 .if1 .left) (sym (c3 .before .is-mark3 .ensures) ∙ c3 .if3 .left)
     (sym (c5 .before .is-mark5 .ensures) ∙ c5 .if5 .left)
 
 returns-10 : tie.Need-returns-10
-returns-10 c = c .entry-keyless .ensures
+returns-10 c = c .entry-rare .ensures
 
 pub entry-at-spec : {M : Type 1} → statement M
 entry-at-spec =
@@ -94,5 +94,5 @@ entry-at-spec =
     (λ c κs. search needs)
     (λ c κs. search needs)
     returns-9
-    entry-keyless-requires
+    entry-rare-requires
     returns-10)

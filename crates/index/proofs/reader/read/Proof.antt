@@ -1,7 +1,7 @@
 use mathlib.Core.Path.{refl, sym, _∙_}
 use Rattle.records.specs.Table.{HP, FU, AD, MM, RQ, HR, CH, TH, FP, table}
 use Rattle.records.specs.Record.{markIn}
-use Rattle.records.proofs.Marks.{letters-no-key}
+use Rattle.records.proofs.EveryMark.{letters-rare}
 use Rattle.index.proofs.Entries.{reading-short, reading-as}
 use borrow.Author.Needs.{needs}
 use Rattle.index.proofs.reader.read.Statement.{statement}
@@ -75,8 +75,8 @@ returns-10 c =
     c .read-rq .ensures ∙ reading-as 82 81 RQ _ refl refl
     (b .before .before .before .before .before .before .before .before .if1 .left) (sym (c .before .before .is-mark8 .ensures) ∙ c .before .if10 .taken)
 
-read-keyless-requires : tie.Need-read-keyless-requires
-read-keyless-requires c κs =
+read-rare-requires : tie.Need-read-rare-requires
+read-rare-requires c κs =
     let c8 = c .before .before .before in
     let c7 = c8 .before .before .before in
     let c6 = c7 .before .before .before in
@@ -86,7 +86,7 @@ read-keyless-requires c κs =
     let c2 = c3 .before .before .before in
     let c1 = c2 .before .before .before in (
       c1 .before .before .before .if1 .left,
-      letters-no-key _ (sym (c2 .before .is-mark .ensures) ∙ c2 .if3 .left)
+      letters-rare _ (sym (c2 .before .is-mark .ensures) ∙ c2 .if3 .left)
           (sym (c6 .before .is-mark5 .ensures) ∙ c6 .if7 .left) (sym (c7 .before .is-mark6 .ensures) ∙ c7 .if8 .left)
           (sym (c8 .before .is-mark7 .ensures) ∙ c8 .if9 .left) (sym (c .before .is-mark8 .ensures) ∙ c .if10 .left)
           (sym (c4 .before .is-mark3 .ensures) ∙ c4 .if5 .left) (sym (c1 .before .begins-with .ensures) ∙ c1 .if2 .left)
@@ -94,7 +94,7 @@ read-keyless-requires c κs =
     )
 
 returns-11 : tie.Need-returns-11
-returns-11 c = c .read-keyless .ensures
+returns-11 c = c .read-rare .ensures
 
 pub read-spec : {M : Type 1} → statement M
 read-spec =
@@ -128,5 +128,5 @@ read-spec =
     (λ c κs. search needs)
     (λ c κs. search needs)
     returns-10
-    read-keyless-requires
+    read-rare-requires
     returns-11)

@@ -1,0 +1,5 @@
+pub mod Emptied
+pub mod Marks
+pub mod Filled
+pub mod Undated
+pub mod Loop

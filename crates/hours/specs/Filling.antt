@@ -1,0 +1,39 @@
+-- The index of an hour, as code makes it of the index of all records: the slots of kinds that may have first hours are emptied and filled again.
+use mathlib.Core.Bool.{cond, _&&_}
+use mathlib.Core.List.{List}
+use Prim.Native.Nat.{ℕ, zero, suc, _+_}
+use lib.Dec.{leb}
+use lib.ListN.{set}
+use Rattle.records.specs.Record.{kindOf, kind, datable, since}
+use Rattle.records.specs.Dossier.{records}
+use Rattle.records.specs.Walk.{Step, folded}
+use Rattle.index.specs.Slots.{slotAt, put}
+
+-- the first of the slots of FU, AD and MM, which lie together
+abbrev pub firstDated : ℕ
+firstDated = 22
+
+-- how many they are
+abbrev pub manyDated : ℕ
+manyDated = 116
+
+-- an index with the first n of them emptied
+unfoldable pub clearedTo : List ℕ → ℕ → List ℕ
+clearedTo ix zero = ix
+clearedTo ix (suc n) = set (clearedTo ix n) (firstDated + n) 0
+
+-- with all of them
+abbrev pub cleared : List ℕ → List ℕ
+cleared ix = clearedTo ix manyDated
+
+-- the slot of a record of mark k at the front of a rest, if its kind may have first hours; else 0, which is RS's
+unfoldable pub datedSlot : ℕ → List ℕ → ℕ
+datedSlot k s = cond (datable (kindOf k)) (slotAt k s) 0
+
+-- a record of such a kind at place p of dossier d goes into its slot if its first hour has come, unless a higher issue is there
+unfoldable pub hourStep : ℕ → List ℕ → Step (List ℕ)
+hourStep h d ix p r = cond (datable (kind r) && leb (since r) h) (put d ix p r) ix
+
+-- what an index becomes with those of a dossier
+unfoldable pub filledAt : ℕ → List ℕ → List ℕ → List ℕ
+filledAt h d ix = folded (hourStep h d) 0 ix (records d)

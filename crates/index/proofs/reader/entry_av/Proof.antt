@@ -1,0 +1,28 @@
+use mathlib.Core.Path.{ap, _∙_}
+use Rattle.records.specs.Table.{table, rowOf, AD}
+use Rattle.records.specs.Record.{widths, size, keyIn, keyWidth, fieldsAt, kindOf, isDated}
+use Rattle.index.specs.Slots.{slot, slotAt}
+use Rattle.index.specs.Entries.{entry}
+use Rattle.index.proofs.Entries.{three-fields-dated}
+use borrow.Author.Needs.{needs}
+use Rattle.index.proofs.reader.entry_av.Statement.{statement}
+use Rattle.index.proofs.reader.entry_av.Tie as tie
+
+returns : tie.Need-returns
+unfolding slotAt size widths keyWidth keyIn rowOf table fieldsAt kindOf isDated
+returns c =
+    ap (entry _) (c .slot-ad .ensures ∙ ap (slot AD) (rw
+    (c .before .before .before .u8-at .ensures, c .before .before .u8-at2 .ensures, c .before .u8-at3 .ensures) (three-fields-dated _)))
+
+pub entry-av-spec : {M : Type 1} → statement M
+entry-av-spec =
+    tie.close
+    (tie.spec
+    (λ c κs. search needs)
+    (λ c. search needs)
+    (λ c κs. search needs)
+    (λ c. search needs)
+    (λ c κs. search needs)
+    (λ c. search needs)
+    (λ c κs. search needs)
+    returns)
