@@ -7,7 +7,9 @@ use native.Mathlib.Omega.{arith}
 use Rattle.fields.specs.Numbers.{number}
 use Rattle.fields.proofs.Numbers.{number-nil}
 use Rattle.records.specs.Table.{AD, MM, LC}
+use Rattle.records.specs.MarkShapes.{body}
 use Rattle.records.specs.Dossier.{records}
+use Rattle.records.proofs.Dated.{body-nil}
 use Rattle.station.specs.Parameters.{adderKey, adder, itemKey, costC, outputW, intervalT, hoursPerStartS, lastCost}
 use Rattle.station.proofs.Fields.{adder-at, costC-at, lastCost-at}
 use Rattle.index.specs.Slots.{slot, slotsEmpty}
@@ -31,7 +33,7 @@ module _ {d ix : List ℕ} (h : Indexed d ix) (p : ℕ) (a : 1 ≤ p) (b : p ≤
         let low = adder-slot p 1 1 (omega arith) (omega arith) in
         let own = adder-slot p c v (omega arith) (omega arith) in
         adder-at (held d ix) p c v
-        ∙ ap (number 9 8) (held-in-empty h AD n refl k j 20 empty (omega (arith, first, low, own)) (omega (arith, first, low, own)))
+        ∙ ap (number 9 8) (ap body (held-in-empty h AD n refl k j 20 empty (omega (arith, first, low, own)) (omega (arith, first, low, own))) ∙ body-nil)
         ∙ number-nil 9 8
 
     pub no-adders : 0 ≡ microDollars (adders (amountsHeld d ix) p v)
@@ -45,7 +47,7 @@ module _ {d ix : List ℕ} (h : Indexed d ix) (p : ℕ) (a : 1 ≤ p) (b : p ≤
         let n : ℕ = itemKey p i in
         let k = item-key p i a b u w in
         costC-at (held d ix) p i
-        ∙ ap (number 8 8) (held-in-empty h MM n refl k j 8 empty (omega (arith, first)) (omega (arith, first)))
+        ∙ ap (number 8 8) (ap body (held-in-empty h MM n refl k j 8 empty (omega (arith, first)) (omega (arith, first))) ∙ body-nil)
         ∙ number-nil 8 8
 
     pub no-maintenance : 0 ≡ microDollars (maintenance (parametersHeld d ix) (amountsHeld d ix) p)
@@ -62,5 +64,5 @@ module _ {d ix : List ℕ} (h : Indexed d ix) (p : ℕ) (a : 1 ≤ p) (b : p ≤
         (λ i z. quotient-of-none _ _ (rw (no-item (suc (0 + i)) (omega arith) (omega arith)) (omega arith))))
 
 -- a dossier that a short index has slots for has no LC
-pub no-last-cost : (d ix : List ℕ) → Indexed d ix → true ≡ fitsShort d → 0 ≡ lastCost (amountsIn d)
-no-last-cost d ix h e = sym (lastCost-at (records d) ∙ ap (number 6 4) (short-none d ix h e LC 0 refl) ∙ number-nil 6 4)
+pub no-last-cost : (d : List ℕ) → true ≡ fitsShort d → 0 ≡ lastCost (amountsIn d)
+no-last-cost d e = sym (lastCost-at (records d) ∙ ap (number 6 4) (short-none d e LC 0 refl) ∙ number-nil 6 4)

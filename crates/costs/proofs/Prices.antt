@@ -15,10 +15,11 @@ use Rattle.lists.proofs.Tests.{between-low}
 use Rattle.fields.specs.Numbers.{biased}
 use Rattle.fields.proofs.Numbers.{number-nil}
 use Rattle.records.specs.Table.{Field, table, rowOf, fieldOf, price, HR, FP}
-use Rattle.records.specs.Record.{offset, read, value, inRange, fault}
+use Rattle.records.specs.Record.{mark, kind, offset, read, value, told, inRange, fault}
 use Rattle.records.proofs.Record.{faultless, field-range}
+use Rattle.records.proofs.Dated.{kind-fields, kind-field, told-value, told-nil}
 use Rattle.station.specs.Current.{current}
-use Rattle.station.specs.Declared.{CurrentOf, absent, standing}
+use Rattle.station.specs.Declared.{IsCurrent, CurrentOf, absent, standing}
 use Rattle.station.specs.Parameters.{amounts, hourPrice, placePrice}
 use Rattle.station.proofs.Current.{current-found}
 use Rattle.station.proofs.Parameters.{amount-high}
@@ -71,17 +72,22 @@ prices-ready c f l w h e p = rw (prices-part c f l w h e) (length-listTo w f, ea
 -- ---- a mark whose field 1 is a price
 
 module _ (k : ℕ) (is-price : fieldOf k 1 ≡ price) (two : 1 < length (rowOf k .fields)) where
-  price-low : {l : List (List ℕ)} → Each (λ r. fault r ≡ 0) l → (n : ℕ) → 2147283648 ≤ value k 1 (current k n l)
+  price-range : {l : List (List ℕ)} → Each (λ r. fault r ≡ 0) l → (n : ℕ) (r : List ℕ) → IsCurrent k n l r → inRange (fieldOf k 1) (told k 1 r) ≡ true
+  unfolding kind
+  price-range e n r q =
+      rw (told-value k 1 r (q .marked), ← kind-field (mark r) k 1 (q .marked))
+      (field-range r (faultless r (member-each (q .member) e)) 1 (rw (kind-fields (mark r), q .marked) two))
+
+  price-low : {l : List (List ℕ)} → Each (λ r. fault r ≡ 0) l → (n : ℕ) → 2147283648 ≤ told k 1 (current k n l)
   unfolding value read inRange biased
   price-low {l} e n = go (current k n l) (current-found k n l)
     where
-      go : (r : List ℕ) → CurrentOf k n l r → 2147283648 ≤ value k 1 r
+      go : (r : List ℕ) → CurrentOf k n l r → 2147283648 ≤ told k 1 r
       go r (absent p w) =
-          subst (λ (x : List ℕ). 2147283648 ≤ value k 1 x) (sym p)
+          rw (p, told-nil k 1)
           (subst (λ (f : Field). 2147283648 ≤ read f (offset k 1) []) (sym is-price) (rw (number-nil (offset k 1) 4) (lit≤ tt)))
       go r (standing q) =
-          let h : inRange (fieldOf k 1) (value k 1 r) ≡ true = rw (q .marked) at (field-range r (faultless r (member-each (q .member) e)) 1) two in
-          between-low 2147283648 2147683648 (value k 1 r) (subst (λ (f : Field). inRange f (value k 1 r) ≡ true) is-price h)
+          between-low 2147283648 2147683648 (told k 1 r) (subst (λ (f : Field). inRange f (told k 1 r) ≡ true) is-price (price-range e n r q))
 
   -- a price that is there or not is in its range
   pub price-in : {l : List (List ℕ)} → Each (λ r. fault r ≡ 0) l → (n : ℕ) → PriceIn (amounts l .of k n 1)

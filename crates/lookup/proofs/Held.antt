@@ -1,65 +1,188 @@
 -- The records that the index at hand is of: all that the layers above know of them.
-use mathlib.Core.Path.{_≡_, refl, ap}
-use mathlib.Core.Bool.{true, false, cond}
+use mathlib.Core.Path.{_≡_, refl, ap, ap₂, sym, subst, _∙_}
+use mathlib.Core.Bool.{Bool, true, false, cond, not, false≢true}
 use mathlib.Core.List.{List, []}
 use Prim.Native.Nat.{ℕ, _≤_, _<_, _+_}
-use Rattle.lists.specs.Lists.{Each}
-use Rattle.records.specs.Table.{fieldOf}
-use Rattle.records.specs.Record.{size, isMoney, value, fault}
+use native.Mathlib.Omega.{arith}
+use lib.Dec.{leb, ltb, eqb, lit<}
+use lib.ListN.{length, getD}
+use borrow.Author.Tests.{eqb-true, le-leb}
+use Rattle.lists.specs.Lists.{Each, those}
+use Rattle.lists.specs.Tests.{among, same}
+use Rattle.lists.proofs.Lists.{each-map, each-of, those-each, those-all, member-those}
+use Rattle.lists.proofs.Tests.{split}
+use Rattle.records.specs.Table.{table, fieldOf, kinds, FU, AD, MM}
+use Rattle.records.specs.Record.{mark, kind, datable, since, size, isMoney, told, fault, keyOf}
+use Rattle.records.specs.MarkShapes.{keyTest, body}
 use Rattle.records.specs.Dossier.{records}
 use Rattle.records.proofs.Dossier.{scan-each}
-use Rattle.station.specs.Current.{current, present}
+use Rattle.records.proofs.Record.{size-ge}
+use Rattle.records.proofs.Dated.{since-zero}
+use Rattle.station.specs.Current.{matches, currentFrom, current, present}
+use Rattle.station.specs.InForce.{inForce}
 use Rattle.station.specs.Parameters.{parameters, amounts}
+use Rattle.station.specs.Declared.{CurrentOf, absent, standing}
+use Rattle.station.proofs.Current.{current-found, matches-kind, matches-key, matches-self}
 use Rattle.index.specs.Slots.{slot, slotsEmpty}
-use Rattle.index.proofs.KeyBounds.{InKey}
+use Rattle.index.specs.Holding.{heldRecord, IndexOf}
+use Rattle.index.proofs.KeyBounds.{InKey, key-test, test-key}
 use Rattle.index.proofs.Slots.{early}
-use Rattle.lookup.specs.Parts.{partAt, Indexed, held, parametersHeld, amountsHeld, dated}
-use Rattle.lookup.proofs.Parts.{part-found, current-in-empty, slot-fits}
+use Rattle.index.proofs.Holds.{Good, good-records}
+use Rattle.lookup.specs.Parts.{partAt, bodyAt, Whole, AtHour, Indexed, stands, held, parametersHeld, amountsHeld}
+use Rattle.lookup.proofs.Parts.{fits, none-current, unmatched, index-part, index-body, index-tells, index-in-empty, whole-index}
+use Rattle.lookup.proofs.Those.{all-those, Tells, found, nothing}
+
+-- a kind that may have first hours has slots in every index
+datable-early : (k : ℕ) → datable k ≡ true → (k < kinds) × (early k ≡ true)
+unfolding datable among table
+datable-early k e =
+    split (eqb k 0)
+    (λ a. rw (eqb-true k 0 a) (lit< tt, refl))
+    (λ a. split (eqb k FU)
+    (λ b. rw (eqb-true k FU b) (lit< tt, refl))
+    (λ b. split (eqb k AD)
+    (λ c. rw (eqb-true k AD c) (lit< tt, refl))
+    (λ c. split (eqb k MM)
+    (λ m. rw (eqb-true k MM m) (lit< tt, refl))
+    (λ m. absurd (false≢true (sym (rw (a, b, c, m) refl) ∙ e))))))
 
 module _ {d ix : List ℕ} (h : Indexed d ix) where
+  abbrev some : List (List ℕ)
+  some = those (h .keep) (records d)
+
+  good : Each Good (records d)
+  good = good-records d (h .index .clean)
+
+  pub some-good : Each Good some
+  some-good = those-each (h .keep) good
+
+  filled : Each (λ r. 0 < length r) (records d)
+  filled = each-map (λ r g. omega (arith, g .1, size-ge (mark r))) good
+
   -- they are faultless
   pub held-clean : Each (λ r. fault r ≡ 0) (held d ix)
   unfolding held
-  held-clean = scan-each 0 (records d) (h .clean)
+  held-clean = those-each (stands d ix) (scan-each 0 (records d) (h .index .clean))
 
-  -- of other marks than the dated ones they are the dossier's
-  pub held-always : (k n : ℕ) → dated k ≡ false → current k n (held d ix) ≡ current k n (records d)
-  unfolding held
-  held-always k n e = refl
+  module _ (k n : ℕ) where
+    -- of a kind without first hours, no test takes any away
+    always : datable k ≡ false → (f : List ℕ → Bool) → ((r : List ℕ) → datable (kind r) ≡ false → f r ≡ true)
+        → current k n (those f (records d)) ≡ current k n (records d)
+    unfolding current
+    always e f o = all-those k n f [] (each-of (records d) (λ r m. o r (ap datable (matches-kind k n r m) ∙ e)))
 
-  module _ (k n : ℕ) (e : dated k ≡ false) where
-    pub has-always : parametersHeld d ix .has k n ≡ parameters (records d) .has k n
-    unfolding parameters
-    has-always = ap present (held-always k n e)
+    stands-other : (r : List ℕ) → datable (kind r) ≡ false → stands d ix r ≡ true
+    unfolding stands
+    stands-other r e = rw e refl
 
-    pub says-always : (i : ℕ) → parametersHeld d ix .says k n i ≡ parameters (records d) .says k n i
-    unfolding parameters
-    says-always i = ap (λ (r : List ℕ). cond (isMoney (fieldOf k i .role)) 0 (value k i r)) (held-always k n e)
+    -- of any other, the record in its slot stays
+    module _ (e : datable k ≡ true) (i : InKey k n) (fit : slot k n < length ix) where
+      tells : (c : List ℕ) → heldRecord d (getD ix (slot k n) 0) ≡ c → (r : List ℕ) → 0 < length r → Tells k n (stands d ix) c r
+      unfolding stands
+      tells c p r l = (l, λ m. rw (matches-kind k n r m, matches-key k n r m, e, p) refl)
 
-    pub of-always : (i : ℕ) → amountsHeld d ix .of k n i ≡ amounts (records d) .of k n i
-    unfolding amounts
-    of-always i = ap (λ (r : List ℕ). cond (isMoney (fieldOf k i .role)) (value k i r) 0) (held-always k n e)
+      slotted : current k n (held d ix) ≡ current k n some
+      unfolding held current
+      slotted = go (currentFrom k n [] some) (h .index .holds k n (i .low) (key-test k n i) fit) (current-found k n some)
+        where
+          go : (c : List ℕ) → heldRecord d (getD ix (slot k n) 0) ≡ c → CurrentOf k n some c → currentFrom k n [] (those (stands d ix) (records d)) ≡ c
+          go c p (absent z w) = nothing k n (stands d ix) c z (each-map (tells c p) filled)
+          go c p (standing q) =
+              found k n (stands d ix) c (member-those (h .keep) (records d) (q .member))
+              (ap₂ (λ (x y : ℕ). matches x y c) (sym (q .marked)) (sym (q .keyed)) ∙ matches-self c) (each-map (tells c p) filled)
 
-  -- a slot has their current record
-  pub held-found : (k n : ℕ) → early k ≡ true → InKey k n → {j len : ℕ} → j ≡ slot k n → len ≡ size k → partAt d ix j len ≡ current k n (held d ix)
-  unfolding held
-  held-found k n b i = part-found d ix h k n b i
+    -- a number that is no key has no record
+    keyless : keyTest k n ≡ false → (f : List ℕ → Bool) → current k n (those f (records d)) ≡ []
+    unfolding current
+    keyless e f = none-current k n [] (those-each f (unmatched k n e good))
 
-  pub held-in-empty : (k n : ℕ) → early k ≡ true → InKey k n → (j m : ℕ) → slotsEmpty ix j m ≡ true → j ≤ slot k n → slot k n < j + m
-      → current k n (held d ix) ≡ []
-  unfolding held
-  held-in-empty k n b i = current-in-empty d ix h k n i (slot-fits d ix h k n b i refl)
+    -- so what is current among the records held is current among those of the index
+    pub current-some : current k n (held d ix) ≡ current k n some
+    unfolding held
+    current-some =
+        split (datable k)
+        (λ e. split (keyTest k n)
+        (λ t. let z = datable-early k e in let i = test-key k n (z .0) t in slotted e i (fits ix (h .index .roomy) k n i (z .1)))
+        (λ f. keyless f (stands d ix) ∙ sym (keyless f (h .keep))))
+        (λ e. always e (stands d ix) stands-other ∙ sym (always e (h .keep) (h .others)))
 
-  -- where it was filled for all records, or a query, these are the current ones; here two layers meet
-  pub current-held : (k n : ℕ) → current k n (held d ix) ≡ current k n (records d)
-  unfolding held
-  current-held k n = refl
+    -- of kinds without first hours they are the dossier's
+    pub held-always : datable k ≡ false → current k n (held d ix) ≡ current k n (records d)
+    held-always e = current-some ∙ always e (h .keep) (h .others)
 
-  pub parameters-held : parametersHeld d ix ≡ parameters (records d)
+    module _ (e : datable k ≡ false) where
+      pub has-always : parametersHeld d ix .has k n ≡ parameters (records d) .has k n
+      unfolding parameters
+      has-always = ap present (held-always e)
+
+      pub says-always : (i : ℕ) → parametersHeld d ix .says k n i ≡ parameters (records d) .says k n i
+      unfolding parameters
+      says-always i = ap (λ (r : List ℕ). cond (isMoney (fieldOf k i .role)) 0 (told k i r)) (held-always e)
+
+      pub of-always : (i : ℕ) → amountsHeld d ix .of k n i ≡ amounts (records d) .of k n i
+      unfolding amounts
+      of-always i = ap (λ (r : List ℕ). cond (isMoney (fieldOf k i .role)) (told k i r) 0) (held-always e)
+
+    -- a slot has the current record of a kind without first hours
+    pub part-is : InKey k n → slot k n < length ix → datable k ≡ false → {j len : ℕ} → j ≡ slot k n → len ≡ size k → partAt d ix j len ≡ current k n (records d)
+    part-is i fit u p q = index-part (h .index) some-good k n i fit u p q ∙ always u (h .keep) (h .others)
+
+    module _ (b : early k ≡ true) (i : InKey k n) where
+      pub slot-fits : {j : ℕ} → j ≡ slot k n → j < length ix
+      slot-fits a = rw a (fits ix (h .index .roomy) k n i b)
+
+      pub part-found : datable k ≡ false → {j len : ℕ} → j ≡ slot k n → len ≡ size k → partAt d ix j len ≡ current k n (records d)
+      part-found = part-is i (slot-fits refl)
+
+      pub body-found : {j len : ℕ} → j ≡ slot k n → len ≡ size k → bodyAt d ix j len ≡ body (current k n (held d ix))
+      body-found p q = index-body (h .index) some-good k n i (slot-fits refl) p q ∙ ap body (sym current-some)
+
+      -- a slot that is not empty tells that there is one
+      pub slot-says : datable k ≡ false → ltb 0 (length (current k n (records d))) ≡ not (eqb (getD ix (slot k n) 0) 0)
+      slot-says u = ap (λ (c : List ℕ). ltb 0 (length c)) (sym (always u (h .keep) (h .others))) ∙ index-tells (h .index) some-good k n i (slot-fits refl)
+
+      pub held-in-empty : (j m : ℕ) → slotsEmpty ix j m ≡ true → j ≤ slot k n → slot k n < j + m → current k n (held d ix) ≡ []
+      held-in-empty j m e x y = current-some ∙ index-in-empty (h .index) some-good k n i (slot-fits refl) j m e x y
+
+-- ---- where the index was filled for all records, or for an hour; here two layers meet
+
+unfoldable pub whole-indexed : {d ix : List ℕ} → Whole d ix → Indexed d ix
+whole-indexed {d} {ix} h =
+    record {
+      keep = λ r. true;
+      others = λ r e. refl;
+      index = subst (λ (l : List (List ℕ)). IndexOf l d ix) (sym (those-all (λ r. true) (each-of (records d) (λ r. refl)))) (whole-index d ix h);
+    }
+
+unfoldable pub hour-indexed : (h : ℕ) {d ix : List ℕ} → AtHour h d ix → Indexed d ix
+unfolding inForce
+hour-indexed h i =
+    record {
+      keep = λ r. leb (since r) h;
+      others = λ r e. rw (since-zero r e) (le-leb 0 h (omega arith));
+      index = i;
+    }
+
+module _ (h : ℕ) {d ix : List ℕ} (i : AtHour h d ix) where
+  pub current-held : (k n : ℕ) → current k n (held d ix) ≡ current k n (inForce h (records d))
+  unfolding inForce hour-indexed
+  current-held k n = current-some (hour-indexed h i) k n
+
+  pub parameters-held : parametersHeld d ix ≡ parameters (inForce h (records d))
   unfolding parameters
   parameters-held =
-      λ j. record { has = λ k n. present (current-held k n j); says = λ k n i. cond (isMoney (fieldOf k i .role)) 0 (value k i (current-held k n j)) }
+      λ j. record { has = λ k n. present (current-held k n j); says = λ k n m. cond (isMoney (fieldOf k m .role)) 0 (told k m (current-held k n j)) }
 
-  pub amounts-held : amountsHeld d ix ≡ amounts (records d)
+  pub amounts-held : amountsHeld d ix ≡ amounts (inForce h (records d))
   unfolding amounts
-  amounts-held = λ j. record { of = λ k n i. cond (isMoney (fieldOf k i .role)) (value k i (current-held k n j)) 0 }
+  amounts-held = λ j. record { of = λ k n m. cond (isMoney (fieldOf k m .role)) (told k m (current-held k n j)) 0 }
+
+module _ {d ix : List ℕ} (h : Whole d ix) where
+  pub current-whole : (k n : ℕ) → current k n (held d ix) ≡ current k n (records d)
+  unfolding whole-indexed
+  current-whole k n = current-some (whole-indexed h) k n ∙ ap (current k n) (those-all (λ r. true) (each-of (records d) (λ r. refl)))
+
+  pub parameters-whole : parametersHeld d ix ≡ parameters (records d)
+  unfolding parameters
+  parameters-whole =
+      λ j. record { has = λ k n. present (current-whole k n j); says = λ k n m. cond (isMoney (fieldOf k m .role)) 0 (told k m (current-whole k n j)) }

@@ -15,7 +15,7 @@ use Rattle.fields.proofs.Numbers.{number-join}
 use Rattle.records.specs.Table.{Row, table, noRow, rowOf, kinds}
 use Rattle.records.specs.declared.Answer.{Answer}
 use Rattle.records.specs.declared.Answer.the-variants.{Accepted, Refused}
-use Rattle.records.specs.Record.{mark, keyIn, keyWidth}
+use Rattle.records.specs.Record.{mark, kindOf, keyIn, keyWidth}
 use Rattle.records.specs.Answers.{isAccepted}
 use Rattle.records.specs.Dossier.{records}
 use Rattle.station.specs.Current.{longest, current, readable, lookup, lookupBytes}
@@ -80,16 +80,16 @@ part-overlong d k n h = part-refused d k n 13 0 (too-long d h)
 
 -- ---- by the bytes of mark and key
 
-pub looked : (d m key : List ℕ) {k n : ℕ} {p : Part} {l : List ℕ} → k < kinds → l ≡ partBytes d p → p ≡ lookupPart d k n → k ≡ mark m
-    → n ≡ number 0 (length key) key → length m ≡ 2 → length key ≡ keyWidth k → l ≡ lookupBytes d m key
+pub looked : (d m key : List ℕ) {k n : ℕ} {p : Part} {l : List ℕ} → k < kinds → l ≡ partBytes d p → p ≡ lookupPart d k n → k ≡ kindOf (mark m)
+    → n ≡ number 0 (length key) key → length m ≡ 2 → length key ≡ keyWidth (mark m) → l ≡ lookupBytes d m key
 unfolding lookupBytes
 looked d m key {k} {n} b e q g i t w =
-    e ∙ ap (partBytes d) q ∙ lookup-bytes d k n b ∙ rw (eq-eqb (length m) 2 t, eq-eqb (length key) (keyWidth (mark m)) (w ∙ ap keyWidth g), g, i) refl
+    e ∙ ap (partBytes d) q ∙ lookup-bytes d k n b ∙ rw (eq-eqb (length m) 2 t, eq-eqb (length key) (keyWidth (mark m)) w, g, i) refl
 
 pub other-width : (d m key : List ℕ) → (length key ≡ keyWidth (mark m) → ⊥) → [] ≡ lookupBytes d m key
 unfolding lookupBytes
 other-width d m key w = rw (ne-eqb (length key) (keyWidth (mark m)) w) (go (eqb (length m) 2))
   where
-    go : (b : Bool) → [] ≡ cond (b && false) (lookup d (mark m) (number 0 (length key) key)) []
+    go : (b : Bool) → [] ≡ cond (b && false) (lookup d (kindOf (mark m)) (number 0 (length key) key)) []
     go true = refl
     go false = refl

@@ -6,36 +6,42 @@ use Prim.Native.Nat.{ℕ, _+_, _-_, _≤_, _<_}
 use native.Mathlib.Nat.{add-sub-cancel-left}
 use native.Mathlib.Omega.{arith}
 use lib.Dec.{ltb, eqb, lit<, lit≤}
-use lib.ListN.{length, getD, take, drop}
+use lib.ListN.{length, getD, take, drop, length-take, length-drop}
+use lib.Seq.{getD-take, getD-drop, drop-drop, drop-at, take-add}
 use borrow.Author.Tests.{ne-eqb, lt-ltb, le-ltb, eqb-true, eqb-false, ltb-false}
 use Rattle.lists.specs.Lists.{Each, done, also}
-use Rattle.lists.proofs.Lists.{each-map}
+use Rattle.lists.proofs.Lists.{each-map, member-each}
 use Rattle.lists.specs.Tests.{allBelow}
 use Rattle.lists.proofs.Tests.{split, or-false-right, below-at}
 use Rattle.records.specs.Table.{table, rowOf, CH, FP, LC, kinds, HP, FU, AD, MM, RQ, HR, TH}
-use Rattle.records.specs.Record.{mark, size, keyOf, widths}
-use Rattle.records.specs.MarkShapes.{shape, shapeOf, keyTest}
+use Rattle.records.specs.Record.{mark, isDated, kind, datable, size, fieldsAt, keyOf, widths}
+use Rattle.records.specs.MarkShapes.{shape, shapeOf, keyTest, body}
 use Rattle.records.specs.declared.Answer.the-variants.{Accepted}
-use Rattle.records.specs.Dossier.{records, scan}
+use Rattle.records.specs.Dossier.{firstOf, records, scan}
 use Rattle.station.specs.Current.{matches, better, currentFrom, current, startFrom, startOf}
-use Rattle.station.proofs.Current.{matches-mark, matches-key}
-use Rattle.index.specs.Slots.{slot, narrow, wide, slotsEmpty}
-use Rattle.records.proofs.Record.{size-ge}
-use Rattle.records.proofs.Marks.{by-mark}
-use Rattle.index.proofs.KeyBounds.{Spans, InKey, at-mark, in-key, key-test, test-key}
+use Rattle.station.specs.Declared.{CurrentOf, absent as gone, standing}
+use Rattle.station.proofs.Current.{matches-kind, matches-key, current-found}
+use Rattle.index.specs.Slots.{slot, short, narrow, wide, slotsEmpty}
+use Rattle.index.specs.Holding.{heldRecord, IndexOf}
+use Rattle.index.proofs.Holding.{index-of}
+use Rattle.records.proofs.Record.{size-ge, mark-take}
+use Rattle.records.proofs.Dated.{other-mark, plain-mark, none-kind, body-dated, body-plain, body-nil, body-length}
+use Rattle.records.proofs.EveryMark.{by-kind, dated-letter}
+use Rattle.index.proofs.KeyBounds.{Spans, InKey, at-kind, in-key, key-test, test-key}
 use Rattle.index.proofs.Slots.{slot-lt, early, slot-short, slot-narrow, in-empty}
 use Rattle.index.proofs.Holds.{Holds, absent, there, Good, good-records, index-holds}
 use Rattle.lookup.specs.declared.Part.{Part}
-use Rattle.lookup.specs.Parts.{part, partBytes, currentPart, indexOf, placeAt, partAt, Indexed, Complete, UpTo, slotsFor}
+use Rattle.lookup.specs.Parts.{part, partBytes, currentPart, indexOf, placeIn, placeAt, partAt, bodyIn, bodyAt, recordPart, Whole, Complete}
+use Rattle.lookup.specs.Parts.{UpTo, slotsFor}
 
--- ---- how many slots a mark asks for
+-- ---- how many slots a kind asks for
 
 slotTest : ℕ → Bool
 slotTest k = eqb k FP || (eqb k CH || eqb k LC) || early k
 
-early-mark : (k : ℕ) → k < kinds → eqb k FP ≡ false → eqb k CH || eqb k LC ≡ false → early k ≡ true
+early-kind : (k : ℕ) → k < kinds → eqb k FP ≡ false → eqb k CH || eqb k LC ≡ false → early k ≡ true
 unfolding slotTest
-early-mark k h f g =
+early-kind k h f g =
     let t : eqb k FP || (eqb k CH || eqb k LC) || early k ≡ true = below-at kinds slotTest (unfold slotTest allBelow in refl) k h in
     rw (f, g) at t
 
@@ -43,6 +49,17 @@ pub slots-most : (k : ℕ) → slotsFor k ≤ wide
 slots-most k = split (eqb k FP) (λ t. rw t (lit≤ tt)) (λ f. rw f (split (eqb k CH || eqb k LC) (λ t. rw t (lit≤ tt)) (λ g. rw g (lit≤ tt))))
 
 -- ---- a part within the dossier
+
+drop-taken : (n m : ℕ) (l : List ℕ) → n ≤ length l → drop n (take (n + m) l) ≡ take m (drop n l)
+drop-taken n m l h = ap (drop n) (take-add n m l) ∙ drop-at (take n l) (take m (drop n l)) n (length-take n l ∙ omega (arith, h))
+
+held-zero : (d : List ℕ) (v : ℕ) → v ≡ 0 → heldRecord d v ≡ []
+unfolding heldRecord
+held-zero d v z = rw z refl
+
+held-some : (d : List ℕ) (v : ℕ) → (v ≡ 0 → ⊥) → heldRecord d v ≡ take (size (mark (drop (v - 1) d))) (drop (v - 1) d)
+unfolding heldRecord firstOf
+held-some d v z = rw (ne-eqb v 0 z) refl
 
 pub cut : (d : List ℕ) (p : Part) → take (p .start + p .length - p .start) (drop (p .start) d) ≡ partBytes d p
 unfolding partBytes
@@ -57,6 +74,46 @@ place-ends e ix j n q = rw q (go (eqb (getD ix j 0) 0 || ltb e (getD ix j 0 - 1 
     go true x = omega arith
     go false x = ltb-false e (getD ix j 0 - 1 + n) (or-false-right (eqb (getD ix j 0) 0) (ltb e (getD ix j 0 - 1 + n)) x)
 
+-- behind a first hour or not
+module _ (d : List ℕ) (v n : ℕ) where
+  pub body-none : v ≡ 0 → part 0 0 ≡ bodyIn d v n
+  unfolding bodyIn
+  body-none e = rw e refl
+
+  module _ (some : v ≡ 0 → ⊥) {x s : ℕ} (ex : x ≡ cond (eqb (getD d v 0) 86) 4 0) (es : s ≡ v - 1 + x) where
+    at-body : v + cond (eqb (getD d v 0) 86) 4 0 - 1 ≡ s
+    at-body = omega (arith, ex, es, some)
+
+    pub body-beyond : length d < s + n → part 0 0 ≡ bodyIn d v n
+    unfolding bodyIn
+    body-beyond h =
+        rw (ne-eqb v 0 some, ne-eqb (v + cond (eqb (getD d v 0) 86) 4 0) 0 (λ z. omega (arith, z, some)), at-body, lt-ltb (length d) (s + n) h) refl
+
+    pub body-there : s + n ≤ length d → part s n ≡ bodyIn d v n
+    unfolding bodyIn
+    body-there h =
+        rw (ne-eqb v 0 some, ne-eqb (v + cond (eqb (getD d v 0) 86) 4 0) 0 (λ z. omega (arith, z, some)), at-body, le-ltb (length d) (s + n) h) refl
+
+  pub body-ends : {p : Part} → p ≡ bodyIn d v n → p .start + p .length ≤ length d
+  unfolding bodyIn
+  body-ends q = rw q (go (eqb v 0))
+    where
+      w : ℕ
+      w = v + cond (eqb (getD d v 0) 86) 4 0
+
+      inner : (b : Bool) → eqb w 0 || ltb (length d) (w - 1 + n) ≡ b → cond b (part 0 0) (part (w - 1) n) .start + cond b (part 0 0) (part (w - 1) n) .length
+          ≤ length d
+      inner true x = omega arith
+      inner false x = ltb-false (length d) (w - 1 + n) (or-false-right (eqb w 0) (ltb (length d) (w - 1 + n)) x)
+
+      go : (b : Bool) → cond b (part 0 0) (placeIn (length d) w n) .start + cond b (part 0 0) (placeIn (length d) w n) .length ≤ length d
+      go true = omega arith
+      go false = inner (eqb w 0 || ltb (length d) (w - 1 + n)) refl
+
+pub first-most : (b : Bool) → cond b 4 0 ≤ 4
+first-most true = omega arith
+first-most false = omega arith
+
 -- ---- what a slot holds
 
 -- an empty slot has no part
@@ -64,74 +121,127 @@ pub part-none : (d ix : List ℕ) (j n : ℕ) → getD ix j 0 ≡ 0 → partAt d
 unfolding partAt placeAt partBytes
 part-none d ix j n e = rw e refl
 
-module _ (len : ℕ) (d : List ℕ) (v : ℕ) (c : List ℕ) (q : ℕ) where
-  held-place : (ix : List ℕ) (j : ℕ) → getD ix j 0 ≡ v → length d ≤ 60000 → Holds len d (length d) v c q → placeAt (length d) ix j len ≡ part q (length c)
-  unfolding placeAt
-  held-place ix j i h (absent e z y) = rw (i, e, y, z) refl
-  held-place ix j i h (there e w l g) =
-      let m : v - 1 ≡ q = omega (arith, e) in
-      rw (i, m, ne-eqb v 0 (λ z. omega (arith, e, z)), le-ltb (length d) (q + len) (omega (arith, w, l)), l) refl
-
-  held-bytes : Holds len d (length d) v c q → partBytes d (part q (length c)) ≡ c
+module _ (k : ℕ) (d : List ℕ) (v : ℕ) (c : List ℕ) (q : ℕ) where
+  held-bytes : Holds k d (length d) v c q → partBytes d (part q (length c)) ≡ c
   unfolding partBytes
   held-bytes (absent e z y) = rw z refl
-  held-bytes (there e w l g) = g
+  held-bytes (there e w l m g) = g
 
-  held-ends : Holds len d (length d) v c q → q + length c ≤ length d
+  held-ends : Holds k d (length d) v c q → q + length c ≤ length d
   held-ends (absent e z y) = omega (arith, y, ap length z)
-  held-ends (there e w l g) = w
+  held-ends (there e w l m g) = w
 
-module _ (d ix : List ℕ) (h : Indexed d ix) where
-  -- ---- a key with a slot in the index: there stands the current record
+  -- the record that is there begins with its mark
+  there-mark : length c ≡ size (mark c) → take (length c) (drop q d) ≡ c → mark (drop q d) ≡ mark c
+  there-mark l g = sym (mark-take (length c) (drop q d) (omega (arith, l, size-ge (mark c)))) ∙ ap mark g
 
-  module _ (k n : ℕ) (i : InKey k n) (fit : slot k n < length ix) where
-    holds : Holds (size k) d (length d) (getD ix (slot k n) 0) (current k n (records d)) (startOf k n (records d))
-    unfolding indexOf
-    holds =
-        subst (λ (x : List ℕ). Holds (size k) d (length d) (getD x (slot k n) 0) (current k n (records d)) (startOf k n (records d))) (sym (h .here))
-        (index-holds d (length ix) (h .clean) k n i fit)
+  held-part : Holds k d (length d) v c q → recordPart d v ≡ part q (length c)
+  unfolding recordPart
+  held-part (absent e z y) = rw (e, y, z) refl
+  held-part (there e w l m g) =
+      let n : v - 1 ≡ q = omega (arith, e) in
+      rw (n, there-mark l g, ← l, ne-eqb v 0 (λ z. omega (arith, e, z)), le-ltb (length d) v (omega (arith, w, e, l, size-ge (mark c)))) refl
 
-    pub place-current : {j len : ℕ} → j ≡ slot k n → len ≡ size k → placeAt (length d) ix j len ≡ currentPart k n (records d)
-    unfolding currentPart
-    place-current a b =
-        rw (a, b) (held-place (size k) d (getD ix (slot k n) 0) (current k n (records d)) (startOf k n (records d)) ix (slot k n) refl (h .short) holds)
+  -- of a kind without first hours it is as long as the kind says
+  held-place : datable k ≡ false → (ix : List ℕ) (j : ℕ) → getD ix j 0 ≡ v → Holds k d (length d) v c q → placeAt (length d) ix j (size k) ≡ part q (length c)
+  unfolding placeAt
+  held-place u ix j i (absent e z y) = rw (i, e, y, z) refl
+  held-place u ix j i (there e w l m g) =
+      let n : v - 1 ≡ q = omega (arith, e) in
+      let long : size k ≡ length c = ap size (sym (other-mark c u m)) ∙ sym l in
+      rw (i, n, long, ne-eqb v 0 (λ z. omega (arith, e, z)), le-ltb (length d) (q + length c) w) refl
 
-    pub part-current : {j len : ℕ} → j ≡ slot k n → len ≡ size k → partAt d ix j len ≡ current k n (records d)
-    unfolding partAt currentPart
-    part-current a b =
-        ap (partBytes d) (place-current a b) ∙ held-bytes (size k) d (getD ix (slot k n) 0) (current k n (records d)) (startOf k n (records d)) holds
+  held-found : datable k ≡ false → (ix : List ℕ) (j : ℕ) → getD ix j 0 ≡ v → Holds k d (length d) v c q → partAt d ix j (size k) ≡ c
+  unfolding partAt
+  held-found u ix j i h = ap (partBytes d) (held-place u ix j i h) ∙ held-bytes h
 
-    pub current-none : getD ix (slot k n) 0 ≡ 0 → current k n (records d) ≡ []
-    current-none e = sym (part-current refl refl) ∙ part-none d ix (slot k n) (size k) e
+  -- of any kind, without its first hour, its body is
+  held-body : 1 ≤ k → (ix : List ℕ) (j : ℕ) → getD ix j 0 ≡ v → Holds k d (length d) v c q → bodyAt d ix j (size k) ≡ body c
+  unfolding bodyAt bodyIn partBytes
+  held-body z ix j i (absent e f y) = rw (i, e, f, body-nil) refl
+  held-body z ix j i (there e w l m g) = rw (i, ne-eqb v 0 (λ x. omega (arith, e, x)), letter) (go (isDated (mark c)) refl)
+    where
+      s : List ℕ
+      s = drop q d
 
-    -- nor is there one where its slot lies in an empty range
-    pub current-in-empty : (j m : ℕ) → slotsEmpty ix j m ≡ true → j ≤ slot k n → slot k n < j + m → current k n (records d) ≡ []
-    current-in-empty j m e a b = current-none (eqb-true (getD ix (slot k n) 0) 0 (in-empty ix j m (slot k n) e a b))
+      known : mark c ≡ 0 → ⊥
+      known x = omega (arith, z, m, none-kind c x)
 
-    -- a slot that is not empty tells that there is one
-    pub slot-tells : ltb 0 (length (current k n (records d))) ≡ not (eqb (getD ix (slot k n) 0) 0)
-    slot-tells = go holds
-      where
-        go : {v q : ℕ} {c : List ℕ} → Holds (size k) d (length d) v c q → ltb 0 (length c) ≡ not (eqb v 0)
-        go (absent e z _) = rw (e, z) refl
-        go {v} {q} {c} (there e w l g) = rw (lt-ltb 0 (length c) (omega (arith, l, size-ge k)), ne-eqb v 0 (λ x. omega (arith, e, x))) refl
+      long : 6 ≤ length c
+      long = omega (arith, l, size-ge (mark c))
 
-  -- every mark that every station may have has its slots in it
+      letter : eqb (getD d v 0) 86 ≡ isDated (mark c)
+      letter =
+          ap (λ (x : ℕ). eqb x 86) (ap (λ (x : ℕ). getD d x 0) e ∙ sym (getD-drop q d 1 0) ∙ sym (getD-take (length c) s 1 0 (omega (arith, long)))
+          ∙ ap (λ (r : List ℕ). getD r 1 0) g)
+          ∙ sym (dated-letter c known)
+
+      go : (b : Bool) → isDated (mark c) ≡ b → partBytes d (placeIn (length d) (v + cond b 4 0) (size k)) ≡ body c
+      go true x =
+          let n : size k + 4 ≡ length c = omega (arith, body-length c l, ap size m, ap length (body-dated c x), length-drop 4 c, long) in
+          let at : v + 4 - 1 ≡ q + 4 = omega (arith, e) in
+          let whole : length c ≡ 4 + size k = omega (arith, n) in
+          let cut-off : drop 4 c ≡ take (size k) (drop (q + 4) d) = ap (drop 4) (sym g) ∙ ap (λ (m : ℕ). drop 4 (take m s)) whole
+          ∙ drop-taken 4 (size k) s (omega (arith, w, long, length-drop q d)) ∙ ap (take (size k)) (drop-drop 4 q d) in
+          rw (ne-eqb (v + 4) 0 (λ y. omega (arith, y)), at, le-ltb (length d) (q + 4 + size k) (omega (arith, w, n))) (sym cut-off ∙ sym (body-dated c x))
+      go false x =
+          let n : size k ≡ length c = ap size (sym m ∙ sym (plain-mark c x)) ∙ sym l in
+          let at : v + 0 - 1 ≡ q = omega (arith, e) in
+          rw (ne-eqb (v + 0) 0 (λ y. omega (arith, e, y)), at, n, le-ltb (length d) (q + length c) w) (g ∙ sym (body-plain c x))
+
+  -- a slot that is not empty tells that there is one
+  held-tells : Holds k d (length d) v c q → ltb 0 (length c) ≡ not (eqb v 0)
+  held-tells (absent e z y) = rw (e, z) refl
+  held-tells (there e w l m g) = rw (lt-ltb 0 (length c) (omega (arith, l, size-ge (mark c))), ne-eqb v 0 (λ x. omega (arith, e, x))) refl
+
+-- ---- an index of some records: in the slot of a kind and key stands the current one
+
+module _ {l : List (List ℕ)} {d ix : List ℕ} (h : IndexOf l d ix) (good : Each Good l) (k n : ℕ) (i : InKey k n) (fit : slot k n < length ix) where
+  index-at : Holds k d (length d) (getD ix (slot k n) 0) (current k n l) (getD ix (slot k n) 0 - 1)
+  index-at = go (getD ix (slot k n) 0) (h .holds k n (i .low) (key-test k n i) fit) (h .none k n (i .low) (key-test k n i) fit) (current-found k n l)
+    where
+      go : (v : ℕ) {c : List ℕ} → heldRecord d v ≡ c → (c ≡ [] → v ≡ 0) → CurrentOf k n l c → Holds k d (length d) v c (v - 1)
+      go v is zeroed (gone p q) = absent (zeroed p) p (rw (zeroed p) refl)
+      go v {c} is zeroed (standing q) =
+          let g : Good c = member-each (q .member) good in
+          let s = drop (v - 1) d in
+          let some : v ≡ 0 → ⊥ = λ z. omega (arith, g .1, size-ge (mark c), ap length (sym is ∙ held-zero d v z)) in
+          let cut-is : take (size (mark s)) s ≡ c = sym (held-some d v some) ∙ is in
+          let m : mark s ≡ mark c = sym (mark-take (size (mark s)) s (omega (arith, size-ge (mark s)))) ∙ ap mark cut-is in
+          let e : take (length c) s ≡ c = ap (λ (x : ℕ). take x s) (g .1 ∙ ap size (sym m)) ∙ cut-is in
+          there (omega (arith, some)) (omega (arith, ap length e, length-take (length c) s, length-drop (v - 1) d, g .1, size-ge (mark c), some)) (g .1)
+          (q .marked) e
+
+  pub index-part : datable k ≡ false → {j len : ℕ} → j ≡ slot k n → len ≡ size k → partAt d ix j len ≡ current k n l
+  index-part u a b = rw (a, b) (held-found k d _ _ _ u ix (slot k n) refl index-at)
+
+  pub index-body : {j len : ℕ} → j ≡ slot k n → len ≡ size k → bodyAt d ix j len ≡ body (current k n l)
+  index-body a b = rw (a, b) (held-body k d _ _ _ (i .known) ix (slot k n) refl index-at)
+
+  -- a slot that is not empty tells that there is one
+  pub index-tells : ltb 0 (length (current k n l)) ≡ not (eqb (getD ix (slot k n) 0) 0)
+  index-tells = held-tells k d _ _ _ index-at
+
+  pub index-none : getD ix (slot k n) 0 ≡ 0 → current k n l ≡ []
+  unfolding heldRecord
+  index-none e = sym (h .holds k n (i .low) (key-test k n i) fit) ∙ rw e refl
+
+  -- nor is there one where its slot lies in an empty range
+  pub index-in-empty : (j m : ℕ) → slotsEmpty ix j m ≡ true → j ≤ slot k n → slot k n < j + m → current k n l ≡ []
+  index-in-empty j m e a b = index-none (eqb-true (getD ix (slot k n) 0) 0 (in-empty ix j m (slot k n) e a b))
+
+-- ---- where slots are
+
+module _ (ix : List ℕ) (roomy : short ≤ length ix) where
+  -- every kind that every station may have has its slots in an index
   pub fits : (k n : ℕ) → InKey k n → early k ≡ true → slot k n < length ix
-  fits k n i b = omega (arith, h .roomy, slot-short k n i b)
+  fits k n i b = omega (arith, roomy, slot-short k n i b)
 
-  -- and every mark but FP, if it is not a short one
+  -- and every kind but FP, if it is not a short one
   pub narrow-fits : narrow ≤ length ix → (k n : ℕ) → InKey k n → eqb k FP ≡ false → slot k n < length ix
   narrow-fits w k n i b = omega (arith, w, slot-narrow k n i b)
 
-  module _ (k n : ℕ) (b : early k ≡ true) (i : InKey k n) where
-    pub slot-fits : {j : ℕ} → j ≡ slot k n → j < length ix
-    slot-fits a = rw a (fits k n i b)
-
-    pub part-found : {j len : ℕ} → j ≡ slot k n → len ≡ size k → partAt d ix j len ≡ current k n (records d)
-    part-found = part-current k n i (fits k n i b)
-
-  -- and every mark, if the index has its slots
+  -- and every kind, if the index has its slots
   pub covered : (k n : ℕ) → InKey k n → slotsFor k ≤ length ix → slot k n < length ix
   covered k n i c =
       split (eqb k FP)
@@ -139,55 +249,85 @@ module _ (d ix : List ℕ) (h : Indexed d ix) where
       (λ f.
       split (eqb k CH || eqb k LC)
       (λ t. narrow-fits (rw (f, t) at c) k n i f)
-      (λ g. fits k n i (early-mark k (i .low) f g)))
+      (λ g. fits k n i (early-kind k (i .low) f g)))
 
-  -- ---- no key: a clean dossier has no such record
+-- ---- no key: no faultless record has it
 
-  module _ (k n : ℕ) where
-    pub none-current : (c : List ℕ) {l : List (List ℕ)} → Each (λ r. matches k n r ≡ false) l → currentFrom k n c l ≡ c
-    unfolding currentFrom better
-    none-current c done = refl
-    none-current c (also m e) = rw m (none-current c e)
+module _ (k n : ℕ) where
+  pub none-current : (c : List ℕ) {l : List (List ℕ)} → Each (λ r. matches k n r ≡ false) l → currentFrom k n c l ≡ c
+  unfolding currentFrom better
+  none-current c done = refl
+  none-current c (also m e) = rw m (none-current c e)
 
-    none-start : (c : List ℕ) (q p : ℕ) {l : List (List ℕ)} → Each (λ r. matches k n r ≡ false) l → startFrom k n c q p l ≡ q
-    unfolding startFrom better
-    none-start c q p done = refl
-    none-start c q p (also {a = r} m e) = rw m (none-start c q (p + length r) e)
+  none-start : (c : List ℕ) (q p : ℕ) {l : List (List ℕ)} → Each (λ r. matches k n r ≡ false) l → startFrom k n c q p l ≡ q
+  unfolding startFrom better
+  none-start c q p done = refl
+  none-start c q p (also {a = r} m e) = rw m (none-start c q (p + length r) e)
+
+  pub unmatched : keyTest k n ≡ false → {l : List (List ℕ)} → Each Good l → Each (λ r. matches k n r ≡ false) l
+  unmatched f =
+      each-map (λ r g. split (matches k n r) (λ m. absurd (true≢false (sym (key-test k n (subst (λ (x : ℕ). InKey x n) (matches-kind k n r m)
+      (subst (λ (x : ℕ). InKey (kind r) x) (matches-key k n r m) (in-key r (g .0))))) ∙ f))) (λ m. m))
+
+-- a key without a slot in a complete index: no record has it
+pub beyond-index : (d ix : List ℕ) → Complete d ix → (k n : ℕ) → length ix ≤ slot k n → current k n (records d) ≡ []
+unfolding current
+beyond-index d ix c k n b =
+    none-current k n []
+    (each-map (λ r x. split (matches k n r) (λ m. absurd (omega (arith, b, x, ap₂ slot (matches-kind k n r m) (matches-key k n r m)))) (λ m. m)) c)
+
+-- ---- an index of all records
+
+module _ (d ix : List ℕ) (h : Whole d ix) where
+  pub whole-index : IndexOf (records d) d ix
+  unfolding indexOf
+  whole-index = subst (λ (x : List ℕ). IndexOf (records d) d x) (sym (h .here)) (index-of d (length ix) (h .clean) (h .short) (h .roomy))
+
+  good : Each Good (records d)
+  good = good-records d (h .clean)
+
+  module _ (k n : ℕ) (i : InKey k n) (fit : slot k n < length ix) where
+    holds : Holds k d (length d) (getD ix (slot k n) 0) (current k n (records d)) (startOf k n (records d))
+    unfolding indexOf
+    holds =
+        subst (λ (x : List ℕ). Holds k d (length d) (getD x (slot k n) 0) (current k n (records d)) (startOf k n (records d))) (sym (h .here))
+        (index-holds d (length ix) (h .clean) k n i fit)
+
+    pub place-current : {j : ℕ} → j ≡ slot k n → recordPart d (getD ix j 0) ≡ currentPart k n (records d)
+    unfolding currentPart
+    place-current a = rw a (held-part k d _ _ _ holds)
+
+    pub part-current : datable k ≡ false → {j len : ℕ} → j ≡ slot k n → len ≡ size k → partAt d ix j len ≡ current k n (records d)
+    part-current = index-part whole-index good k n i fit
+
+    pub slot-tells : ltb 0 (length (current k n (records d))) ≡ not (eqb (getD ix (slot k n) 0) 0)
+    slot-tells = index-tells whole-index good k n i fit
+
+    pub current-in-empty : (j m : ℕ) → slotsEmpty ix j m ≡ true → j ≤ slot k n → slot k n < j + m → current k n (records d) ≡ []
+    current-in-empty = index-in-empty whole-index good k n i fit
 
   module _ (k n : ℕ) (f : keyTest k n ≡ false) where
-    unmatched : {l : List (List ℕ)} → Each Good l → Each (λ r. matches k n r ≡ false) l
-    unmatched =
-        each-map (λ r g. split (matches k n r) (λ m. absurd (true≢false (sym (key-test k n (subst (λ (x : ℕ). InKey x n) (matches-mark k n r m)
-        (subst (λ (x : ℕ). InKey (mark r) x) (matches-key k n r m) (in-key r (g .0))))) ∙ f))) (λ m. m))
-
     pub no-key : part 0 0 ≡ currentPart k n (records d)
     unfolding currentPart current startOf
     no-key =
-        let e = unmatched (good-records d (h .clean)) in
+        let e = unmatched k n f good in
         sym (ap₂ part (none-start k n [] 0 0 e) (ap length (none-current k n [] e)))
 
     no-bytes : [] ≡ current k n (records d)
     unfolding current
-    no-bytes = sym (none-current k n [] (unmatched (good-records d (h .clean))))
-
-  -- a key without a slot in a complete index: no record has it
-  pub beyond-index : Complete d ix → (k n : ℕ) → length ix ≤ slot k n → current k n (records d) ≡ []
-  unfolding current
-  beyond-index c k n b =
-      none-current k n []
-      (each-map (λ r x. split (matches k n r) (λ m. absurd (omega (arith, b, x, ap₂ slot (matches-mark k n r m) (matches-key k n r m)))) (λ m. m)) c)
+    no-bytes = sym (none-current k n [] (unmatched k n f good))
 
   -- ---- of every number
 
   module _ (k n : ℕ) (b : k < kinds) (c : slotsFor k ≤ length ix) where
-    at-key : keyTest k n ≡ true → Holds (size k) d (length d) (getD ix (slot k n) 0) (current k n (records d)) (startOf k n (records d))
-    at-key t = let i = test-key k n b t in holds k n i (covered k n i c)
+    at-key : keyTest k n ≡ true → Holds k d (length d) (getD ix (slot k n) 0) (current k n (records d)) (startOf k n (records d))
+    at-key t = let i = test-key k n b t in holds k n i (covered ix (h .roomy) k n i c)
 
     pub current-bytes : partBytes d (currentPart k n (records d)) ≡ current k n (records d)
     unfolding partBytes currentPart
     current-bytes =
         split (keyTest k n)
-        (λ t. held-bytes (size k) d (getD ix (slot k n) 0) (current k n (records d)) (startOf k n (records d)) (at-key t))
+        (λ t. held-bytes k d (getD ix (slot k n) 0) (current k n (records d)) (startOf k n (records d)) (at-key t))
         (λ f. ap (partBytes d) (sym (no-key k n f)) ∙ no-bytes k n f)
 
     pub current-ends : {p : Part} → p ≡ currentPart k n (records d) → p .start + p .length ≤ length d
@@ -195,15 +335,15 @@ module _ (d ix : List ℕ) (h : Indexed d ix) where
     current-ends e =
         rw e
         (split (keyTest k n)
-        (λ t. held-ends (size k) d (getD ix (slot k n) 0) (current k n (records d)) (startOf k n (records d)) (at-key t))
+        (λ t. held-ends k d (getD ix (slot k n) 0) (current k n (records d)) (startOf k n (records d)) (at-key t))
         (λ f. omega (arith, ap (λ (p : Part). p .start) (no-key k n f), ap (λ (p : Part). p .length) (no-key k n f))))
 
 -- no record has a slot beyond the widest index
 pub wide-up-to : (d : List ℕ) → scan 0 (records d) ≡ Accepted → UpTo d 6350
-wide-up-to d h = each-map (λ r g. omega (arith, slot-lt (mark r) (keyOf r) (in-key r (g .0)))) (good-records d h)
+wide-up-to d h = each-map (λ r g. omega (arith, slot-lt (kind r) (keyOf r) (in-key r (g .0)))) (good-records d h)
 
 -- every record has a slot in an index of all slots
-pub wide-complete : (d ix : List ℕ) → Indexed d ix → wide ≤ length ix → Complete d ix
+pub wide-complete : (d ix : List ℕ) → Whole d ix → wide ≤ length ix → Complete d ix
 wide-complete d ix h w = each-map (λ r g. omega (arith, w, g)) (wide-up-to d (h .clean))
 
 -- ---- keys and sizes fit
@@ -211,14 +351,14 @@ wide-complete d ix h w = each-map (λ r g. omega (arith, w, g)) (wide-up-to d (h
 pub key-small : (k n : ℕ) → InKey k n → n < 16777216
 unfolding Spans shapeOf shape rowOf table
 key-small k n p =
-    at-mark (λ j. InKey j n → n < 16777216) k n p (λ q. omega (arith, q .spans)) (λ q. omega (arith, q .spans)) (λ q. omega (arith, q .spans))
+    at-kind (λ j. InKey j n → n < 16777216) k n p (λ q. omega (arith, q .spans)) (λ q. omega (arith, q .spans)) (λ q. omega (arith, q .spans))
     (λ q. omega (arith, q .spans)) (λ q. omega (arith, q .spans)) (λ q. omega (arith, q .spans)) (λ q. omega (arith, q .spans)) (λ q. omega (arith, q .spans))
     (λ q. omega (arith, q .spans)) (λ q. omega (arith, q .spans)) (λ q. omega (arith, q .spans)) p
 
 pub size-small : (k n : ℕ) → InKey k n → size k < 65536
-unfolding size widths rowOf table
+unfolding size fieldsAt widths rowOf table
 size-small k n p =
-    at-mark (λ j. size j < 65536) k n p (lit< tt) (lit< tt) (lit< tt) (lit< tt) (lit< tt) (lit< tt) (lit< tt) (lit< tt) (lit< tt) (lit< tt) (lit< tt)
+    at-kind (λ j. size j < 65536) k n p (lit< tt) (lit< tt) (lit< tt) (lit< tt) (lit< tt) (lit< tt) (lit< tt) (lit< tt) (lit< tt) (lit< tt) (lit< tt)
 
 -- ---- the slot by kind
 
@@ -231,5 +371,5 @@ unfolding slot
 slot-none k n l a b c d e f g h i j =
     split (eqb k 0)
     (λ z. rw (eqb-true k 0 z) refl)
-    (λ z. by-mark (λ m. k ≡ m → 0 ≡ slot m n) (λ w. refl) (λ w. absurd (a w)) (λ w. absurd (b w)) (λ w. absurd (c w)) (λ w. absurd (d w)) (λ w. absurd (e w))
+    (λ z. by-kind (λ m. k ≡ m → 0 ≡ slot m n) (λ w. refl) (λ w. absurd (a w)) (λ w. absurd (b w)) (λ w. absurd (c w)) (λ w. absurd (d w)) (λ w. absurd (e w))
     (λ w. absurd (f w)) (λ w. absurd (g w)) (λ w. absurd (h w)) (λ w. absurd (i w)) (λ w. absurd (j w)) k (eqb-false k 0 z) l refl)

@@ -9,21 +9,22 @@ use borrow.Author.Tests.{eqb-true, eqb-false, ltb-true, leb-true, leb-false}
 use lib.ListN.{length, take, drop, length-drop, drop-of-length-le}
 use lib.Seq.{drop-drop}
 use Rattle.lists.specs.Lists.{Each, done, also}
-use Rattle.lists.specs.Tests.{everyOf}
+use Rattle.lists.specs.Tests.{among, everyOf}
 use Rattle.lists.proofs.Lists.{each-map}
 use Rattle.lists.proofs.Tests.{split, and-left, and-right}
-use Rattle.records.specs.Table.{CH, FP, LC, kinds}
-use Rattle.records.specs.Record.{mark, size}
+use Rattle.records.specs.Table.{table, CH, FP, LC, marks}
+use Rattle.records.specs.Record.{mark, datable, size}
 use Rattle.records.specs.Dossier.{restOf, recordsIn, records}
 use Rattle.records.proofs.Record.{no-size}
-use Rattle.records.proofs.Marks.{size-most}
+use Rattle.records.proofs.Dated.{other-mark}
+use Rattle.records.proofs.EveryMark.{size-most}
 use Rattle.records.proofs.Dossier.{first-mark, records-step}
 use Rattle.station.specs.Current.{longest, matches, current}
-use Rattle.station.proofs.Current.{matches-mark}
+use Rattle.station.proofs.Current.{matches-kind}
 use Rattle.index.proofs.Turn.{tail}
 use Rattle.lookup.specs.declared.Room.{Room}
 use Rattle.lookup.specs.declared.Room.the-variants.{TooLong}
-use Rattle.lookup.specs.Parts.{isTooLong, fitsShort, Indexed}
+use Rattle.lookup.specs.Parts.{isTooLong, fitsShort}
 use Rattle.lookup.proofs.Parts.{none-current}
 
 -- what 13 rests on, of the way in to every call
@@ -43,7 +44,7 @@ abbrev Late : ℕ → Bool
 Late k = eqb k CH || eqb k FP || eqb k LC
 
 -- no record is longer than 31 bytes
-pub size-le : (k : ℕ) → k < kinds → size k ≤ 31
+pub size-le : (k : ℕ) → k < marks → size k ≤ 31
 size-le k h = split (eqb k 0) (λ z. rw (eqb-true k 0 z, no-size) (lit≤ tt)) (λ z. size-most k (eqb-false k 0 z) h)
 
 -- what is left from place p on tells
@@ -77,13 +78,26 @@ unfolding everyOf
 every-each f [] e = done
 every-each f (a ∷ l) e = also (and-left (f a) (everyOf f l) e) (every-each f l (and-right (f a) (everyOf f l) e))
 
+-- such a mark has no first hour
+late-undated : (k : ℕ) → Late k ≡ true → datable k ≡ false
+unfolding datable among table
+late-undated k e =
+    split (eqb k CH)
+    (λ a. rw (eqb-true k CH a) refl)
+    (λ a. split (eqb k FP)
+    (λ b. rw (eqb-true k FP b) refl)
+    (λ b. split (eqb k LC)
+    (λ c. rw (eqb-true k LC c) refl)
+    (λ c. absurd (true≢false (sym e ∙ rw (a, b, c) refl)))))
+
 -- a dossier without such a record has none of them
-pub short-none : (d ix : List ℕ) → Indexed d ix → true ≡ fitsShort d → (k n : ℕ) → Late k ≡ true → current k n (records d) ≡ []
+pub short-none : (d : List ℕ) → true ≡ fitsShort d → (k n : ℕ) → Late k ≡ true → current k n (records d) ≡ []
 unfolding fitsShort current
-short-none d ix h e k n late =
-    none-current d ix h k n []
+short-none d e k n late =
+    none-current k n []
     (each-map
-    (λ r z. split (matches k n r) (λ m. absurd (true≢false (sym late ∙ ap Late (sym (matches-mark k n r m)) ∙ not-late r z))) (λ m. m))
+    (λ r z. split (matches k n r) (λ m. absurd (true≢false (sym late ∙ ap Late (sym (other-mark r (late-undated k late) (matches-kind k n r m)))
+    ∙ not-late r z))) (λ m. m))
     (every-each (λ r. not (Late (mark r))) (records d) (sym e)))
   where
     not-late : (r : List ℕ) → not (Late (mark r)) ≡ true → Late (mark r) ≡ false

@@ -7,13 +7,13 @@ use native.Mathlib.Omega.{arith}
 use lib.Dec.{ltb, eqb}
 use lib.ListN.{length, getD, take, drop, List·getD-eq-default}
 use borrow.Author.Tests.{ne-eqb, ltb-true, ltb-false, eqb-true, eqb-false}
-use Rattle.lists.specs.Tests.{allBelow}
+use Rattle.lists.specs.Tests.{allBelow, among}
 use Rattle.lists.proofs.Sums.{sumTo-same, sumTo-scaled}
 use Rattle.lists.proofs.Tests.{or-false-right, split}
 use Rattle.fields.specs.Numbers.{number, biased}
 use Rattle.fields.proofs.Numbers.{number-nil}
 use Rattle.records.specs.Table.{table, rowOf, CH}
-use Rattle.records.specs.Record.{widths, size}
+use Rattle.records.specs.Record.{datable, fieldsAt, widths, size}
 use Rattle.records.specs.Dossier.{records}
 use Rattle.records.proofs.Read.{number-take}
 use Rattle.station.specs.Current.{current}
@@ -24,7 +24,7 @@ use Rattle.index.specs.Slots.{slot, slotsEmpty}
 use Rattle.index.specs.Intervals.{heldPrice, heldEnergy, slotPrice, slotEnergy, HeldSums}
 use Rattle.index.proofs.Intervals.{price-held, energy-held, energy-none}
 use Rattle.index.proofs.HeldSums.{interval-key, energy-within}
-use Rattle.lookup.specs.Parts.{part, partBytes, placeAt, partAt, Indexed, Complete}
+use Rattle.lookup.specs.Parts.{part, partBytes, placeAt, partAt, Whole, Complete}
 use Rattle.lookup.proofs.Parts.{current-in-empty, slot-tells, part-current, beyond-index}
 
 -- a part that is not empty lies within the dossier, where its slot says
@@ -45,7 +45,7 @@ one-empty ix j e =
     let w : j + 0 ≡ j = omega arith in
     rw (w, e) refl
 
-module _ {d ix : List ℕ} (h : Indexed d ix) (n : ℕ) (a : 1 ≤ n) (b : n ≤ 2016) where
+module _ {d ix : List ℕ} (h : Whole d ix) (n : ℕ) (a : 1 ≤ n) (b : n ≤ 2016) where
   abbrev v : ℕ
   v = getD ix (slot CH n) 0
 
@@ -59,10 +59,10 @@ module _ {d ix : List ℕ} (h : Indexed d ix) (n : ℕ) (a : 1 ≤ n) (b : n ≤
 
     -- one whose slot is not has it where the slot says
     pub slot-there : (v ≡ 0 → ⊥) → (v - 1 + 16 ≤ length d) × (take 16 (drop (v - 1) d) ≡ r)
-    unfolding size widths rowOf table
+    unfolding datable among size fieldsAt widths rowOf table
     slot-there e =
         let i = interval-key n a b in
-        part-there d ix (slot CH n) 16 (part-current d ix h CH n i fit refl refl) (slot-tells d ix h CH n i fit ∙ ap not (ne-eqb v 0 e))
+        part-there d ix (slot CH n) 16 (part-current d ix h CH n i fit refl refl refl) (slot-tells d ix h CH n i fit ∙ ap not (ne-eqb v 0 e))
 
   -- what its slot holds is what its record says
   Says : Type 0
@@ -98,10 +98,10 @@ module _ {d ix : List ℕ} (h : Indexed d ix) (n : ℕ) (a : 1 ≤ n) (b : n ≤
       (λ z. let e = eqb-false v 0 z in says-there e (slot-there fit e .1)))
       (λ f.
       let past = ltb-false (slot CH n) (length ix) f in
-      says-none (List·getD-eq-default ix 0 {n = slot CH n} past) (beyond-index d ix h full CH n past))
+      says-none (List·getD-eq-default ix 0 {n = slot CH n} past) (beyond-index d ix full CH n past))
 
 -- through an index of every record
-pub week-sums : {d ix : List ℕ} {c e : ℕ} → Indexed d ix → Complete d ix → HeldSums d ix c e → WeekSums d c e
+pub week-sums : {d ix : List ℕ} {c e : ℕ} → Whole d ix → Complete d ix → HeldSums d ix c e → WeekSums d c e
 unfolding Says
 week-sums {d} {ix} i full h =
     record {

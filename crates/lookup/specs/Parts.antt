@@ -5,19 +5,21 @@ use mathlib.Core.Path.{_≡_}
 use Prim.Native.Nat.{ℕ, _+_, _-_, _≤_, _<_}
 use lib.Dec.{ltb, eqb}
 use lib.ListN.{length, getD, take, drop, replicate}
-use Rattle.lists.specs.Lists.{Each}
-use Rattle.lists.specs.Tests.{everyOf}
+use Rattle.lists.specs.Lists.{Each, those}
+use Rattle.lists.specs.Tests.{everyOf, same}
 use Rattle.records.specs.declared.Answer.the-variants.{Accepted}
-use Rattle.records.specs.Table.{FU, AD, MM, CH, FP, LC}
-use Rattle.records.specs.Record.{mark, keyOf}
+use Rattle.records.specs.Table.{CH, FP, LC}
+use Rattle.records.specs.Record.{mark, isDated, kind, datable, size, keyOf}
 use Rattle.records.specs.Answers.{isAccepted}
 use Rattle.records.specs.Dossier.{records, scan}
 use Rattle.records.specs.Walk.{folded, walk}
 use Rattle.station.specs.Current.{current, startOf, longest, readable}
+use Rattle.station.specs.InForce.{inForce}
 use Rattle.station.specs.Parameters.{Parameters, Amounts, parameters, amounts}
 use Rattle.index.specs.declared.Passed.{Passed}
 use Rattle.index.specs.declared.Passed.the-variants.{Stopped}
 use Rattle.index.specs.Slots.{slot, short, narrow, wide, fresh, keepStep, passOf}
+use Rattle.index.specs.Holding.{heldRecord, IndexOf}
 use Rattle.lookup.specs.declared.Part.{Part}
 use Rattle.lookup.specs.declared.Room.{Room}
 use Rattle.lookup.specs.declared.Room.the-variants.{TooLong, Short, Narrow, Wide}
@@ -30,7 +32,7 @@ part a n = record { start = a; length = n }
 unfoldable pub partBytes : List ℕ → Part → List ℕ
 partBytes d p = take (p .length) (drop (p .start) d)
 
--- the current record of a mark and key by where it starts and how long it is, 0 and 0 where there is none
+-- the current record of a kind and key by where it starts and how long it is, 0 and 0 where there is none
 unfoldable pub currentPart : ℕ → ℕ → List (List ℕ) → Part
 currentPart k n l = part (startOf k n l) (length (current k n l))
 
@@ -44,7 +46,7 @@ lookupPart d k n = cond (isAccepted (readable d)) (currentPart k n (records d)) 
 unfoldable pub indexOf : ℕ → List ℕ → List ℕ
 indexOf w d = folded (keepStep d) 0 (fresh w) (records d) .slots
 
--- "13; records in turn with 1, 2, 3": the refusal, or what a pass with w slots says of the issues and the highest slot
+-- "13; records in turn with 1, 2, 3": the refusal, or what a pass with w slots says of the issues, the highest slot and first hours
 unfoldable pub scanned : ℕ → List ℕ → Passed
 scanned w d = cond (ltb longest (length d)) (Stopped 13 0) (passOf (walk (keepStep d) (fresh w) d))
 
@@ -75,16 +77,42 @@ placeAt e ix j n = placeIn e (getD ix j 0) n
 unfoldable pub partAt : List ℕ → List ℕ → ℕ → ℕ → List ℕ
 partAt d ix j n = partBytes d (placeAt (length d) ix j n)
 
--- a dossier that draws none of 1 to 3 and 13, with its index
-pub record Indexed (d ix : List ℕ) : Type 0 where
+-- where the fields of the record of a slot of value v lie as its kind's do: behind a first hour, which V as second letter tells
+unfoldable pub bodyIn : List ℕ → ℕ → ℕ → Part
+bodyIn d v n = cond (eqb v 0) (part 0 0) (placeIn (length d) (v + cond (eqb (getD d v 0) 86) 4 0) n)
+
+-- the part of the dossier where they lie
+unfoldable pub bodyAt : List ℕ → List ℕ → ℕ → ℕ → List ℕ
+bodyAt d ix j n = partBytes d (bodyIn d (getD ix j 0) n)
+
+-- the whole record of a slot of value v, as long as its own mark says
+unfoldable pub recordPart : List ℕ → ℕ → Part
+recordPart d v = cond (eqb v 0 || ltb (length d) v) (part 0 0) (part (v - 1) (size (mark (drop (v - 1) d))))
+
+-- a dossier that draws none of 1 to 3 and 13, with the index that a pass fills
+pub record Whole (d ix : List ℕ) : Type 0 where
   pub roomy : short ≤ length ix
   pub short : length d ≤ 60000
   pub clean : scan 0 (records d) ≡ Accepted
   pub here : ix ≡ indexOf (length ix) d
 
+-- with an index of the records in force at an hour
+abbrev pub AtHour : ℕ → List ℕ → List ℕ → Type 0
+AtHour h d ix = IndexOf (inForce h (records d)) d ix
+
+-- with an index of some of its records: of kinds that may have first hours those that a test holds of, which no contract names, and of others all
+pub record Indexed (d ix : List ℕ) : Type 0 where
+  pub keep : List ℕ → Bool
+  pub others : (r : List ℕ) → datable (kind r) ≡ false → keep r ≡ true
+  pub index : IndexOf (those keep (records d)) d ix
+
+-- a record of a kind that may have first hours stands in its slot
+unfoldable pub stands : List ℕ → List ℕ → List ℕ → Bool
+stands d ix r = not (datable (kind r)) || same r (heldRecord d (getD ix (slot (kind r) (keyOf r)) 0))
+
 -- the records of which the index at hand holds the current ones
 unfoldable pub held : List ℕ → List ℕ → List (List ℕ)
-held d ix = records d
+held d ix = those (stands d ix) (records d)
 
 -- what they say, without money
 abbrev pub parametersHeld : List ℕ → List ℕ → Parameters
@@ -94,18 +122,18 @@ parametersHeld d ix = parameters (held d ix)
 abbrev pub amountsHeld : List ℕ → List ℕ → Amounts
 amountsHeld d ix = amounts (held d ix)
 
--- a mark whose current record may differ from hour to hour
-abbrev pub dated : ℕ → Bool
-dated k = eqb k FU || eqb k AD || eqb k MM
+-- no record has a first hour
+abbrev pub Undated : List ℕ → Type 0
+Undated d = Each (λ r. isDated (mark r) ≡ false) (records d)
 
 -- every record of the dossier has a slot in the index
 abbrev pub Complete : List ℕ → List ℕ → Type 0
-Complete d ix = Each (λ r. slot (mark r) (keyOf r) < length ix) (records d)
+Complete d ix = Each (λ r. slot (kind r) (keyOf r) < length ix) (records d)
 
 -- no record of the dossier has a slot above m
 abbrev pub UpTo : List ℕ → ℕ → Type 0
-UpTo d m = Each (λ r. slot (mark r) (keyOf r) ≤ m) (records d)
+UpTo d m = Each (λ r. slot (kind r) (keyOf r) ≤ m) (records d)
 
--- how many slots an index has that holds those of mark k
+-- how many slots an index has that holds those of kind k
 abbrev pub slotsFor : ℕ → ℕ
 slotsFor k = cond (eqb k FP) wide (cond (eqb k CH || eqb k LC) narrow short)

@@ -8,14 +8,15 @@ ghost use lib.ListN.{length};
 ghost use Rattle.fields.specs.Numbers.{number};
 ghost use Rattle.records.specs.declared.Answer.the-variants.{Accepted};
 ghost use Rattle.records.specs.Table.{RS, HP, FU, AD, MM, RQ, HR, TH, FP, LC, kinds};
-ghost use Rattle.records.specs.Record.{mark};
+ghost use Rattle.records.specs.Record.{mark, kindOf};
+ghost use Rattle.records.specs.MarkShapes.{body};
 ghost use Rattle.records.specs.Dossier.{records, scan};
 ghost use Rattle.station.specs.Current.{longest, current, readable, lookupBytes};
 ghost use Rattle.index.specs.declared.Passed.the-variants.{Ended};
 ghost use Rattle.index.specs.Slots.{slot, narrow};
 ghost use Rattle.index.specs.Intervals.{HeldIn};
-ghost use Rattle.lookup.specs.Parts.{isTooLong, fitsShort, slotsFor, held, scanned, placeIn, placeAt, partBytes, partAt, currentPart, lookupPart};
-ghost use Rattle.lookup.specs.Parts.{Empty, Indexed, Complete, UpTo};
+ghost use Rattle.lookup.specs.Parts.{isTooLong, fitsShort, slotsFor, held, scanned, placeIn, placeAt, partBytes, partAt, bodyIn, bodyAt};
+ghost use Rattle.lookup.specs.Parts.{recordPart, currentPart, lookupPart, Empty, Whole, Indexed, Complete, UpTo, Undated};
 use index::Passed;
 use records::Answer;
 
@@ -55,14 +56,14 @@ fn guess(d: &[u8]) -> Room
     let end = lists::choose(small, d.len(), 600);
     let mut at = 0;
     while at < end {
-        let k = records::kind_at(&d[at..]);
-        if k == records::kinds::FP {
+        let k = records::mark_at(&d[at..]);
+        if k == records::marks::FP {
             return Room::Wide;
         }
-        if (k == records::kinds::CH) | (k == records::kinds::LC) {
+        if (k == records::marks::CH) | (k == records::marks::LC) {
             return Room::Narrow;
         }
-        if k == records::kinds::HP {
+        if k == records::marks::HP {
             return Room::Short;
         }
         at += records::length_of(k);
@@ -88,8 +89,8 @@ pub fn fits_short(d: &[u8]) -> bool
 {
     let mut at = 0;
     while at < d.len() {
-        let k = records::kind_at(&d[at..]);
-        if (k == records::kinds::CH) | (k == records::kinds::FP) | (k == records::kinds::LC) {
+        let k = records::mark_at(&d[at..]);
+        if (k == records::marks::CH) | (k == records::marks::FP) | (k == records::marks::LC) {
             return false;
         }
         at += records::length_of(k);
@@ -101,8 +102,8 @@ pub fn fits_short(d: &[u8]) -> bool
 pub fn scan(d: &[u8], index: &mut [u16], sums: &mut [u64]) -> Passed
     requires { ⌜ Empty (now index) × (now sums ≡ 0 ∷ 0 ∷ []) ⌝ }
     ensures { λ r. ⌜ (r ≡ scanned (length (now (index .entry))) (now (d .entry)))
-        × ((b : Bool) (m : ℕ) → r ≡ Ended b m → Indexed (now (d .entry)) (now (index .exit)) × UpTo (now (d .entry)) m
-        × HeldIn (now (d .entry)) (now (index .exit)) (now (sums .exit))) ⌝ }
+        × ((b : Bool) (m : ℕ) (f : Bool) → r ≡ Ended b m f → Whole (now (d .entry)) (now (index .exit)) × UpTo (now (d .entry)) m
+        × HeldIn (now (d .entry)) (now (index .exit)) (now (sums .exit)) × (f ≡ false → Undated (now (d .entry)))) ⌝ }
 {
     if LONGEST < d.len() {
         return Passed::Stopped {
@@ -116,7 +117,7 @@ pub fn scan(d: &[u8], index: &mut [u16], sums: &mut [u64]) -> Passed
 // The index alone, of a dossier that is known to draw none of 13 and 1 to 3.
 pub fn fill(d: &[u8], index: &mut [u16])
     requires { ⌜ Empty (now index) × (length (now d) ≤ 60000) × (scan 0 (records (now d)) ≡ Accepted) ⌝ }
-    ensures { λ r. ⌜ Indexed (now (d .entry)) (now (index .exit)) ⌝ }
+    ensures { λ r. ⌜ Whole (now (d .entry)) (now (index .exit)) ⌝ }
 {
     let mut sums = [0u64; 2];
     index::pass(d, index, &mut sums);
@@ -127,10 +128,14 @@ pub fn fill(d: &[u8], index: &mut [u16])
 pub fn open(d: &[u8], index: &mut [u16], sums: &mut [u64]) -> Answer
     requires { ⌜ Empty (now index) × (now sums ≡ 0 ∷ 0 ∷ []) ⌝ }
     ensures { λ r. ⌜ (r ≡ readable (now (d .entry)))
-        × (r ≡ Accepted → Indexed (now (d .entry)) (now (index .exit)) × HeldIn (now (d .entry)) (now (index .exit)) (now (sums .exit))) ⌝ }
+        × (r ≡ Accepted → Whole (now (d .entry)) (now (index .exit)) × HeldIn (now (d .entry)) (now (index .exit)) (now (sums .exit))) ⌝ }
 {
     match scan(d, index, sums) {
-        Passed::Ended { rising, top } => {
+        Passed::Ended {
+            rising,
+            top,
+            dated: _,
+        } => {
             if rising & (top < index.len()) {
                 Answer::Accepted
             } else {
@@ -186,6 +191,35 @@ pub fn part_at<'a>(d: &'a [u8], index: &[u16], j: usize, len: usize) -> &'a [u8]
     bytes_of(d, place_at(d.len(), index, j, len))
 }
 
+// Where the fields of the record of a slot of value v lie as its kind's do.
+fn body_in(d: &[u8], v: u16, len: usize) -> Part
+    requires { ⌜ len < 65536 ⌝ }
+    ensures { λ r. ⌜ r ≡ bodyIn (now (d .entry)) v len ⌝ }
+{
+    let q = v as usize;
+    let none = Part {
+        start: 0,
+        length: 0,
+    };
+    if q == 0 {
+        return none;
+    }
+    let dated = fields::byte_at(d, q) == 86;
+    let start = q - 1 + lists::choose(dated, 4, 0);
+    if d.len() < start + len {
+        return none;
+    }
+    Part { start, length: len }
+}
+
+// The part of the dossier where they lie, empty if the slot holds no record.
+fn body_at<'a>(d: &'a [u8], index: &[u16], j: usize, len: usize) -> &'a [u8]
+    requires { ⌜ (j < length (now index)) × (len < 65536) ⌝ }
+    ensures { λ r. ⌜ now r ≡ bodyAt (now (d .entry)) (now (index .entry)) j len ⌝ }
+{
+    bytes_of(d, body_in(d, index[j], len))
+}
+
 // The current RS.
 pub fn rs<'a>(d: &'a [u8], index: &[u16]) -> &'a [u8]
     requires { ⌜ Indexed (now d) (now index) ⌝ }
@@ -202,28 +236,28 @@ pub fn hp<'a>(d: &'a [u8], index: &[u16], n: usize) -> &'a [u8]
     part_at(d, index, index::keys::slot_hp(n), records::HP.length)
 }
 
-// The current FU of a profile.
+// What the current FU of a profile says, as an FU has it: a first hour lies before it.
 pub fn fu<'a>(d: &'a [u8], index: &[u16], p: usize) -> &'a [u8]
     requires { ⌜ Indexed (now d) (now index) × (1 ≤ p) × (p ≤ 4) ⌝ }
-    ensures { λ r. ⌜ now r ≡ current FU p (held (now (d .entry)) (now (index .entry))) ⌝ }
+    ensures { λ r. ⌜ now r ≡ body (current FU p (held (now (d .entry)) (now (index .entry)))) ⌝ }
 {
-    part_at(d, index, index::keys::slot_fu(p), records::FU.length)
+    body_at(d, index, index::keys::slot_fu(p), records::FU.length)
 }
 
-// The current AD of a profile, cost and level.
+// The same of the current AD of a profile, cost and level.
 pub fn ad<'a>(d: &'a [u8], index: &[u16], p: usize, c: usize, v: usize) -> &'a [u8]
     requires { ⌜ Indexed (now d) (now index) × (1 ≤ p) × (p ≤ 4) × (1 ≤ c) × (c ≤ 5) × (1 ≤ v) × (v ≤ 4) ⌝ }
-    ensures { λ r. ⌜ now r ≡ current AD (p * 65536 + c * 256 + v) (held (now (d .entry)) (now (index .entry))) ⌝ }
+    ensures { λ r. ⌜ now r ≡ body (current AD (p * 65536 + c * 256 + v) (held (now (d .entry)) (now (index .entry)))) ⌝ }
 {
-    part_at(d, index, index::keys::slot_ad(p, c, v), records::AD.length)
+    body_at(d, index, index::keys::slot_ad(p, c, v), records::AD.length)
 }
 
-// The current MM of a profile and item.
+// The same of the current MM of a profile and item.
 pub fn mm<'a>(d: &'a [u8], index: &[u16], p: usize, j: usize) -> &'a [u8]
     requires { ⌜ Indexed (now d) (now index) × (1 ≤ p) × (p ≤ 4) × (1 ≤ j) × (j ≤ 8) ⌝ }
-    ensures { λ r. ⌜ now r ≡ current MM (p * 256 + j) (held (now (d .entry)) (now (index .entry))) ⌝ }
+    ensures { λ r. ⌜ now r ≡ body (current MM (p * 256 + j) (held (now (d .entry)) (now (index .entry)))) ⌝ }
 {
-    part_at(d, index, index::keys::slot_mm(p, j), records::MM.length)
+    body_at(d, index, index::keys::slot_mm(p, j), records::MM.length)
 }
 
 // The current RQ of a request.
@@ -270,52 +304,67 @@ pub fn fp<'a>(d: &'a [u8], index: &[u16], n: usize) -> &'a [u8]
     part_at(d, index, j, records::FP.length)
 }
 
-// The slot of a mark and key.
+// The slot of a kind and key.
 pub fn slot_of(kind: usize, n: usize) -> usize
     requires { ⌜ (n < 16777216) × (kind < kinds) ⌝ }
     ensures { λ r. ⌜ r ≡ slot kind n ⌝ }
 {
-    if kind == records::kinds::HP {
+    if kind == records::marks::HP {
         return index::keys::slot_hp(n);
     }
-    if kind == records::kinds::FU {
+    if kind == records::marks::FU {
         return index::keys::slot_fu(n);
     }
-    if kind == records::kinds::AD {
+    if kind == records::marks::AD {
         return index::keys::slot_ad(n / 65536, n / 256 % 256, n % 256);
     }
-    if kind == records::kinds::MM {
+    if kind == records::marks::MM {
         return index::keys::slot_mm(n / 256, n % 256);
     }
-    if kind == records::kinds::RQ {
+    if kind == records::marks::RQ {
         return index::keys::slot_rq(n);
     }
-    if kind == records::kinds::HR {
+    if kind == records::marks::HR {
         return index::keys::slot_hr(n);
     }
-    if kind == records::kinds::CH {
+    if kind == records::marks::CH {
         return index::keys::slot_ch(n);
     }
-    if kind == records::kinds::TH {
+    if kind == records::marks::TH {
         return index::keys::slot_th(n / 256, n % 256);
     }
-    if kind == records::kinds::FP {
+    if kind == records::marks::FP {
         return index::keys::slot_fp(n);
     }
-    if kind == records::kinds::LC {
+    if kind == records::marks::LC {
         return index::keys::slot_lc();
     }
     0
 }
 
-// Where the current record of a mark and key stands; a number that is no key has none.
+// The whole record of a slot of value v.
+fn record_part(d: &[u8], v: u16) -> Part
+    ensures { λ r. ⌜ r ≡ recordPart (now (d .entry)) v ⌝ }
+{
+    let q = v as usize;
+    if (q == 0) | (d.len() < q) {
+        return Part {
+            start: 0,
+            length: 0,
+        };
+    }
+    let start = q - 1;
+    let length = records::length_of(records::mark_at(&d[start..]));
+    Part { start, length }
+}
+
+// Where the current record of a kind and key stands; a number that is no key has none.
 fn place_of(d: &[u8], index: &[u16], kind: usize, n: usize) -> Part
-    requires { ⌜ Indexed (now d) (now index) × (kind < kinds) × (slotsFor kind ≤ length (now index)) ⌝ }
+    requires { ⌜ Whole (now d) (now index) × (kind < kinds) × (slotsFor kind ≤ length (now index)) ⌝ }
     ensures { λ r. ⌜ r ≡ currentPart kind n (records (now (d .entry))) ⌝ }
 {
     if records::in_key(kind, n) {
-        let m = records::mark_shape(kind);
-        return place_at(d.len(), index, slot_of(kind, n), m.length);
+        return record_part(d, index[slot_of(kind, n)]);
     }
     Part {
         start: 0,
@@ -345,10 +394,10 @@ fn part_in(d: &[u8], index: &mut [u16], kind: usize, n: usize) -> Part
 fn slots_for(kind: usize) -> usize
     ensures { λ r. ⌜ r ≡ slotsFor kind ⌝ }
 {
-    if kind == records::kinds::FP {
+    if kind == records::marks::FP {
         return index::WIDE;
     }
-    if (kind == records::kinds::CH) | (kind == records::kinds::LC) {
+    if (kind == records::marks::CH) | (kind == records::marks::LC) {
         return index::NARROW;
     }
     index::SHORT
@@ -408,22 +457,23 @@ fn key_number(key: &[u8]) -> usize
     (fields::u16_at(key, 0) as usize) * 256 + (fields::u8_at(key, 2) as usize)
 }
 
-// The lookup: the part of the dossier that holds the current record of a mark and key is handed back.
+// The lookup: the part of the dossier that holds the current record of a mark and key is handed back, be it of that mark or of the one with or without a
+// first hour that shares its keys.
 pub fn current<'a>(d: &'a [u8], letters: &[u8; 2], key: &[u8]) -> &'a [u8]
     ensures { λ r. ⌜ now r ≡ lookupBytes (now (d .entry)) (now (letters .entry)) (now (key .entry)) ⌝ }
 {
-    let kind = records::kind_at(letters);
-    let m = records::mark_shape(kind);
+    let mark = records::mark_at(letters);
+    let m = records::mark_shape(mark);
     if key.len() == m.width {
-        return bytes_of(d, lookup_part(d, kind, key_number(key)));
+        return bytes_of(d, lookup_part(d, records::kind_of(mark), key_number(key)));
     }
     &d[..0]
 }
 
 // The lookup for other languages: the mark as one number, its first letter high, and the key's bytes as one number.
 pub fn current_by_number(d: &[u8], letters: u16, key: u32) -> Part
-    ensures { λ r. ⌜ r ≡ lookupPart (now (d .entry)) (mark (letters / 256 ∷ letters % 256 ∷ [])) key ⌝ }
+    ensures { λ r. ⌜ r ≡ lookupPart (now (d .entry)) (kindOf (mark (letters / 256 ∷ letters % 256 ∷ []))) key ⌝ }
 {
     let m = [(letters / 256) as u8, (letters % 256) as u8];
-    lookup_part(d, records::kind_at(&m), key as usize)
+    lookup_part(d, records::kind_of(records::mark_at(&m)), key as usize)
 }

@@ -14,14 +14,14 @@ use Rattle.station.proofs.Parameters.{says-high, amount-high}
 use Rattle.lookup.specs.Parts.{Indexed}
 
 -- of any faultless records
-module _ {l : List (List ℕ)} (faultless : Each (λ r. fault r ≡ 0) l) {r : ℕ} {x : List ℕ} (k n i o w : ℕ) where
-  pub says-read : parameters l .says k n i ≡ number o w (current k n l) → r ≡ number o w x → x ≡ current k n l → (r ≡ parameters l .says k n i)
+module _ {l : List (List ℕ)} (faultless : Each (λ r. fault r ≡ 0) l) {r : ℕ} {x y : List ℕ} (k n i o w : ℕ) where
+  pub says-read : parameters l .says k n i ≡ number o w y → r ≡ number o w x → x ≡ y → (r ≡ parameters l .says k n i)
       × (r ≤ fieldOf k i .highest)
   says-read e p q =
       let z : r ≡ parameters l .says k n i = p ∙ ap (number o w) q ∙ sym e in
       (z, rw z (says-high faultless k n i))
 
-  pub amount-read : amounts l .of k n i ≡ number o w (current k n l) → r ≡ number o w x → x ≡ current k n l → (r ≡ amounts l .of k n i)
+  pub amount-read : amounts l .of k n i ≡ number o w y → r ≡ number o w x → x ≡ y → (r ≡ amounts l .of k n i)
       × (r ≤ fieldOf k i .highest)
   amount-read e p q =
       let z : r ≡ amounts l .of k n i = p ∙ ap (number o w) q ∙ sym e in
@@ -37,4 +37,4 @@ price-read {l} faultless {r} k n i o e b p q =
 
 -- a dossier's records are
 pub clean : {d ix : List ℕ} → Indexed d ix → Each (λ r. fault r ≡ 0) (records d)
-clean {d} h = scan-each 0 (records d) (h .clean)
+clean {d} h = scan-each 0 (records d) (h .index .clean)

@@ -1,4 +1,5 @@
 -- Whether a record is there, as the code tells it; the points of the curve, counted by their slots.
+use Rattle.records.specs.Record.{datable}
 use mathlib.Core.Path.{_≡_, refl, ap, sym, _∙_}
 use mathlib.Core.Bool.{Bool, true, false, cond, not}
 use mathlib.Core.List.{List}
@@ -8,15 +9,15 @@ use native.Mathlib.Omega.{arith}
 use lib.Dec.{ltb, eqb}
 use lib.ListN.{length, getD}
 use borrow.Author.Tests.{lt-ltb, le-ltb}
-use Rattle.lists.specs.Tests.{countTo}
-use Rattle.records.specs.Table.{HP}
+use Rattle.lists.specs.Tests.{countTo, among}
+use Rattle.records.specs.Table.{HP, table}
 use Rattle.records.specs.Dossier.{records}
 use Rattle.station.specs.Current.{current, present}
 use Rattle.station.specs.Parameters.{parameters}
 use Rattle.index.specs.Slots.{slot}
 use Rattle.lookup.specs.Parts.{Indexed}
 use Rattle.lookup.proofs.Keys.{point-key}
-use Rattle.lookup.proofs.Parts.{slot-tells, fits}
+use Rattle.lookup.proofs.Held.{slot-says}
 
 pub there-is : (l : List (List ℕ)) (k n : ℕ) {r : List ℕ} → r ≡ current k n l → ltb 0 (length r) ≡ parameters l .has k n
 unfolding parameters present
@@ -36,10 +37,11 @@ count-next i f p q = rw (p, q, add-one i) refl
 -- a point is counted by its slot
 pub point-counted : (d ix : List ℕ) → Indexed d ix → (n : ℕ) → 1 ≤ n → n ≤ 21 → {j a : ℕ} → j ≡ slot HP n → a ≡ cond (eqb (getD ix j 0) 0) 0 1
     → a ≡ cond (parameters (records d) .has HP n) 1 0
+unfolding datable among table
 point-counted d ix h n p q {j} ej ea =
     let i = point-key n p q in
     let e : parameters (records d) .has HP n ≡ not (eqb (getD ix j 0) 0) = sym (there-is (records d) HP n refl)
-    ∙ slot-tells d ix h HP n i (fits d ix h HP n i refl) ∙ ap (λ (k : ℕ). not (eqb (getD ix k 0) 0)) (sym ej) in
+    ∙ slot-says h HP n refl i refl ∙ ap (λ (k : ℕ). not (eqb (getD ix k 0) 0)) (sym ej) in
     ea ∙ rw e (go (eqb (getD ix j 0) 0))
   where
     go : (b : Bool) → _≡_ {A = ℕ} (cond b 0 1) (cond (not b) 1 0)

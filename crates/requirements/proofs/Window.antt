@@ -14,18 +14,18 @@ use Rattle.records.specs.Dossier.{records}
 use Rattle.station.specs.Parameters.{Parameters, parameters, technology, window}
 use Rattle.index.specs.Slots.{slot, slotsFull}
 use Rattle.index.proofs.KeyBounds.{InKey}
-use Rattle.lookup.specs.Parts.{Indexed, Complete}
+use Rattle.lookup.specs.Parts.{Whole, Complete}
 use Rattle.lookup.proofs.Keys.{hour-key, place-key}
 use Rattle.lookup.proofs.Parts.{slot-tells, beyond-index}
 use Rattle.parameters.proofs.Points.{there-is, none-there}
 use Rattle.rules.specs.Curve.{fullHours, hoursHold, windowFits, placesHold, forecastFits}
 
 -- a key is there as its slot tells; one without a slot in a complete index is not
-module _ (d ix : List ℕ) (h : Indexed d ix) (c : Complete d ix) (k n : ℕ) {j : ℕ} (ej : slot k n ≡ j) where
+module _ (d ix : List ℕ) (h : Whole d ix) (c : Complete d ix) (k n : ℕ) {j : ℕ} (ej : slot k n ≡ j) where
   key-beyond : length ix ≤ j → not (eqb (getD ix j 0) 0) ≡ parameters (records d) .has k n
   key-beyond b =
       rw (List·getD-eq-default ix 0 b)
-      (sym (none-there (records d) k n {r = []} (sym (beyond-index d ix h c k n (omega (arith, b, ej)))) refl))
+      (sym (none-there (records d) k n {r = []} (sym (beyond-index d ix c k n (omega (arith, b, ej)))) refl))
 
   key-within : InKey k n → j < length ix → not (eqb (getD ix j 0) 0) ≡ parameters (records d) .has k n
   key-within i b =
@@ -35,7 +35,7 @@ module _ (d ix : List ℕ) (h : Indexed d ix) (c : Complete d ix) (k n : ℕ) {j
   key-told i = split (ltb j (length ix)) (λ e. key-within i (ltb-true j (length ix) e)) (λ e. key-beyond (ltb-false j (length ix) e))
 
 -- keys that count from 1, their slots one behind the other, are all there if all their slots are full
-keys-told : (d ix : List ℕ) → Indexed d ix → Complete d ix → (k j : ℕ) → ((i : ℕ) → slot k (suc i) ≡ j + i) → (n : ℕ)
+keys-told : (d ix : List ℕ) → Whole d ix → Complete d ix → (k j : ℕ) → ((i : ℕ) → slot k (suc i) ≡ j + i) → (n : ℕ)
     → ((i : ℕ) → i < n → InKey k (suc i)) → slotsFull ix j n ≡ allTo n (parameters (records d) .has k)
 unfolding slotsFull allBelow allTo
 keys-told d ix h c k j a zero g = refl
@@ -43,7 +43,7 @@ keys-told d ix h c k j a (suc n) g =
     ap₂ (λ (x y : Bool). x && y) (keys-told d ix h c k j a n (λ i l. g i (omega (arith, l)))) (key-told d ix h c k (suc n) (a n) (g n (omega arith)))
 
 -- so it is of the hours of the window and of the places of the forecast
-module _ (d ix : List ℕ) (h : Indexed d ix) (c : Complete d ix) (n : ℕ) {j : ℕ} where
+module _ (d ix : List ℕ) (h : Whole d ix) (c : Complete d ix) (n : ℕ) {j : ℕ} where
   pub hours-told : j ≡ slot HR 1 → n ≤ 168 → slotsFull ix j n ≡ allTo n (parameters (records d) .has HR)
   unfolding slot
   hours-told e w = keys-told d ix h c HR j (λ i. omega (arith, e)) n (λ i l. hour-key (suc i) (omega arith) (omega arith))

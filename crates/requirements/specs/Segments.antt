@@ -17,6 +17,6 @@ segmentHolds s i =
     s .has HP (i + 1) && ltb (output s i) (output s (i + 1)) && leb (heat s i) (heat s (i + 1))
     && leb (lastRise (heat s) i * rise (output s) i) (rise (heat s) i * lastRise (output s) i)
 
--- request n is absent or withdrawn, or its profile has an FU
+-- request n is absent or withdrawn, or its profile has an FU or FV
 abbrev pub fuelled : Parameters → ℕ → Bool
 fuelled s n = not (s .has RQ n) || eqb (requested s n) 0 || s .has FU (requested s n)

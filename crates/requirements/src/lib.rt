@@ -3,10 +3,10 @@ ghost use mathlib.Core.Path.{_≡_};
 ghost use Prim.Native.Nat.{_-_, _≤_};
 ghost use lib.ListN.{length};
 ghost use Rattle.lists.specs.Tests.{allTo};
-ghost use Rattle.records.specs.Table.{HR, FP};
+ghost use Rattle.records.specs.Table.{FU, HR, FP};
 ghost use Rattle.records.specs.Dossier.{records};
 ghost use Rattle.station.specs.Parameters.{parameters};
-ghost use Rattle.lookup.specs.Parts.{Indexed, Complete, parametersHeld};
+ghost use Rattle.lookup.specs.Parts.{Whole, Indexed, Complete};
 ghost use Rattle.requirements.specs.Segments.{fuelled};
 ghost use Rattle.rules.specs.Curve.{curveHolds, curveFits, fuelHolds, windowFits, forecastFits};
 ghost use Rattle.rules.specs.Answer.{unsupported};
@@ -63,22 +63,30 @@ fn curve_fits(d: &[u8], index: &[u16]) -> bool
     curve_holds(d, index, n)
 }
 
-// Whether a request is absent or withdrawn, or its profile has an FU.
+// Whether a profile has an FU or FV, of any hour: its slot in the index of all records tells.
+fn fuel_there(d: &[u8], index: &[u16], p: usize) -> bool
+    requires { ⌜ Whole (now d) (now index) × (1 ≤ p) × (p ≤ 4) ⌝ }
+    ensures { λ r. ⌜ r ≡ parameters (records (now (d .entry))) .has FU p ⌝ }
+{
+    index[index::keys::slot_fu(p)] != 0
+}
+
+// Whether a request is absent or withdrawn, or its profile has one.
 fn request_fuelled(d: &[u8], index: &[u16], n: usize) -> bool
-    requires { ⌜ Indexed (now d) (now index) × (1 ≤ n) × (n ≤ 16) ⌝ }
-    ensures { λ r. ⌜ r ≡ fuelled (parametersHeld (now (d .entry)) (now (index .entry))) n ⌝ }
+    requires { ⌜ Whole (now d) (now index) × (1 ≤ n) × (n ≤ 16) ⌝ }
+    ensures { λ r. ⌜ r ≡ fuelled (parameters (records (now (d .entry)))) n ⌝ }
 {
     let p = parameters::requested(d, index, n);
     if p == 0 {
         return true;
     }
-    0 < lookup::fu(d, index, p).len()
+    fuel_there(d, index, p)
 }
 
 // The same of every request; without any, the slots tell it at once.
 fn requests_fuelled(d: &[u8], index: &[u16]) -> bool
-    requires { ⌜ Indexed (now d) (now index) ⌝ }
-    ensures { λ r. ⌜ r ≡ allTo 16 (fuelled (parametersHeld (now (d .entry)) (now (index .entry)))) ⌝ }
+    requires { ⌜ Whole (now d) (now index) ⌝ }
+    ensures { λ r. ⌜ r ≡ allTo 16 (fuelled (parameters (records (now (d .entry))))) ⌝ }
 {
     if slots_empty(index, index::keys::slot_rq(1), 16) {
         return true;
@@ -94,15 +102,15 @@ fn requests_fuelled(d: &[u8], index: &[u16]) -> bool
 
 // What 8 asks.
 fn fuel_holds(d: &[u8], index: &[u16]) -> bool
-    requires { ⌜ Indexed (now d) (now index) ⌝ }
-    ensures { λ r. ⌜ r ≡ fuelHolds (parametersHeld (now (d .entry)) (now (index .entry))) ⌝ }
+    requires { ⌜ Whole (now d) (now index) ⌝ }
+    ensures { λ r. ⌜ r ≡ fuelHolds (parameters (records (now (d .entry)))) ⌝ }
 {
-    (0 < lookup::fu(d, index, 1).len()) & requests_fuelled(d, index)
+    fuel_there(d, index, 1) & requests_fuelled(d, index)
 }
 
 // Whether hours 1 to n of the window are there, as their slots tell; an hour without a slot is not.
 fn hours_there(d: &[u8], index: &[u16], n: usize) -> bool
-    requires { ⌜ Indexed (now d) (now index) × Complete (now d) (now index) × (n ≤ 168) ⌝ }
+    requires { ⌜ Whole (now d) (now index) × Complete (now d) (now index) × (n ≤ 168) ⌝ }
     ensures { λ r. ⌜ r ≡ allTo n (parameters (records (now (d .entry))) .has HR) ⌝ }
 {
     slots_full(index, index::keys::slot_hr(1), n)
@@ -110,7 +118,7 @@ fn hours_there(d: &[u8], index: &[u16], n: usize) -> bool
 
 // What 9 asks.
 fn window_fits(d: &[u8], index: &[u16]) -> bool
-    requires { ⌜ Indexed (now d) (now index) × Complete (now d) (now index) ⌝ }
+    requires { ⌜ Whole (now d) (now index) × Complete (now d) (now index) ⌝ }
     ensures { λ r. ⌜ r ≡ windowFits (parameters (records (now (d .entry)))) ⌝ }
 {
     if parameters::technology(d, index) != 3 {
@@ -123,7 +131,7 @@ fn window_fits(d: &[u8], index: &[u16]) -> bool
 
 // The same of places 1 to n of the forecast.
 fn places_there(d: &[u8], index: &[u16], n: usize) -> bool
-    requires { ⌜ Indexed (now d) (now index) × Complete (now d) (now index) × (n ≤ 4000) ⌝ }
+    requires { ⌜ Whole (now d) (now index) × Complete (now d) (now index) × (n ≤ 4000) ⌝ }
     ensures { λ r. ⌜ r ≡ allTo n (parameters (records (now (d .entry))) .has FP) ⌝ }
 {
     slots_full(index, index::keys::slot_fp(1), n)
@@ -131,7 +139,7 @@ fn places_there(d: &[u8], index: &[u16], n: usize) -> bool
 
 // What 17 asks.
 fn forecast_fits(d: &[u8], index: &[u16]) -> bool
-    requires { ⌜ Indexed (now d) (now index) × Complete (now d) (now index) ⌝ }
+    requires { ⌜ Whole (now d) (now index) × Complete (now d) (now index) ⌝ }
     ensures { λ r. ⌜ r ≡ forecastFits (parameters (records (now (d .entry)))) ⌝ }
 {
     if parameters::technology(d, index) != 4 {
@@ -143,7 +151,7 @@ fn forecast_fits(d: &[u8], index: &[u16]) -> bool
 
 // 7, 8, 9 and 17.
 pub fn unsupported_of(d: &[u8], index: &[u16]) -> Answer
-    requires { ⌜ Indexed (now d) (now index) × Complete (now d) (now index) ⌝ }
+    requires { ⌜ Whole (now d) (now index) × Complete (now d) (now index) ⌝ }
     ensures { λ r. ⌜ r ≡ unsupported (parameters (records (now (d .entry)))) (length (now (d .entry))) ⌝ }
 {
     let place = d.len();

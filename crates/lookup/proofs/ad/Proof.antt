@@ -2,24 +2,23 @@ use mathlib.Core.Path.{refl, sym, _∙_}
 use Rattle.records.specs.Table.{AD}
 use Rattle.records.proofs.Record.{ad-size}
 use Rattle.lookup.proofs.Keys.{adder-key}
-use Rattle.lookup.proofs.Parts.{slot-fits}
-use Rattle.lookup.proofs.Held.{held-found}
+use Rattle.lookup.proofs.Held.{slot-fits, body-found}
 use borrow.Author.Needs.{needs}
 use Rattle.lookup.proofs.ad.Statement.{statement}
 use Rattle.lookup.proofs.ad.Tie as tie
 
-part-at-requires : tie.Need-part-at-requires
-part-at-requires c κs =
+body-at-requires : tie.Need-body-at-requires
+body-at-requires c κs =
     let a = c .before .before .before in (
-      slot-fits _ _ (a .pre .0) AD _ refl (adder-key _ _ _ (a .pre .1) (a .pre .2) (a .pre .3) (a .pre .4) (a .pre .5) (a .pre .6)) (c .slot-ad .ensures),
+      slot-fits (a .pre .0) AD _ refl (adder-key _ _ _ (a .pre .1) (a .pre .2) (a .pre .3) (a .pre .4) (a .pre .5) (a .pre .6)) (c .slot-ad .ensures),
       search needs,
     )
 
 returns : tie.Need-returns
 returns c =
     let a = c .before .before .before .before in
-    c .part-at .ensures ∙ held-found (a .pre .0) AD _ refl (adder-key _ _ _ (a .pre .1) (a .pre .2) (a .pre .3) (a .pre .4) (a .pre .5) (a .pre .6))
+    c .body-at .ensures ∙ body-found (a .pre .0) AD _ refl (adder-key _ _ _ (a .pre .1) (a .pre .2) (a .pre .3) (a .pre .4) (a .pre .5) (a .pre .6))
     (c .before .slot-ad .ensures) (sym ad-size)
 
 pub ad-spec : {M : Type 1} → statement M
-ad-spec = tie.close (tie.spec (λ c κs. search needs) part-at-requires returns)
+ad-spec = tie.close (tie.spec (λ c κs. search needs) body-at-requires returns)

@@ -1,23 +1,32 @@
-use mathlib.Core.Path.{sym, _∙_}
+use mathlib.Core.Path.{refl, sym, _∙_}
 use native.Mathlib.Omega.{arith}
-use Rattle.records.specs.Table.{FP}
+use Rattle.lists.specs.Tests.{among}
+use Rattle.records.specs.Record.{datable}
+use Rattle.records.specs.Table.{table, FP}
 use Rattle.records.proofs.Record.{fp-size}
 use Rattle.lookup.proofs.Keys.{place-key}
-use Rattle.lookup.proofs.Parts.{part-current, beyond-index}
+use Rattle.lookup.proofs.Parts.{beyond-index}
+use Rattle.lookup.proofs.Held.{part-is}
 use borrow.Author.Needs.{needs}
 use Rattle.lookup.proofs.fp.Statement.{statement}
 use Rattle.lookup.proofs.fp.Tie as tie
 
 returns : tie.Need-returns
 returns c =
-    let p = c .before .before .before .before .before .pre in
-    sym (beyond-index _ _ (p .0) (p .1) FP _ (omega (arith, c .before .if1 .taken, c .before .before .slot-fp .ensures)))
+    let a = c .before .before .before .before .before in
+    sym (beyond-index (a .args .d .now) (a .args .index .now) (a .pre .1) FP (a .args .n) (omega (
+      arith,
+      c .before .if1 .taken,
+      c .before .before .slot-fp
+          .ensures,
+    )))
 
 returns-2 : tie.Need-returns-2
+unfolding datable among table
 returns-2 c =
     let p = c .before .before .before .before .before .pre in
     let e = c .before .before .slot-fp .ensures in
-    c .part-at .ensures ∙ part-current _ _ (p .0) FP _ (place-key _ (p .2) (p .3)) (omega (arith, c .before .if1 .left, e)) e (sym fp-size)
+    c .part-at .ensures ∙ part-is (p .0) FP _ (place-key _ (p .2) (p .3)) (omega (arith, c .before .if1 .left, e)) refl e (sym fp-size)
 
 pub fp-spec : {M : Type 1} → statement M
 fp-spec =

@@ -3,7 +3,7 @@ use Prim.Native.Nat.{_-_, _≤_, _<_}
 use native.Mathlib.Omega.{arith}
 use lib.ListN.{length}
 use borrow.Author.Needs.{needs}
-use Rattle.records.proofs.Marks.{mark-lt}
+use Rattle.records.proofs.EveryMark.{mark-lt}
 use Rattle.records.proofs.Record.{size-ge}
 use Rattle.lookup.proofs.Rooms.{size-le, look-ends}
 use Rattle.lookup.proofs.guess.Statement.{statement}
@@ -25,24 +25,24 @@ within c =
 -- the record there is no longer than any
 ends : (c : tie.After-length-of Inv-loop μ-loop) → c .length-of .result ≤ 31
 ends c =
-    let k = c .before .before .before .before .kind-at in
+    let k = c .before .before .before .before .mark-at in
     omega (arith, c .length-of .ensures, size-le (k .result) (rw (k .ensures) (mark-lt _)))
 
-sub-kind-at : tie.Need-sub-kind-at Inv-loop μ-loop
-sub-kind-at c = omega (arith, within c .0)
+sub-mark-at : tie.Need-sub-mark-at Inv-loop μ-loop
+sub-mark-at c = omega (arith, within c .0)
 
-part-kind-at-start : tie.Need-part-kind-at-start Inv-loop μ-loop
-part-kind-at-start c = omega (arith, within c .0)
+part-mark-at-start : tie.Need-part-mark-at-start Inv-loop μ-loop
+part-mark-at-start c = omega (arith, within c .0)
 
 length-of-requires : tie.Need-length-of-requires Inv-loop μ-loop
-length-of-requires c κs = rw (c .before .before .before .kind-at .ensures) (mark-lt _)
+length-of-requires c κs = rw (c .before .before .before .mark-at .ensures) (mark-lt _)
 
 add-at : tie.Need-add-at Inv-loop μ-loop
 add-at c = omega (arith, ends c, within (c .before .before .before .before .before .before) .1)
 
 loop-less : tie.Need-loop-less Inv-loop μ-loop
 loop-less c =
-    let k = c .before .before .before .before .kind-at in
+    let k = c .before .before .before .before .mark-at in
     omega (arith, c .length-of .ensures, size-ge (k .result), c .before .before .before .before .before .before .loop-test .taken)
 
 loop-again : tie.Need-loop-again Inv-loop μ-loop
@@ -60,8 +60,8 @@ guess-spec =
     (λ c. search needs)
     (λ c κs. search needs)
     (λ c. omega arith)
-    sub-kind-at
-    part-kind-at-start
+    sub-mark-at
+    part-mark-at-start
     (λ c. search needs)
     (λ c κs. search needs)
     (λ c. search needs)

@@ -2,22 +2,21 @@ use mathlib.Core.Path.{refl, sym, _∙_}
 use Rattle.records.specs.Table.{MM}
 use Rattle.records.proofs.Record.{mm-size}
 use Rattle.lookup.proofs.Keys.{item-key}
-use Rattle.lookup.proofs.Parts.{slot-fits}
-use Rattle.lookup.proofs.Held.{held-found}
+use Rattle.lookup.proofs.Held.{slot-fits, body-found}
 use borrow.Author.Needs.{needs}
 use Rattle.lookup.proofs.mm.Statement.{statement}
 use Rattle.lookup.proofs.mm.Tie as tie
 
-part-at-requires : tie.Need-part-at-requires
-part-at-requires c κs =
+body-at-requires : tie.Need-body-at-requires
+body-at-requires c κs =
     let a = c .before .before .before in
-    (slot-fits _ _ (a .pre .0) MM _ refl (item-key _ _ (a .pre .1) (a .pre .2) (a .pre .3) (a .pre .4)) (c .slot-mm .ensures), search needs)
+    (slot-fits (a .pre .0) MM _ refl (item-key _ _ (a .pre .1) (a .pre .2) (a .pre .3) (a .pre .4)) (c .slot-mm .ensures), search needs)
 
 returns : tie.Need-returns
 returns c =
     let a = c .before .before .before .before in
     let key = item-key _ _ (a .pre .1) (a .pre .2) (a .pre .3) (a .pre .4) in
-    c .part-at .ensures ∙ held-found (a .pre .0) MM _ refl key (c .before .slot-mm .ensures) (sym mm-size)
+    c .body-at .ensures ∙ body-found (a .pre .0) MM _ refl key (c .before .slot-mm .ensures) (sym mm-size)
 
 pub mm-spec : {M : Type 1} → statement M
-mm-spec = tie.close (tie.spec (λ c κs. search needs) part-at-requires returns)
+mm-spec = tie.close (tie.spec (λ c κs. search needs) body-at-requires returns)

@@ -1,29 +1,33 @@
 use mathlib.Core.Path.{sym, _∙_}
 use native.Mathlib.Omega.{arith}
-use Rattle.records.proofs.MarkShapes.{shape-size}
-use Rattle.index.proofs.KeyBounds.{test-key}
-use Rattle.lookup.proofs.Parts.{covered, place-current, no-key, key-small, size-small}
 use borrow.Author.Needs.{needs}
+use Rattle.index.proofs.KeyBounds.{InKey, test-key}
+use Rattle.index.proofs.Slots.{slot-lt}
+use Rattle.lookup.proofs.Parts.{covered, place-current, no-key, key-small}
 use Rattle.lookup.proofs.place_of.Statement.{statement}
 use Rattle.lookup.proofs.place_of.Tie as tie
 
-slot-of-requires : tie.Need-slot-of-requires
-slot-of-requires c κs =
-    let a = c .before .before .before .before .before in
-    (key-small _ _ (test-key _ _ (a .pre .1) (sym (c .before .before .in-key .ensures) ∙ c .before .if1 .taken)), a .pre .1)
+its-key : (c : tie.Then1) → InKey (c .before .before .before .before .args .kind) (c .before .before .before .before .args .n)
+its-key c = test-key _ _ (c .before .before .before .before .pre .1) (sym (c .before .in-key .ensures) ∙ c .if1 .taken)
 
-place-at-requires : tie.Need-place-at-requires
-place-at-requires c κs =
-    let p = c .before .before .before .before .before .before .pre in
-    let i = test-key _ _ (p .1) (sym (c .before .before .before .in-key .ensures) ∙ c .before .before .if1 .taken) in
-    (rw (c .slot-of .ensures) (covered _ _ (p .0) _ _ i (p .2)), omega (arith, shape-size _ (c .before .mark-shape .ensures), size-small _ _ i))
+slot-of-requires : tie.Need-slot-of-requires
+slot-of-requires c κs = (key-small _ _ (its-key c), c .before .before .before .before .pre .1)
+
+mul-record-part : tie.Need-mul-record-part
+mul-record-part c = omega (arith, c .slot-of .ensures, slot-lt _ _ (its-key (c .before)))
+
+shared-slice-read-record-part : tie.Need-shared-slice-read-record-part
+shared-slice-read-record-part c =
+    let t = c .before .before in
+    let a = t .before .before .before .before in
+    rw (c .before .slot-of .ensures) (covered (a .args .index .now) (a .pre .0 .roomy) _ _ (its-key t) (a .pre .2))
 
 returns : tie.Need-returns
 returns c =
-    let p = c .before .before .before .before .before .before .before .pre in
-    let i = test-key _ _ (p .1) (sym (c .before .before .before .before .in-key .ensures) ∙ c .before .before .before .if1 .taken) in
-    c .place-at .ensures ∙ place-current _ _ (p .0) _ _ i (covered _ _ (p .0) _ _ i (p .2)) (c .before .slot-of .ensures)
-    (shape-size _ (c .before .before .mark-shape .ensures))
+    let t = c .before .before .before in
+    let a = t .before .before .before .before in
+    c .record-part .ensures ∙ place-current _ _ (a .pre .0) _ _ (its-key t) (covered (a .args .index .now) (a .pre .0 .roomy) _ _ (its-key t) (a .pre .2))
+    (c .before .before .slot-of .ensures)
 
 returns-2 : tie.Need-returns-2
 returns-2 c = no-key _ _ (c .before .before .before .before .pre .0) _ _ (sym (c .before .in-key .ensures) ∙ c .if1 .left)
@@ -33,8 +37,9 @@ place-of-spec =
     tie.close
     (tie.spec
     (λ c κs. search needs)
-    (λ c κs. search needs)
     slot-of-requires
-    place-at-requires
+    mul-record-part
+    shared-slice-read-record-part
+    (λ c κs. search needs)
     returns
     returns-2)

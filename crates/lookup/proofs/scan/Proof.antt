@@ -9,7 +9,7 @@ use Rattle.lookup.proofs.scan.Statement.{statement}
 use Rattle.lookup.proofs.scan.Tie as tie
 
 returns : tie.Need-returns
-returns c = (scan-long _ _ (c .if1 .taken), λ b a e. absurd (not-ended e))
+returns c = (scan-long _ _ (c .if1 .taken), λ b a f e. absurd (not-ended e))
 
 pass-requires : tie.Need-pass-requires
 pass-requires c κs =
@@ -22,9 +22,9 @@ returns-2 c =
     let h = c .before .before .before .before .before .before .before .if1 .left in
     let e = c .before .before .before .before .pass .ensures in (
       scan-short _ _ (p .0 .1) h (e .0),
-      λ b m w.
+      λ b m f w.
           let g = pass-indexed _ _ (p .0 .1) (p .0 .0) h (sym w ∙ e .0) (e .1) in
-          (g .0, g .1, e .2),
+          (g .0, g .1, e .2, g .2),
     )
 
 pub scan-spec : {M : Type 1} → statement M

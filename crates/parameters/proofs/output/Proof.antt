@@ -1,3 +1,5 @@
+use Rattle.lists.specs.Tests.{among}
+use Rattle.records.specs.Record.{datable}
 use mathlib.Core.Path.{refl, sym, _∙_}
 use borrow.Author.Needs.{needs}
 use Rattle.records.specs.Table.{table, rowOf, fieldOf, HP}
@@ -8,7 +10,7 @@ use Rattle.parameters.proofs.output.Statement.{statement}
 use Rattle.parameters.proofs.output.Tie as tie
 
 returns : tie.Need-returns
-unfolding fieldOf rowOf table
+unfolding datable among fieldOf rowOf table
 returns c =
     let a = c .before .before .before .before in
     says-read (held-clean (a .pre .0)) HP (a .args .i) 1 7 2 (output-at _ (a .args .i)) (c .u16-at .ensures)

@@ -10,7 +10,7 @@ use Rattle.records.specs.Table.{HP}
 use Rattle.records.specs.Dossier.{records}
 use Rattle.station.specs.Parameters.{parameters}
 use Rattle.lookup.proofs.Keys.{point-key}
-use Rattle.lookup.proofs.Parts.{slot-fits}
+use Rattle.lookup.proofs.Held.{slot-fits}
 use Rattle.rules.specs.Curve.{points}
 use Rattle.parameters.proofs.Points.{count-next, point-counted}
 use Rattle.parameters.proofs.points_of.Statement.{statement}
@@ -27,7 +27,7 @@ loop-holds c = (omega arith, omega arith, unfold countTo in refl)
 
 in-index : (c : tie.After-slot-hp Inv-loop μ-loop) → c .slot-hp .result < length (c .before .before .before .before .before .args .index .now)
 in-index c =
-    slot-fits _ _ (c .before .before .before .before .before .pre) HP (c .before .before .loop .i + 1) refl (point-key _ (omega arith) (omega arith))
+    slot-fits (c .before .before .before .before .before .pre) HP (c .before .before .loop .i + 1) refl (point-key _ (omega arith) (omega arith))
     (c .slot-hp .ensures)
 
 mul-counted : tie.Need-mul-counted Inv-loop μ-loop

@@ -1,6 +1,8 @@
 use mathlib.Core.Path.{_≡_, refl, _∙_}
 use borrow.Author.Needs.{needs}
-use Rattle.records.specs.Table.{RS}
+use Rattle.lists.specs.Tests.{among}
+use Rattle.records.specs.Table.{RS, table}
+use Rattle.records.specs.Record.{datable}
 use Rattle.records.specs.Dossier.{records}
 use Rattle.station.specs.Parameters.{parameters, technology}
 use Rattle.lookup.proofs.Held.{says-always}
@@ -9,6 +11,7 @@ use Rattle.requirements.proofs.curve_fits.Statement.{statement}
 use Rattle.requirements.proofs.curve_fits.Tie as tie
 
 technology-is : (c : tie.After-technology) → c .technology .result ≡ technology (parameters (records (c .before .before .before .args .d .now)))
+unfolding datable among table
 technology-is c = c .technology .ensures .0 ∙ says-always (c .before .before .before .pre) RS 0 refl 0
 
 returns : tie.Need-returns

@@ -3,7 +3,9 @@ use Prim.Native.Nat.{_+_, _-_, _≤_}
 use native.Mathlib.Nat.{mul-le-mul}
 use native.Mathlib.Omega.{arith}
 use borrow.Author.Needs.{needs}
-use Rattle.records.specs.Table.{RS, HP}
+use Rattle.lists.specs.Tests.{among}
+use Rattle.records.specs.Table.{RS, HP, table}
+use Rattle.records.specs.Record.{datable}
 use Rattle.records.specs.Dossier.{records}
 use Rattle.station.specs.Parameters.{parameters}
 use Rattle.lookup.proofs.Held.{says-always}
@@ -23,6 +25,7 @@ hp-requires : tie.Need-hp-requires Inv-loop μ-loop
 hp-requires c κs = (c .before .before .pre .0, omega arith, omega arith)
 
 loop-holds : tie.Need-loop-holds Inv-loop μ-loop
+unfolding datable among table
 loop-holds c =
     let s = c .before .before .before .before .before in (
       omega arith,
@@ -53,6 +56,7 @@ mul-ok-2 : tie.Need-mul-ok-2 Inv-loop μ-loop
 mul-ok-2 c = omega (arith, mul-le-mul (rises c .1) (last-rises c .0))
 
 loop-again : tie.Need-loop-again Inv-loop μ-loop
+unfolding datable among table
 loop-again c =
     let t = c .before .before .before .before .before .before in
     let s = t .before .before .before .before .before .before in
@@ -68,6 +72,7 @@ loop-again c =
     )
 
 returns : tie.Need-returns Inv-loop μ-loop
+unfolding datable among table
 returns c =
     let l = c .before .before in
     let s = l .before .before .before .before .before .before in

@@ -4,7 +4,7 @@ use native.Mathlib.Omega.{arith}
 use Rattle.lists.specs.Tests.{allTo}
 use Rattle.lists.proofs.Tests.{to-next}
 use Rattle.records.specs.Table.{RQ}
-use Rattle.lookup.specs.Parts.{held}
+use Rattle.records.specs.Dossier.{records}
 use Rattle.station.specs.Parameters.{parameters}
 use Rattle.index.specs.Slots.{slot}
 use Rattle.requirements.specs.Segments.{fuelled}
@@ -17,7 +17,7 @@ unfolding slot
 at-one = refl
 
 abbrev Inv-loop : tie.InvT-loop
-Inv-loop d index ok₀ n₀ ok n = (n ≤ 16) × (ok ≡ allTo n (fuelled (parameters (held d index))))
+Inv-loop d index ok₀ n₀ ok n = (n ≤ 16) × (ok ≡ allTo n (fuelled (parameters (records d))))
 
 abbrev μ-loop : tie.MeasureT-loop
 μ-loop d index ok₀ n₀ ok n = 16 - n
@@ -40,14 +40,14 @@ loop-again : tie.Need-loop-again Inv-loop μ-loop
 loop-again c =
     let a = c .before .before .before .before .before .before .before .before in (
       omega arith,
-      to-next (c .before .before .loop .n) (fuelled (parameters (held (a .args .d .now) (a .args .index .now)))) (c .before .before .loop .inv .1)
+      to-next (c .before .before .loop .n) (fuelled (parameters (records (a .args .d .now)))) (c .before .before .loop .inv .1)
           (c .request-fuelled .ensures),
     )
 
 returns-2 : tie.Need-returns-2 Inv-loop μ-loop
 returns-2 c =
     let a = c .before .before .before .before .before .before .before in
-    c .before .loop .inv .1 ∙ ap (λ (n : ℕ). allTo n (fuelled (parameters (held (a .args .d .now) (a .args .index .now))))) (omega arith)
+    c .before .loop .inv .1 ∙ ap (λ (n : ℕ). allTo n (fuelled (parameters (records (a .args .d .now))))) (omega arith)
 
 pub requests-fuelled-spec : {M : Type 1} → statement M
 requests-fuelled-spec =

@@ -1,7 +1,9 @@
 use borrow.Author.Needs.{needs}
 use mathlib.Core.Path.{refl, sym, _∙_}
 use native.Mathlib.Omega.{arith}
-use Rattle.records.specs.Table.{RS}
+use Rattle.lists.specs.Tests.{among}
+use Rattle.records.specs.Table.{table, RS}
+use Rattle.records.specs.Record.{datable}
 use Rattle.lookup.proofs.Held.{says-always}
 use Rattle.costs.proofs.Always.{forecast-always}
 use Rattle.costs.proofs.Costs.{hydro-costs}
@@ -9,6 +11,7 @@ use Rattle.costs.proofs.hydro.hydro_energy.Statement.{statement}
 use Rattle.costs.proofs.hydro.hydro_energy.Tie as tie
 
 forecast-price-requires : tie.Need-forecast-price-requires
+unfolding datable among table
 forecast-price-requires c κs =
     let p = c .before .before .before .pre in
     (p .0, c .window .ensures .0 ∙ says-always (p .0) RS 0 refl 8, omega (arith, p .3, c .window .ensures .0), c .window .ensures .1)

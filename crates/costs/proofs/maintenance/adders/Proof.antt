@@ -25,7 +25,7 @@ slots-empty-requires c κs =
       arith,
       c .slot-ad .ensures,
       adder-slot (c .before .before .before .args .p) 1 1 (omega arith) (omega arith),
-      q .0 .roomy,
+      q .0 .index .roomy,
       q .2,
     )
 
