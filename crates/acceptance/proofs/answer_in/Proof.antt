@@ -14,7 +14,7 @@ rules-after-reading-requires c κs =
     let a = c .before .enum-told .given .1 in
     let i = o .ensures .1 a .0 in
     let p = c .before .before .before .before .before .before .before .before .before .before .before .before .before .pre in
-    (i, up-to-complete i (p .2) (omega (arith, p .3, o .kept)), p .2, sym (o .ensures .0) ∙ a)
+    (i, up-to-complete i (p .2) (omega (arith, p .3, o .kept)), p .2, sym (o .ensures .0) ∙ a, p .4)
 
 returns : tie.Need-returns
 returns c =

@@ -6,7 +6,7 @@ use Rattle.acceptance.proofs.indexed_answer.Statement.{statement}
 use Rattle.acceptance.proofs.indexed_answer.Tie as tie
 
 rules-after-reading-requires : tie.Need-rules-after-reading-requires
-rules-after-reading-requires c κs = let p = c .before .before .before .pre in (p .0, p .1, p .2, p .3 (c .if1 .taken))
+rules-after-reading-requires c κs = let p = c .before .before .before .pre in (p .0, p .1, p .2, p .3 (c .if1 .taken), p .4)
 
 enum-told : tie.Need-enum-told
 enum-told c = search needs
@@ -14,7 +14,7 @@ enum-told c = search needs
 rules-after-reading-requires-2 : tie.Need-rules-after-reading-requires-2
 rules-after-reading-requires-2 c κs =
     let p = c .before .before .before .before .before .before .pre in
-    (p .0, p .1, p .2, scan-twins _ (p .0) ∙ sym (c .before .before .first-twin .ensures) ∙ c .enum-told .given .1)
+    (p .0, p .1, p .2, scan-twins _ (p .0) ∙ sym (c .before .before .first-twin .ensures) ∙ c .enum-told .given .1, p .4)
 
 returns-3 : tie.Need-returns-3
 returns-3 c =

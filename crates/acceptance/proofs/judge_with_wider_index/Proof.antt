@@ -9,12 +9,12 @@ use Rattle.acceptance.proofs.judge_with_wider_index.Tie as tie
 answer-in-requires : tie.Need-answer-in-requires
 answer-in-requires c κs =
     let a = c .before .before .before .before .before in
-    (search needs, zero-sums (a .args .sums .now) (a .pre .0), a .pre .2, search needs)
+    (search needs, zero-sums (a .args .sums .now) (a .pre .0), a .pre .2, search needs, a .pre .3)
 
 answer-in-requires-2 : tie.Need-answer-in-requires-2
 answer-in-requires-2 c κs =
     let a = c .before .before .before .before .before in
-    (search needs, zero-sums (a .args .sums .now) (a .pre .0), wide-up-to _ (a .pre .1), search needs)
+    (search needs, zero-sums (a .args .sums .now) (a .pre .0), wide-up-to _ (a .pre .1), search needs, a .pre .3)
 
 same-length : tie.Need-same-length
 same-length c =
