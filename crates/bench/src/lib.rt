@@ -3,7 +3,7 @@ ghost use mathlib.Core.Path.{_≡_};
 ghost use mathlib.Core.List.{[], _∷_};
 ghost use Prim.Native.Nat.{_/_, _%_, _<_};
 ghost use lib.ListN.{length};
-ghost use Rattle.records.specs.Record.{mark};
+ghost use Rattle.records.specs.Record.{mark, kindOf};
 ghost use Rattle.lookup.specs.Parts.{lookupPart};
 ghost use Rattle.rules.specs.Answer.{answer};
 ghost use Rattle.rules.specs.Week.{weekAnswer, pricesAfter, energiesAfter};
@@ -37,7 +37,7 @@ pub extern "C" fn bench_accept(dossier: &[u8]) -> u64
 // Where the current record of a mark and key stands in a dossier.
 #[no_mangle]
 pub extern "C" fn bench_current(dossier: &[u8], letters: u16, key: u32) -> u64
-    ensures { λ r. ⌜ r ≡ partCode (lookupPart (now (dossier .entry)) (mark (letters / 256 ∷ letters % 256 ∷ [])) key) ⌝ }
+    ensures { λ r. ⌜ r ≡ partCode (lookupPart (now (dossier .entry)) (kindOf (mark (letters / 256 ∷ letters % 256 ∷ []))) key) ⌝ }
 {
     let part = lookup::current_by_number(dossier, letters, key);
     let start = part.start;

@@ -1,12 +1,14 @@
 -- From the tests over levels as code hands them over to the verdicts.
 use mathlib.Core.Path.{_≡_, ap, _∙_}
+use mathlib.Core.Bool.{true}
 use mathlib.Core.List.{List, map}
 use Prim.Native.Nat.{ℕ, _/_}
 use lib.ListN.{length}
 use Rattle.records.specs.declared.Answer.the-variants.{Accepted}
 use Rattle.station.specs.Parameters.{Parameters}
 use Rattle.rules.specs.Fit.{energy}
-use Rattle.formulas.specs.Levels.{parametersIn, amountsIn, Line, shown, profile, lines, levels}
+use Rattle.formulas.specs.Levels.{parametersAt, amountsAt, fuelled, Line, shown, profile, lines, levels}
+use Rattle.formulas.proofs.Hours.{levels-fuelled}
 use Rattle.arrays.specs.declared.HourLevels.{HourLevels}
 use Rattle.arrays.specs.Packed.{arraysOf, laminationsFrom, unpacked, amountOf}
 use Rattle.verdicts.specs.declared.Verdict.{Verdict}
@@ -34,9 +36,10 @@ offer-tested s c l o r t a u e f =
 
 pub price-tested :
     (d : List ℕ) (h v c price : ℕ) (t : Threshold) {x : ℕ} {w : Verdict}
-    → priceRefusal (parametersIn d) v c ≡ Accepted → x ≡ amountOf v (levels d h) → t ≡ thresholdOf (parametersIn d) c v
-    → w ≡ singleShown t price x → w ≡ priceVerdict (parametersIn d) v c (levels d h) price
-unfolding priceVerdict levels lines
-price-tested d h v c price t a e f g =
-    let q = price-accepted (parametersIn d) v c a in
-    settle-accepted a (rw (e, f) at g ∙ single-tested (parametersIn d) (amountsIn d) (profile (parametersIn d) h) c price v (q .1) (q .2) (q .0))
+    → fuelled (parametersAt d h) h ≡ true → priceRefusal (parametersAt d h) v c ≡ Accepted → x ≡ amountOf v (levels d h)
+    → t ≡ thresholdOf (parametersAt d h) c v → w ≡ singleShown t price x → w ≡ priceVerdict (parametersAt d h) v c (levels d h) price
+unfolding priceVerdict lines
+price-tested d h v c price t u a e f g =
+    let q = price-accepted (parametersAt d h) v c a in
+    settle-accepted a (rw (e, f) at g ∙ rw (levels-fuelled d h u) (single-tested (parametersAt d h) (amountsAt d h) (profile (parametersAt d h) h) c price v
+    (q .1) (q .2) (q .0)))

@@ -7,9 +7,9 @@ ghost use lib.ListN.{length};
 ghost use Rattle.records.specs.Dossier.{records};
 ghost use Rattle.station.specs.Parameters.{parameters};
 ghost use Rattle.station.specs.Week.{WeekIn};
-ghost use Rattle.rules.specs.Answer.{IsAccepted};
-ghost use Rattle.formulas.specs.Levels.{levels};
-ghost use Rattle.lookup.specs.Parts.{Indexed, Empty};
+ghost use Rattle.records.specs.declared.Answer.the-variants.{Accepted};
+ghost use Rattle.formulas.specs.Levels.{levels, hourAnswer, parametersAt};
+ghost use Rattle.lookup.specs.Parts.{Indexed, Empty, AtHour};
 ghost use Rattle.limits.specs.Thresholds.{thresholdOf};
 ghost use Rattle.verdicts.specs.Verdict.{offerVerdict, priceVerdict, onOffer, onPrice};
 use crate::refusals::offer_refusal;
@@ -43,8 +43,8 @@ fn offer_verdict(
     condition: u8,
     offer: &[u8],
 ) -> Verdict
-    requires { ⌜ Indexed (now d) (now index) × (length (now sums) ≡ 2) × WeekIn (now d) (now sums) × IsAccepted (now d) ⌝ }
-    ensures { λ r. ⌜ r ≡ offerVerdict (parameters (records (now (d .entry)))) condition (levels (now (d .entry)) hour) (now (offer .entry)) ⌝ }
+    requires { ⌜ (hourAnswer (now d) hour ≡ Accepted) × AtHour hour (now d) (now index) × (length (now sums) ≡ 2) × WeekIn (now d) (now sums) ⌝ }
+    ensures { λ r. ⌜ r ≡ offerVerdict (parametersAt (now (d .entry)) hour) condition (levels (now (d .entry)) hour) (now (offer .entry)) ⌝ }
 {
     let c = condition as usize;
     match offer_refusal(d, index, c, offer) {
@@ -69,8 +69,8 @@ fn price_verdict(
     condition: u8,
     price: u64,
 ) -> Verdict
-    requires { ⌜ Indexed (now d) (now index) × IsAccepted (now d) × (price < 4294967296) ⌝ }
-    ensures { λ r. ⌜ r ≡ priceVerdict (parameters (records (now (d .entry)))) level condition (levels (now (d .entry)) hour) price ⌝ }
+    requires { ⌜ (hourAnswer (now d) hour ≡ Accepted) × AtHour hour (now d) (now index) × (price < 4294967296) ⌝ }
+    ensures { λ r. ⌜ r ≡ priceVerdict (parametersAt (now (d .entry)) hour) level condition (levels (now (d .entry)) hour) price ⌝ }
 {
     let c = condition as usize;
     match price_refusal(d, index, level, c) {
@@ -89,7 +89,7 @@ fn energy_test_in(d: &[u8], index: &mut [u16], hour: u32, condition: u8, offer: 
     ensures { λ r. ⌜ r ≡ onOffer (now (d .entry)) hour condition (now (offer .entry)) ⌝ }
 {
     let mut sums = [0u64; 2];
-    match acceptance::judge(d, index, &mut sums) {
+    match query::judge_at(d, hour, index, &mut sums) {
         Answer::Refused { number, place } => Verdict::Refused { number, place },
         Answer::Accepted => offer_verdict(d, index, &sums, hour, condition, offer),
     }
@@ -132,7 +132,7 @@ fn price_test_in(
     ensures { λ r. ⌜ r ≡ onPrice (now (d .entry)) hour level condition price ⌝ }
 {
     let mut sums = [0u64; 2];
-    match acceptance::judge(d, index, &mut sums) {
+    match query::judge_at(d, hour, index, &mut sums) {
         Answer::Refused { number, place } => Verdict::Refused { number, place },
         Answer::Accepted => price_verdict(d, index, hour, level, condition, limits::biased(price)),
     }

@@ -8,7 +8,7 @@ use borrow.Author.Tests.{leb-true}
 use Rattle.lists.specs.Tests.{allTo}
 use Rattle.lists.proofs.Tests.{and-left, and-right, between-low}
 use Rattle.records.specs.Table.{table, rowOf, fieldOf, RS, HR, FP}
-use Rattle.records.specs.Record.{value, inRange}
+use Rattle.records.specs.Record.{told, inRange}
 use Rattle.station.specs.Current.{current}
 use Rattle.station.specs.Parameters.{parameters, technology, window}
 use Rattle.rules.specs.Curve.{fullHours, hoursHold, windowFits, placesHold, forecastFits}
@@ -17,7 +17,7 @@ use Rattle.rules.proofs.Sound.{its-range}
 
 pub technology-low : {l : List (List ℕ)} → Sound l → 1 ≤ technology (parameters l)
 unfolding parameters inRange fieldOf rowOf table
-technology-low {l} h = between-low 1 4 (value RS 0 (current RS 0 l)) (its-range h RS 0 (h .station) 0 (lit≤ tt))
+technology-low {l} h = between-low 1 4 (told RS 0 (current RS 0 l)) (its-range h RS 0 (h .station) 0 (lit≤ tt))
 
 pub hours-fit : {l : List (List ℕ)} → Sound l → technology (parameters l) ≡ 3 → fullHours (parameters l) ≤ window (parameters l)
 unfolding windowFits hoursHold

@@ -1,6 +1,5 @@
 // The reference levels at an hour, in arrays.
 mod laminations;
-mod profile;
 
 ghost use mathlib.Core.Path.{_≡_};
 ghost use mathlib.Core.List.{[], _∷_};
@@ -9,11 +8,11 @@ ghost use Prim.Native.Nat.{_≤_};
 ghost use lib.ListN.{length, replicate};
 ghost use Rattle.station.specs.Parameters.{technology, capacity};
 ghost use Rattle.station.specs.Week.{WeekIn};
-ghost use Rattle.lookup.specs.Parts.{Indexed, Empty, parametersHeld, amountsHeld};
+ghost use Rattle.lookup.specs.Parts.{Indexed, Empty, parametersHeld, amountsHeld, AtHour};
 ghost use Rattle.rules.specs.Fit.{holds};
-ghost use Rattle.rules.specs.Answer.{IsAccepted};
+ghost use Rattle.records.specs.declared.Answer.the-variants.{Accepted};
 ghost use Rattle.formulas.specs.Exact.{microDollars, cents as centsOf};
-ghost use Rattle.formulas.specs.Levels.{parametersIn, linesOf, levels};
+ghost use Rattle.formulas.specs.Levels.{parametersIn, linesOf, levels, hourAnswer};
 ghost use Rattle.arrays.specs.Packed.{padded, singleLevels, hourOf, singleSum, amountOf, packed, packedAt, noLevels};
 ghost use Rattle.reference.specs.Answer.{levelsAnswer};
 use arithmetic::Money;
@@ -98,11 +97,11 @@ pub fn hour_levels(
     to: &mut [u64],
     cents: &mut [u64],
 ) -> SingleLevels
-    requires { ⌜ IsAccepted (now d) × Indexed (now d) (now index) × (length (now sums) ≡ 2) × WeekIn (now d) (now sums)
+    requires { ⌜ (hourAnswer (now d) hour ≡ Accepted) × AtHour hour (now d) (now index) × (length (now sums) ≡ 2) × WeekIn (now d) (now sums)
         × (now from ≡ replicate 20 0) × (now to ≡ replicate 20 0) × (now cents ≡ replicate 20 0) ⌝ }
     ensures { λ r. ⌜ hourOf r (now (from .exit)) (now (to .exit)) (now (cents .exit)) ≡ packedAt (now (d .entry)) hour ⌝ }
 {
-    let p = profile::profile(d, index, hour);
+    let p = query::profile::profile(d, index, hour);
     let technology = parameters::technology(d, index);
     if technology == 1 {
         return thermal_levels(d, index, p, from, to, cents);
@@ -137,10 +136,11 @@ fn single_sum(d: &[u8], index: &[u16], p: usize, level: u8) -> u64
 
 // A level without laminations at an hour, worked out by itself: the test of a single price needs no other.
 pub fn single_level(d: &[u8], index: &[u16], hour: u32, level: u8) -> u64
-    requires { ⌜ Indexed (now d) (now index) × (holds (technology (parametersIn (now d))) level ≡ true) × (2 ≤ level) × (level ≤ 4) ⌝ }
+    requires { ⌜ (hourAnswer (now d) hour ≡ Accepted) × AtHour hour (now d) (now index) × (holds (technology (parametersIn (now d))) level ≡ true)
+        × (2 ≤ level) × (level ≤ 4) ⌝ }
     ensures { λ r. ⌜ r ≡ amountOf level (levels (now (d .entry)) hour) ⌝ }
 {
-    let p = profile::profile(d, index, hour);
+    let p = query::profile::profile(d, index, hour);
     let money = Money::from_sum(single_sum(d, index, p, level));
     money.cents
 }
@@ -167,7 +167,7 @@ fn no_levels() -> HourLevels
 
 // The levels of an accepted dossier at an hour, with their laminations.
 fn whole_levels(d: &[u8], index: &[u16], sums: &[u64], hour: u32) -> HourLevels
-    requires { ⌜ IsAccepted (now d) × Indexed (now d) (now index) × (length (now sums) ≡ 2) × WeekIn (now d) (now sums) ⌝ }
+    requires { ⌜ (hourAnswer (now d) hour ≡ Accepted) × AtHour hour (now d) (now index) × (length (now sums) ≡ 2) × WeekIn (now d) (now sums) ⌝ }
     ensures { λ r. ⌜ r ≡ packedAt (now (d .entry)) hour ⌝ }
 {
     let mut from = [0u64; 20];
@@ -193,7 +193,7 @@ fn levels_in(d: &[u8], index: &mut [u16], hour: u32) -> LevelsAnswer
     ensures { λ r. ⌜ r ≡ levelsAnswer (now (d .entry)) hour ⌝ }
 {
     let mut sums = [0u64; 2];
-    match acceptance::judge(d, index, &mut sums) {
+    match query::judge_at(d, hour, index, &mut sums) {
         Answer::Accepted => {
             let answer = Answer::Accepted;
             let levels = whole_levels(d, index, &sums, hour);

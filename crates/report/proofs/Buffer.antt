@@ -5,12 +5,8 @@ use Prim.Native.Nat.{ℕ}
 use lib.ListN.{length}
 use Rattle.records.specs.declared.Answer.the-variants.{Accepted, Refused as Turned}
 use Rattle.records.specs.Answers.{orElse, isAccepted}
-use Rattle.records.specs.Dossier.{records}
-use Rattle.station.specs.Parameters.{parameters}
-use Rattle.rules.specs.Answer.{answer}
 use Rattle.arrays.specs.declared.HourLevels.{HourLevels}
-use Rattle.formulas.proofs.Hours.{hour-accepted, hour-refused}
-use Rattle.formulas.specs.Levels.{profile, levels, shown}
+use Rattle.formulas.specs.Levels.{parametersAt, profile, hourAnswer, levels, shown}
 use Rattle.arrays.specs.Packed.{unpacked}
 use Rattle.layout.specs.declared.Written.{Written}
 use Rattle.layout.specs.declared.Written.the-variants.{Refused}
@@ -19,7 +15,7 @@ use Rattle.lines.proofs.Fits.{Put}
 use Rattle.layout.specs.Report.{report, bufferWith, written, reportAnswer, bufferAfter}
 
 -- levels as code hands them over give the dossier's report
-pub packed-is : (d : List ℕ) (h : ℕ) (r : HourLevels) → unpacked r ≡ map shown (levels d h) → r .profile ≡ profile (parameters (records d)) h
+pub packed-is : (d : List ℕ) (h : ℕ) (r : HourLevels) → unpacked r ≡ map shown (levels d h) → r .profile ≡ profile (parametersAt d h) h
     → packedReport r ≡ report d h
 unfolding packedReport report
 packed-is d h r p q = rw (p, q)
@@ -30,12 +26,12 @@ Told d h e w b = (w ≡ written (reportAnswer d h (length e)) (length (report d 
 
 module _ (d : List ℕ) (h : ℕ) (e : List ℕ) where
   -- an accepted dossier's levels are in hand: all that is left to refuse is 15
-  pub told-levels : (r : HourLevels) {w : Written} {b : List ℕ} → answer d ≡ Accepted → packedReport r ≡ report d h
+  pub told-levels : (r : HourLevels) {w : Written} {b : List ℕ} → hourAnswer d h ≡ Accepted → packedReport r ≡ report d h
       → Put (packedReport r) e w b → Told d h e w b
   unfolding reportAnswer bufferAfter orElse
-  told-levels r a q p = rw (hour-accepted d h (record { clean = a }), ← q) p
+  told-levels r a q p = rw (a, ← q) p
 
   -- a refused dossier's refusal comes first
-  pub told-refusal : (k p : ℕ) → answer d ≡ Turned k p → Told d h e (Refused k p) e
+  pub told-refusal : (k p : ℕ) → hourAnswer d h ≡ Turned k p → Told d h e (Refused k p) e
   unfolding reportAnswer bufferAfter bufferWith written orElse isAccepted
-  told-refusal k p a = rw (hour-refused d h a) (refl, refl)
+  told-refusal k p a = rw a (refl, refl)

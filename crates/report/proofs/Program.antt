@@ -21,7 +21,7 @@ use Rattle.index.proofs.Turn.{tail}
 use Rattle.station.specs.Parameters.{Parameters, Amounts, parameters, amounts, technology}
 use Rattle.rules.proofs.Draws.{overlong}
 use Rattle.rules.specs.Curve.{points}
-use Rattle.formulas.specs.Levels.{Line, profile, laminations, linesOf, lines, levels, hourAnswer, shown}
+use Rattle.formulas.specs.Levels.{parametersAt, amountsAt, fuelled, Line, profile, laminations, linesOf, lines, levels, hourAnswer, shown}
 use Rattle.formulas.proofs.Hours.{hour-refused}
 use Rattle.text.specs.Text.{refusalLine}
 use Rattle.text.proofs.Decimal.{decimal-within}
@@ -59,11 +59,16 @@ lines-count s m p =
     (either 23 (eqb (technology s) storage) _ _ (omega arith) (either 23 (eqb (technology s) hydro) _ _ (omega arith) (omega arith))))
 
 -- every report has at most 2,283 bytes
+levels-count : (d : List ℕ) (h : ℕ) → length (levels d h) ≤ 23
+unfolding levels lines
+levels-count d h =
+    let s = parametersAt d h in
+    either 23 (fuelled s h) _ _ (lines-count s (amountsAt d h) (profile s h)) (omega arith)
+
 pub report-fits : (d : List ℕ) (h : ℕ) → length (report d h) ≤ 2283
-unfolding report levels lines
+unfolding report
 report-fits d h =
-    let s = parameters (records d) in
-    omega (arith, text-within (profile s h) (map shown (levels d h)), length-map (levels d h) shown, lines-count s (amounts (records d)) (profile s h))
+    omega (arith, text-within (profile (parametersAt d h) h) (map shown (levels d h)), length-map (levels d h) shown, levels-count d h)
 
 printed-fits : (a : Answer) (text : List ℕ) → length text ≤ 2283 → length (printed a text) ≤ 2283
 unfolding printed

@@ -15,7 +15,7 @@ fn report_in(d: &[u8], index: &mut [u16], hour: u32, buf: &mut [u8]) -> Written
     ensures buffer { λ r. ⌜ now (buf .exit) ≡ bufferAfter (now (d .entry)) hour (now (buf .entry)) ⌝ }
 {
     let mut sums = [0u64; 2];
-    match acceptance::judge(d, index, &mut sums) {
+    match query::judge_at(d, hour, index, &mut sums) {
         Answer::Accepted => {
             let mut from = [0u64; 20];
             let mut to = [0u64; 20];

@@ -1,4 +1,5 @@
 -- The week as the records lie: each interval is put at the place that its slot names, and at no other.
+use Rattle.lists.specs.Tests.{among}
 use mathlib.Core.Path.{_≡_, refl, ap, sym, subst, _∙_}
 use mathlib.Core.Bool.{Bool, true, false, cond, _&&_, not, true≢false, false≢true}
 use mathlib.Core.List.{List, [], _∷_}
@@ -16,7 +17,7 @@ use Rattle.fields.specs.Numbers.{number, biased, unbiased}
 use Rattle.fields.proofs.Numbers.{number-nil}
 use Rattle.records.specs.declared.Answer.the-variants.{Accepted}
 use Rattle.records.specs.Table.{table, rowOf, CH}
-use Rattle.records.specs.Record.{mark, size, widths, fault, issue, keyIn, keyWidth, keyOf, rangesHold}
+use Rattle.records.specs.Record.{mark, size, widths, fault, issue, keyIn, keyWidth, keyOf, rangesHold, datable, fieldsAt}
 use Rattle.records.specs.Dossier.{firstOf, restOf, recordsIn, records}
 use Rattle.records.proofs.Record.{mark-take, size-ge}
 use Rattle.records.proofs.Read.{number-take, fault-first}
@@ -33,7 +34,8 @@ use Rattle.index.proofs.HeldSums.{interval-key}
 use Rattle.index.proofs.Intervals.{fair, ch-size}
 use Rattle.index.proofs.Slots.{slot-narrow}
 use Rattle.lookup.specs.declared.Part.{Part}
-use Rattle.lookup.specs.Parts.{part, placeAt, currentPart, Indexed}
+use Rattle.lookup.specs.Parts.{part, recordPart, currentPart, Whole as WholeIndex}
+use Rattle.records.proofs.Dated.{other-mark}
 use Rattle.lookup.proofs.Parts.{place-current, slot-tells}
 use Rattle.lookup.proofs.Week.{slot-empty, slot-there}
 use Rattle.week.specs.Filled.{Stands, At, readTo, Filled}
@@ -80,12 +82,12 @@ interval-of s f m =
     go false false e true z = rw (le-leb (size CH) (length s) (ltb-false (length s) (size CH) e), eq-eqb (mark s) CH m) refl
 
 ch-key : (r : List ℕ) → mark r ≡ CH → keyOf r ≡ number 6 2 r
-unfolding keyOf keyWidth keyIn rowOf table
-ch-key r e = ap (λ (k : ℕ). number 6 (keyWidth k) r) e
+unfolding keyOf keyWidth keyIn rowOf table fieldsAt
+ch-key r e = ap (λ (k : ℕ). number (fieldsAt k) (keyWidth k) r) e
 
 -- ---- what a slot tells
 
-module _ {d ix : List ℕ} (ok : readable d ≡ Accepted) (h : Indexed d ix) (roomy : narrow ≤ length ix) where
+module _ {d ix : List ℕ} (ok : readable d ≡ Accepted) (h : WholeIndex d ix) (roomy : narrow ≤ length ix) where
   abbrev v : ℕ → ℕ
   v n = getD ix (slot CH n) 0
 
@@ -105,11 +107,12 @@ module _ {d ix : List ℕ} (ok : readable d ≡ Accepted) (h : Indexed d ix) (ro
 
     -- the start of the interval's record
     named : 0 < v n → v n - 1 ≡ startOf CH n (records d)
-    unfolding placeAt currentPart size widths rowOf table
+    unfolding recordPart currentPart
     named z =
         let c = slot-there h n a b fits (λ e. omega arith) in
-        let e : part (v n - 1) 16 ≡ currentPart CH n (records d) = rw (ne-eqb (v n) 0 (λ w. omega arith), le-ltb (length d) (v n - 1 + 16) (c .0)) at
-        (place-current d ix h CH n (interval-key n a b) fits refl refl) in
+        let e : part (v n - 1) (size (mark (drop (v n - 1) d))) ≡ currentPart CH n (records d) =
+        rw (ne-eqb (v n) 0 (λ w. omega arith), le-ltb (length d) (v n) (omega (arith, c .0))) at
+        (place-current d ix h CH n (interval-key n a b) fits refl) in
         ap (λ (q : Part). q .start) e
 
     -- which is one of the dossier's
@@ -130,6 +133,7 @@ module _ {d ix : List ℕ} (ok : readable d ≡ Accepted) (h : Indexed d ix) (ro
           ap (λ (x : ℕ). take 16 (drop x d)) (sym q) ∙ slot-there h n a b fits (λ z. omega arith) .1
 
       pub tells : (mark (drop p d) ≡ CH) × (number 6 2 (drop p d) ≡ n)
+      unfolding datable among table
       tells = go (current-found CH n (records d))
         where
           go : CurrentOf CH n (records d) (current CH n (records d)) → (mark (drop p d) ≡ CH) × (number 6 2 (drop p d) ≡ n)
@@ -137,7 +141,7 @@ module _ {d ix : List ℕ} (ok : readable d ≡ Accepted) (h : Indexed d ix) (ro
               absurd (true≢false (sym (slot-tells d ix h CH n (interval-key n a b) fits ∙ ap not (ne-eqb (v n) 0 (λ w. omega arith)))
               ∙ ap (λ (l : List ℕ). ltb 0 (length l)) z))
           go (standing q) =
-              let m : mark (take 16 (drop p d)) ≡ CH = ap mark there ∙ q .marked in (
+              let m : mark (take 16 (drop p d)) ≡ CH = ap mark there ∙ other-mark (current CH n (records d)) refl (q .marked) in (
                 sym (mark-take 16 (drop p d) (omega arith)) ∙ m,
                 sym (number-take 16 6 2 (drop p d) (omega arith)) ∙ sym (ch-key _ m) ∙ ap keyOf there ∙ q .keyed,
               )

@@ -11,7 +11,7 @@ ghost use Rattle.records.specs.Table.{CH};
 ghost use Rattle.records.specs.Record.{mark, size};
 ghost use Rattle.station.specs.Week.{intervals, weekPrices, weekEnergies};
 ghost use Rattle.index.specs.Slots.{slot, narrow};
-ghost use Rattle.lookup.specs.Parts.{Empty, Indexed};
+ghost use Rattle.lookup.specs.Parts.{Empty, Whole};
 ghost use Rattle.rules.specs.Answer.{IsAccepted};
 ghost use Rattle.rules.specs.Week.{weekAnswer, pricesAfter, energiesAfter};
 ghost use Rattle.week.specs.Filled.{Stands, Filled};
@@ -71,7 +71,7 @@ fn put_interval(index: &[u16], at: usize, i: Interval, prices: &mut [i32], energ
 
 // The record at a place, whatever it is; then comes the next.
 fn put_record(d: &[u8], index: &[u16], at: usize, prices: &mut [i32], energies: &mut [u32]) -> usize
-    requires { ⌜ IsAccepted (now d) × Indexed (now d) (now index) × (narrow ≤ length (now index)) × (at < length (now d))
+    requires { ⌜ IsAccepted (now d) × Whole (now d) (now index) × (narrow ≤ length (now index)) × (at < length (now d))
         × (intervals ≤ length (now prices)) × (intervals ≤ length (now energies)) ⌝ }
     ensures { λ r. ⌜ (r ≡ at + size (mark (drop at (now (d .entry))))) × ((p : List ℤ) (e : List ℕ)
         → Filled (now (d .entry)) (now (index .entry)) p e at (now (prices .entry)) (now (energies .entry))
@@ -79,7 +79,7 @@ fn put_record(d: &[u8], index: &[u16], at: usize, prices: &mut [i32], energies: 
 {
     let i = index::charging::interval_at(d, at);
     if i.n == 0 {
-        return at + records::length_of(records::kind_at(&d[at..]));
+        return at + records::length_of(records::mark_at(&d[at..]));
     }
     put_interval(index, at, i, prices, energies);
     at + records::CH.length
@@ -87,7 +87,7 @@ fn put_record(d: &[u8], index: &[u16], at: usize, prices: &mut [i32], energies: 
 
 // The week of an accepted dossier: the records are read as they lie, once. Where no interval has a record there is nothing to read.
 fn put_week(d: &[u8], index: &[u16], prices: &mut [i32], energies: &mut [u32])
-    requires { ⌜ IsAccepted (now d) × Indexed (now d) (now index) × (narrow ≤ length (now index)) × (intervals ≤ length (now prices))
+    requires { ⌜ IsAccepted (now d) × Whole (now d) (now index) × (narrow ≤ length (now index)) × (intervals ≤ length (now prices))
         × (intervals ≤ length (now energies)) ⌝ }
     ensures { λ r. ⌜ (now (prices .exit) ≡ weekPrices (now (d .entry)) ++ drop intervals (now (prices .entry)))
         × (now (energies .exit) ≡ weekEnergies (now (d .entry)) ++ drop intervals (now (energies .entry))) ⌝ }
@@ -111,7 +111,9 @@ fn week_in(d: &[u8], index: &mut [u16], prices: &mut [i32], energies: &mut [u32]
         × (now (energies .exit) ≡ energiesAfter (now (d .entry)) (now (prices .entry)) (now (energies .entry))) ⌝ }
 {
     let mut sums = [0u64; 2];
-    match acceptance::judge(d, index, &mut sums) {
+    let judged = acceptance::judge(d, index, &mut sums);
+    let answer = judged.answer;
+    match answer {
         Answer::Accepted => {
             if (prices.len() < INTERVALS) | (energies.len() < INTERVALS) {
                 return Answer::Refused {

@@ -8,10 +8,9 @@ use lib.ListN.{length, getD, drop, length-map}
 use Rattle.records.specs.declared.Answer.{Answer}
 use Rattle.records.specs.declared.Answer.the-variants.{Accepted, Refused}
 use Rattle.records.specs.Answers.{orElse, refuseIf, isAccepted}
-use Rattle.rules.specs.Answer.{answer}
 use Rattle.arrays.specs.declared.HourLevels.{HourLevels}
-use Rattle.formulas.proofs.Hours.{hour-accepted, hour-refused}
-use Rattle.formulas.specs.Levels.{Line, amount}
+use mathlib.Core.Bool.{true}
+use Rattle.formulas.specs.Levels.{parametersAt, fuelled, hourAnswer, Line, amount}
 use Rattle.arrays.specs.Packed.{arraysOf, energyLines, padded, packed, packedAt}
 use Rattle.arrays.proofs.Packed.{handed-count}
 use Rattle.words.specs.Words.{Blank, wordsOf, wordsAnswer, wordsAfter}
@@ -21,21 +20,21 @@ abbrev pub Told : List ℕ → ℕ → List ℕ → Answer → List ℕ → Type
 Told d h e a w = (a ≡ wordsAnswer d h (length e)) × (w ≡ wordsAfter d h e)
 
 module _ (d : List ℕ) (h : ℕ) (e : List ℕ) where
-  pub told-words : (r : HourLevels) {w : List ℕ} → answer d ≡ Accepted → 66 ≤ length e
+  pub told-words : (r : HourLevels) {w : List ℕ} → hourAnswer d h ≡ Accepted → 66 ≤ length e
       → r ≡ packedAt d h → w ≡ wordsOf r ++ drop 66 e
       → Told d h e Accepted w
   unfolding wordsAnswer wordsAfter orElse refuseIf isAccepted
-  told-words r a l p q = rw (hour-accepted d h (record { clean = a }), le-ltb (length e) 66 l, ← p) (refl, q)
+  told-words r a l p q = rw (a, le-ltb (length e) 66 l, ← p) (refl, q)
 
   -- too few words
-  pub told-few : answer d ≡ Accepted → length e < 66 → Told d h e (Refused 15 0) e
+  pub told-few : hourAnswer d h ≡ Accepted → length e < 66 → Told d h e (Refused 15 0) e
   unfolding wordsAnswer wordsAfter orElse refuseIf isAccepted
-  told-few a l = rw (hour-accepted d h (record { clean = a }), lt-ltb (length e) 66 l) (refl, refl)
+  told-few a l = rw (a, lt-ltb (length e) 66 l) (refl, refl)
 
   -- a refused dossier's refusal comes first
-  pub told-refusal : (k p : ℕ) → answer d ≡ Refused k p → Told d h e (Refused k p) e
+  pub told-refusal : (k p : ℕ) → hourAnswer d h ≡ Refused k p → Told d h e (Refused k p) e
   unfolding wordsAnswer wordsAfter orElse isAccepted
-  told-refusal k p a = rw (hour-refused d h a) (refl, refl)
+  told-refusal k p a = rw a (refl, refl)
 
 -- ---- what `hour_levels` hands over has nothing past its laminations
 
@@ -63,6 +62,6 @@ packed-blank t p l h =
           ) refl;
     }
 
-pub handed-blank : (d : List ℕ) (h : ℕ) {r : HourLevels} → r ≡ packedAt d h → Blank (arraysOf r)
-handed-blank d h {r} e =
-    subst (λ (x : HourLevels). Blank (arraysOf x)) (sym e) (packed-blank _ _ _ (subst (λ (x : HourLevels). x .count ≤ 20) e (handed-count d h r e)))
+pub handed-blank : (d : List ℕ) (h : ℕ) {r : HourLevels} → fuelled (parametersAt d h) h ≡ true → r ≡ packedAt d h → Blank (arraysOf r)
+handed-blank d h {r} f e =
+    subst (λ (x : HourLevels). Blank (arraysOf x)) (sym e) (packed-blank _ _ _ (subst (λ (x : HourLevels). x .count ≤ 20) e (handed-count d h r e f)))

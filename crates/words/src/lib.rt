@@ -87,7 +87,7 @@ fn levels_words_in(d: &[u8], index: &mut [u16], hour: u32, words: &mut [u64]) ->
         × (now (words .exit) ≡ wordsAfter (now (d .entry)) hour (now (words .entry))) ⌝ }
 {
     let mut sums = [0u64; 2];
-    match acceptance::judge(d, index, &mut sums) {
+    match query::judge_at(d, hour, index, &mut sums) {
         Answer::Accepted => {
             if words.len() < 66 {
                 return Answer::Refused {

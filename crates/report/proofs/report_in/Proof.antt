@@ -2,22 +2,24 @@
 use mathlib.Core.Path.{_≡_, refl, sym, _∙_}
 use borrow.Author.Needs.{needs}
 use Rattle.records.specs.declared.Answer.{Answer}
-use Rattle.rules.specs.Answer.{answer}
+use Rattle.formulas.specs.Levels.{hourAnswer}
+use Rattle.formulas.proofs.Hours.{hour-parts}
 use Rattle.arrays.proofs.Packed.{handed-shown, handed-count, handed-profile}
 use Rattle.report.proofs.Buffer.{packed-is, told-levels, told-refusal}
 use Rattle.report.proofs.report_in.Statement.{statement}
 use Rattle.report.proofs.report_in.Tie as tie
 
--- what `judge` found is the dossier's answer
-answer-is : (c : tie.After-judge) {a : Answer} → c .judge .result ≡ a → answer (c .before .before .before .before .before .before .args .d .now) ≡ a
-answer-is c e = sym (c .judge .ensures .0) ∙ e
+-- what `judge_at` found is what the hour draws
+answer-is : (c : tie.After-judge-at) {a : Answer} → c .judge-at .result ≡ a → hourAnswer (c .before .before .before .before .before .before .args .d .now)
+    (c .before .before .before .before .before .before .args .hour) ≡ a
+answer-is c e = sym (c .judge-at .ensures .0) ∙ e
 
 hour-levels-requires : tie.Need-hour-levels-requires
 hour-levels-requires c κs =
     let j = c .before .before .before .before .before .before .before .before .before .before in
     let e = c .before .before .before .before .before .enum-told .given .1 in
-    let h = j .judge .ensures .1 e in
-    (record { clean = answer-is j e }, h .0, search needs, h .1, refl, refl, refl)
+    let h = j .judge-at .ensures .1 e in
+    (answer-is j e, h .0, search needs, h .1, refl, refl, refl)
 
 put-report-requires : tie.Need-put-report-requires
 put-report-requires c κs =
@@ -25,6 +27,7 @@ put-report-requires c κs =
     let j = l .before .before .before .before .before .before .before .before .before .before .before in
     let args = j .before .before .before .before .before .before .args in
     handed-count (args .d .now) (args .hour) _ (l .hour-levels .ensures)
+    (hour-parts _ _ (answer-is j (l .before .before .before .before .before .before .enum-told .given .1)) .1)
 
 returns : tie.Need-returns
 returns c =
@@ -32,8 +35,10 @@ returns c =
     let j = l .before .before .before .before .before .before .before .before .before .before .before in
     let args = j .before .before .before .before .before .before .args in
     let e = l .hour-levels .ensures in
-    told-levels (args .d .now) (args .hour) (args .buf .now) _ (answer-is j (l .before .before .before .before .before .before .enum-told .given .1))
-    (packed-is (args .d .now) (args .hour) _ (handed-shown (args .d .now) (args .hour) _ e) (handed-profile (args .d .now) (args .hour) _ e))
+    let q = answer-is j (l .before .before .before .before .before .before .enum-told .given .1) in
+    told-levels (args .d .now) (args .hour) (args .buf .now) _ q
+    (packed-is (args .d .now) (args .hour) _ (handed-shown (args .d .now) (args .hour) _ e (hour-parts _ _ q .1)) (handed-profile (args .d .now) (args
+    .hour) _ e))
     (c .before .before .put-report .ensures)
 
 returns-2 : tie.Need-returns-2

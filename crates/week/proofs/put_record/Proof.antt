@@ -7,7 +7,7 @@ use native.Mathlib.Omega.{arith}
 use lib.ListN.{drop}
 use Rattle.fields.specs.Numbers.{number, biased}
 use Rattle.records.specs.Record.{mark, size}
-use Rattle.records.proofs.Marks.{mark-lt}
+use Rattle.records.proofs.EveryMark.{mark-lt}
 use Rattle.index.specs.declared.charging.Interval.{Interval}
 use Rattle.index.specs.Intervals.{isInterval, intervalAs}
 use Rattle.index.proofs.Intervals.{fair, ch-size, interval-none, interval-there}
@@ -21,9 +21,9 @@ use Rattle.week.proofs.put_record.Statement.{statement}
 use Rattle.week.proofs.put_record.Tie as tie
 
 -- the mark of the rest, which is handed over whole
-its-mark : (c : tie.After-kind-at) → c .kind-at .result ≡ mark (drop (c .before .before .before .before .before .before .before .before .args .at)
+its-mark : (c : tie.After-mark-at) → c .mark-at .result ≡ mark (drop (c .before .before .before .before .before .before .before .before .args .at)
     (c .before .before .before .before .before .before .before .before .args .d .now))
-its-mark c = c .kind-at .ensures ∙ ap mark (tail (c .before .before .before .before .before .before .before .before .args .d .now)
+its-mark c = c .mark-at .ensures ∙ ap mark (tail (c .before .before .before .before .before .before .before .before .args .d .now)
     (c .before .before .before .before .before .before .before .before .args .at))
 
 length-of-requires : tie.Need-length-of-requires

@@ -8,7 +8,7 @@ use Rattle.week.proofs.week_in.Statement.{statement}
 use Rattle.week.proofs.week_in.Tie as tie
 
 -- what `judge` found is the dossier's answer
-answer-is : (c : tie.After-judge) {a : Answer} → c .judge .result ≡ a → answer (c .before .before .before .before .before .before .args .d .now) ≡ a
+answer-is : (c : tie.After-judge) {a : Answer} → c .judge .result .answer ≡ a → answer (c .before .before .before .before .before .before .args .d .now) ≡ a
 answer-is c e = sym (c .judge .ensures .0) ∙ e
 
 returns : tie.Need-returns
@@ -44,7 +44,7 @@ returns-3 : tie.Need-returns-3
 returns-3 c =
     let a = c .before .before .before .before .before .before .before .before .before .before .before .before .args in
     told-refusal (a .d .now) (a .prices .now) (a .energies .now) _ _ (answer-is (c .before .before .before .before .before .before)
-    (c .before .number .given .1))
+    (c .before .answer .given .1))
 
 pub week-in-spec : {M : Type 1} → statement M
 week-in-spec =

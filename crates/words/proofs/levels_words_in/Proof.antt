@@ -2,14 +2,16 @@
 use mathlib.Core.Path.{_≡_, refl, sym, _∙_}
 use borrow.Author.Needs.{needs}
 use Rattle.records.specs.declared.Answer.{Answer}
-use Rattle.rules.specs.Answer.{answer}
+use Rattle.formulas.specs.Levels.{hourAnswer}
+use Rattle.formulas.proofs.Hours.{hour-parts}
 use Rattle.words.proofs.Answers.{handed-blank, told-words, told-few, told-refusal}
 use Rattle.words.proofs.levels_words_in.Statement.{statement}
 use Rattle.words.proofs.levels_words_in.Tie as tie
 
--- what `judge` found is the dossier's answer
-answer-is : (c : tie.After-judge) {a : Answer} → c .judge .result ≡ a → answer (c .before .before .before .before .before .before .args .d .now) ≡ a
-answer-is c e = sym (c .judge .ensures .0) ∙ e
+-- what `judge_at` found is what the hour draws
+answer-is : (c : tie.After-judge-at) {a : Answer} → c .judge-at .result ≡ a → hourAnswer (c .before .before .before .before .before .before .args .d .now)
+    (c .before .before .before .before .before .before .args .hour) ≡ a
+answer-is c e = sym (c .judge-at .ensures .0) ∙ e
 
 returns : tie.Need-returns
 returns c =
@@ -21,15 +23,18 @@ hour-levels-requires : tie.Need-hour-levels-requires
 hour-levels-requires c κs =
     let j = c .before .before .before .before .before .before .before .before .before .before .before in
     let e = c .before .before .before .before .before .before .enum-told .given .1 in
-    let h = j .judge .ensures .1 e in
-    (record { clean = answer-is j e }, h .0, search needs, h .1, refl, refl, refl)
+    let h = j .judge-at .ensures .1 e in
+    (answer-is j e, h .0, search needs, h .1, refl, refl, refl)
 
 put-words-requires : tie.Need-put-words-requires
 put-words-requires c κs =
     let l = c .before .before .before .before .before .before .before in
     let j = l .before .before .before .before .before .before .before .before .before .before .before .before in
-    let a = j .before .before .before .before .before .before .args in
-    (search needs, handed-blank (a .d .now) (a .hour) (l .hour-levels .ensures))
+    let a = j .before .before .before .before .before .before .args in (
+      search needs,
+      handed-blank (a .d .now) (a .hour) (hour-parts _ _ (answer-is j (l .before .before .before .before .before .before .before .enum-told .given .1)) .1)
+          (l .hour-levels .ensures),
+    )
 
 returns-2 : tie.Need-returns-2
 returns-2 c =

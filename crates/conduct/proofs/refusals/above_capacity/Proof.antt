@@ -1,9 +1,11 @@
+use Rattle.lists.specs.Tests.{among}
+use Rattle.records.specs.Record.{datable}
 use borrow.Author.Needs.{needs}
 use mathlib.Core.Path.{_≡_, refl, _∙_}
 use Prim.Native.Nat.{_-_, _/_, _≤_}
 use native.Mathlib.Omega.{arith}
 use lib.ListN.{length}
-use Rattle.records.specs.Table.{RS}
+use Rattle.records.specs.Table.{RS, table}
 use Rattle.records.specs.Dossier.{records}
 use Rattle.station.specs.Parameters.{parameters, capacity as capacityOf}
 use Rattle.lookup.proofs.Held.{says-always}
@@ -22,6 +24,7 @@ abbrev μ-loop : tie.MeasureT-loop
 μ-loop d index offer capacity pairs k₀ k = pairs - k
 
 loop-holds : tie.Need-loop-holds Inv-loop μ-loop
+unfolding datable among table
 loop-holds c =
     let p = c .before .before .before .before .pre in
     (omega arith, omega (arith, p .1), c .capacity .ensures .0 ∙ says-always (p .0) RS 0 refl 1, all-left (aboveCapacity _ _ 0) _)

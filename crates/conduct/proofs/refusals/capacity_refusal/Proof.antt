@@ -1,9 +1,11 @@
+use Rattle.lists.specs.Tests.{among}
+use Rattle.records.specs.Record.{datable}
 use borrow.Author.Needs.{needs}
 use mathlib.Core.Path.{_≡_, refl, _∙_}
 use Prim.Native.Nat.{_-_, _/_}
 use native.Mathlib.Omega.{arith}
 use lib.ListN.{length}
-use Rattle.records.specs.Table.{RS}
+use Rattle.records.specs.Table.{RS, table}
 use Rattle.records.specs.Dossier.{records}
 use Rattle.station.specs.Parameters.{parameters, capacity}
 use Rattle.lookup.proofs.Held.{says-always}
@@ -22,6 +24,7 @@ returns c =
     above-end s (a .offer .now) n 0 (omega (arith, c .if1 .taken)) ∙ all-left (aboveCapacity s (a .offer .now) 0) n
 
 returns-2 : tie.Need-returns-2
+unfolding datable among table
 returns-2 c =
     let b = c .before .before .before .before .before .before .before in
     let o = b .args .offer .now in

@@ -1,5 +1,7 @@
+use Rattle.lists.specs.Tests.{among}
+use Rattle.records.specs.Record.{datable}
 use mathlib.Core.Path.{_≡_, refl, _∙_}
-use Rattle.records.specs.Table.{RS}
+use Rattle.records.specs.Table.{RS, table}
 use Rattle.records.specs.Dossier.{records}
 use Rattle.station.specs.Parameters.{parameters, technology}
 use Rattle.lookup.proofs.Held.{says-always}
@@ -9,6 +11,7 @@ use Rattle.conduct.proofs.refusals.level_refusal.Statement.{statement}
 use Rattle.conduct.proofs.refusals.level_refusal.Tie as tie
 
 technology-is : (c : tie.After-level-held) → c .before .technology .result ≡ technology (parameters (records (c .before .before .before .before .args .d .now)))
+unfolding datable among table
 technology-is c = c .before .technology .ensures .0 ∙ says-always (c .before .before .before .before .pre) RS 0 refl 0
 
 returns : tie.Need-returns
