@@ -10,7 +10,8 @@
  * definitions say (docs/PROMISE.md), and every call ends. A refused call shows no level and writes nothing.
  *
  * Units. Levels and prices are in cents: per MWh for energy, per start, per hour for no-load, per MW for reserve. Quantities are in 0.1 MW,
- * charged energy in kWh, places and lengths in bytes. Hours are counted as the dossier's requests (RQ) count them, from 0 to 4,294,967,295.
+ * charged energy in kWh, places and lengths in bytes. Hours are counted as the dossier's requests (RQ) and first hours (FV, AV, MV) count them, from 0
+ * to 4,294,967,295.
  * Levels: 1 energy, 2 start, 3 no-load, 4 reserve. Conditions: 1 narrow, 2 broad, 3 global.
  *
  * Memory. A call reads and writes what it is lent and nothing else, allocates nothing and keeps no pointer. It can't see what lies behind a
@@ -48,16 +49,18 @@ static inline unsigned bench_class(uint64_t answer) { return (unsigned)(answer >
 static inline uint32_t bench_a(uint64_t answer) { return (uint32_t)(answer >> 32 & 0xFFFFFF); }
 static inline uint32_t bench_b(uint64_t answer) { return (uint32_t)(answer & 0xFFFFFFFF); }
 
-/* Whether a dossier is accepted: 0, or refused with 13, 1 to 9 or 17. The calls below but bench_current refuse such a dossier alike. */
+/* Whether a dossier is accepted: 0, or refused with 13, 1 to 9 or 17. The calls below but bench_current refuse such a dossier alike. Those with an hour
+ * are next refused with 20 at 0 where the profile of the hour has no fuel in force: all of its fuel lies ahead. */
 uint64_t bench_accept(const uint8_t *dossier, size_t length);
 
 /* Where the current record of a mark and key stands in the dossier, the one with the highest issue: a is its start and b its length. It is never
  * refused: both are 0 where there is no such record, or the dossier draws 13 or 1 to 4; one that draws 5 to 9 or 17 can be looked up in.
- *   mark  its two letters, the first high: 0x4655 is FU
+ *   mark  its two letters, the first high: 0x4655 is FU. FU and FV ask for the same, the highest issue of both, and so do AD and AV, MM and MV
  *   key   its bytes as one number, the first high; 0 for RS and LC, which have none */
 uint64_t bench_current(const uint8_t *dossier, size_t length, uint16_t mark, uint32_t key);
 
-/* The levels at an hour, into a list of words; the value is 66, and words past these stay. A list of fewer (count) is refused with 15 at 0.
+/* The levels at an hour, into a list of words: of each key the highest issue counts whose first hour has come. The value is 66, and words past these
+ * stay. A list of fewer (count) is refused with 15 at 0.
  *   words[0]         the profile, 1 to 4
  *   words[1]         the number n of laminations, 1 to 20
  *   words[2 + 3 * i] and the two behind it: from and to (0.1 MW) and level (cents) of lamination i + 1; 0 where i is n to 19

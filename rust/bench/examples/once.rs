@@ -2,24 +2,41 @@
 //!
 //! usage: once SIDE CALL INPUT TIMES
 //!
-//! SIDE is `model` or `bench`, CALL the name of a function, INPUT `r1` (case R1 with all
-//! thresholds) or `week` (a full charging week). The status is 1 if the sides' answers differ, and
-//! 2 if an argument is wrong.
+//! SIDE is `model` or `bench`, CALL the name of a function, INPUT one of `r1` (case R1 with all
+//! thresholds), `week` (a full charging week), `forecast` (4,000 places in any order), a technology
+//! (`thermal`, 8,000 bytes), `full-` and a technology (60,000 bytes), `dated-` and a technology (60,000
+//! bytes with first hours), and `fuels` (3,000 with first hours, of one key). The status is 1 if the
+//! sides' answers differ, and 2 if an argument is wrong.
 
 mod calls;
 
 use calls::{status, Input, NAMES};
-use model::make::sized::{full_week, thresholds};
+use model::make::dated::many_fuels;
+use model::make::forecast::{full, Order};
+use model::make::sized::{full_week, sized, sized_dated, thresholds};
 use model::make::written::r1;
-use model::table::Technology;
+use model::table::{Technology, TECHNOLOGIES};
 use std::process::ExitCode;
 
 fn dossier(name: &str) -> Result<Vec<u8>, String> {
     let all = |condition| thresholds(Technology::Thermal, condition).concat();
     match name {
-        "r1" => Ok([r1(), [1, 2, 3].map(all).concat()].concat()),
-        "week" => Ok(full_week()),
-        _ => Err(format!("{name} is no input: r1, week")),
+        "r1" => return Ok([r1(), [1, 2, 3].map(all).concat()].concat()),
+        "week" => return Ok(full_week()),
+        "forecast" => return Ok(full(Order::Any, Order::Any)),
+        "fuels" => return Ok(many_fuels(3_000, Order::Any, Order::Any)),
+        _ => {}
+    }
+    let (sort, technology) = name.split_once('-').unwrap_or(("", name));
+    let called = |t: &Technology| format!("{t:?}").to_lowercase() == technology;
+    let found = TECHNOLOGIES.into_iter().find(called);
+    match (sort, found) {
+        ("", Some(technology)) => Ok(sized(technology, 8_000)),
+        ("full", Some(technology)) => Ok(sized(technology, 60_000)),
+        ("dated", Some(technology)) => Ok(sized_dated(technology, 60_000)),
+        _ => Err(format!(
+            "{name} is no input: the head of once.rs lists them"
+        )),
     }
 }
 

@@ -1,9 +1,10 @@
 //! The times of the calls by the length of the dossier: for each technology from 1,000 to 60,000
-//! bytes, the library beside the model.
+//! bytes, without first hours and with them, and for 375 to 3,000 fuels of one key in every order
+//! of issues and first hours, the library beside the model.
 //!
 //! usage: sizes [ROUNDS] [--write FOLDER]
 //!
-//! A table for each technology: a cell is the nanoseconds of the model and of the library, and
+//! A table for each of these: a cell is the nanoseconds of the model and of the library, and
 //! their ratio. The last row shows the growth: nanoseconds of the library per byte, on the shortest
 //! dossier and on the longest, and their ratio, about 1 or less where the time is linear. A nuclear
 //! station has no single price to test. The status is 1 if an answer differs, and 2 if an argument
@@ -19,13 +20,15 @@
 //!     cp ../shared/anchor/ratio ../shared/anchor/*.c target/anchor
 //!     cargo run --profile timed --offline --quiet --manifest-path rust/Cargo.toml -p bench \
 //!         --example sizes -- 1 --write target/anchor/inputs
-//!     target/anchor/ratio --rounds 31
+//!     target/anchor/ratio --upto 8 --rounds 31
 
 mod calls;
 mod times;
 
 use calls::{status, Input, CONDITION, HOUR, NAMES};
-use model::make::sized::sized;
+use model::make::dated::many_fuels;
+use model::make::forecast::orders;
+use model::make::sized::{sized, sized_dated};
 use model::make::small::{charged, least, refused, small};
 use model::table::{Technology, RESERVE, TECHNOLOGIES};
 use std::fs;
@@ -33,6 +36,9 @@ use std::process::ExitCode;
 use times::{cells, head, rounds, row, row_of, Times};
 
 const LENGTHS: [usize; 7] = [1_000, 2_000, 4_000, 8_000, 16_000, 32_000, 60_000];
+
+/// Records FV of one key, from 7 to 57 kilobytes.
+const COUNTS: [u32; 4] = [375, 750, 1_500, 3_000];
 
 /// The number of rounds and the folder.
 fn arguments<'a>(words: &[&'a str]) -> Result<(usize, Option<&'a str>), String> {
@@ -57,7 +63,11 @@ fn write(folder: &str, name: &str, input: &Input) -> Result<(), String> {
     let length = (input.offer.len() as u16).to_be_bytes();
     let ahead = [&HOUR.to_be_bytes()[..], &asked, b"FU\0\0\0\x01", &length].concat();
     let bytes = [&ahead[..], &input.offer, &input.dossier].concat();
-    let request = u8::from(name.starts_with("hydro"));
+    let request = match name {
+        _ if name.starts_with("dated") => 8,
+        _ if name.starts_with("hydro") => 1,
+        _ => 0,
+    };
     let path = format!("{folder}/{request:02}-00-{name}");
     let written = fs::create_dir_all(folder).and_then(|()| fs::write(&path, bytes));
     written.map_err(|fault| format!("{path}: {fault}"))
@@ -82,22 +92,53 @@ fn write_small(folder: &str) -> Result<(), String> {
     Ok(())
 }
 
-/// Prints the table of a technology; whether all answers are the same.
-fn table(technology: Technology, rounds: usize, folder: Option<&str>) -> Result<bool, String> {
-    println!("### {technology:?}\n\n{}", head(&["bytes"]));
-    let inputs = LENGTHS.map(|length| Input::of(sized(technology, length)));
+/// Dossiers that grow, under a name.
+struct Growing {
+    name: String,
+    /// The first is the shortest and the last the longest.
+    inputs: Vec<Input>,
+}
+
+/// The tables: every technology without first hours, then with them, then fuels of one key.
+fn tables() -> Vec<Growing> {
+    let of = |name: String, make: fn(Technology, usize) -> Vec<u8>, technology| Growing {
+        name,
+        inputs: LENGTHS
+            .map(|length| Input::of(make(technology, length)))
+            .into(),
+    };
+    let undated = TECHNOLOGIES.map(|t| of(format!("{t:?}"), sized, t));
+    let dated = TECHNOLOGIES.map(|t| of(format!("Dated {t:?}"), sized_dated, t));
+    let fuels = orders().map(|(issues, hours)| Growing {
+        name: format!("Dated fuels, issues {issues:?}, first hours {hours:?}"),
+        inputs: COUNTS
+            .map(|count| Input::of(many_fuels(count, issues, hours)))
+            .into(),
+    });
+    undated.into_iter().chain(dated).chain(fuels).collect()
+}
+
+/// Prints a table; whether all answers are the same.
+fn table(growing: &Growing, rounds: usize, folder: Option<&str>) -> Result<bool, String> {
+    println!("### {}\n\n{}", growing.name, head(&["bytes"]));
     let mut all_same = true;
-    for (length, input) in LENGTHS.iter().zip(&inputs) {
+    for input in &growing.inputs {
+        let length = input.dossier.len();
         if let Some(folder) = folder {
-            let name = format!("{technology:?}-{length:05}").to_lowercase();
-            write(folder, &name, input)?;
+            let name = growing
+                .name
+                .to_lowercase()
+                .replace(", ", "-")
+                .replace(' ', "-");
+            write(folder, &format!("{name}-{length:05}"), input)?;
         }
         let cells = cells(rounds, input);
-        println!("{}", row(&[&input.dossier.len().to_string()], &cells));
+        println!("{}", row(&[&length.to_string()], &cells));
         all_same &= cells.iter().flatten().all(|cell| cell.same);
     }
-    let [shortest, .., longest] = &inputs;
-    println!("{}\n", growth(rounds, shortest, longest));
+    if let [shortest, .., longest] = &growing.inputs[..] {
+        println!("{}\n", growth(rounds, shortest, longest));
+    }
     Ok(all_same)
 }
 
@@ -121,8 +162,8 @@ fn run(words: &[&str]) -> Result<bool, String> {
     if let Some(folder) = folder {
         write_small(folder)?;
     }
-    for technology in TECHNOLOGIES {
-        all_same &= table(technology, rounds, folder)?;
+    for growing in tables() {
+        all_same &= table(&growing, rounds, folder)?;
     }
     Ok(all_same)
 }

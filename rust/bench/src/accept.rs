@@ -2,9 +2,11 @@
 
 use crate::{raw, Refusal, Word};
 
-/// Whether the dossier is accepted: levels can be worked out from it at every hour.
+/// Whether the dossier is accepted: levels can be worked out from it at every hour that has fuel.
 ///
 /// A refusal is 13, one of 1 to 9, or 17; every call but [`current`] refuses such a dossier alike.
+/// Those with an hour next refuse one whose profile has no fuel in force (20), since all of it has a
+/// first hour that lies ahead.
 ///
 /// ```
 /// # mod r1 { include!(concat!(env!("CARGO_MANIFEST_DIR"), "/doc/r1.rs")); }
@@ -36,6 +38,9 @@ pub struct Part<'a> {
 
 /// The current record of a mark and key: of all that have them, the one with the highest issue.
 ///
+/// FU and FV share their keys, and either asks for the highest issue of both, whatever its first
+/// hour; so do AD and AV, MM and MV.
+///
 /// The key is its bytes as one number, the high byte first, and 0 for the marks without a key, RS
 /// and LC. A lookup is never refused: the part is empty where there is no such record, and where
 /// the dossier draws 13 or 1 to 4, while one that draws 5 to 9 or 17 can be looked up in.
@@ -56,6 +61,12 @@ pub struct Part<'a> {
 /// // the threshold of condition 1 and level 4; there is none for condition 2
 /// assert_eq!(bench::current(&longer, *b"TH", 0x01_04).bytes.len(), 18);
 /// assert!(bench::current(&longer, *b"TH", 0x02_04).bytes.is_empty());
+///
+/// // a price from hour 24 on is the current one from the day it is sent
+/// let ahead = record(b"FV", 4, &[(4, 24), (1, 1), (4, 5_100_000), (4, 1_000_000)]);
+/// let longer = [longer, ahead.clone()].concat();
+/// assert_eq!(bench::current(&longer, *b"FU", 1).bytes, ahead);
+/// assert_eq!(bench::current(&longer, *b"FV", 1).bytes, ahead);
 /// ```
 pub fn current<'a>(dossier: &'a [u8], mark: [u8; 2], key: u32) -> Part<'a> {
     let letters = u16::from_be_bytes(mark);

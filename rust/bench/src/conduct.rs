@@ -36,7 +36,7 @@ fn verdict(word: u64) -> Result<Verdict, Refusal> {
 /// fall. A pair reaches from the quantity before it, or 0, to its own, and is tested in every
 /// lamination that it overlaps.
 ///
-/// Beside what [`accept`](crate::accept) refuses, it refuses a condition without a threshold for
+/// Beside what [`levels`](crate::levels()) refuses, it refuses a condition without a threshold for
 /// energy (14), a malformed offer (10) and a quantity above the capacity (11).
 ///
 /// ```
@@ -81,7 +81,7 @@ pub fn energy_test(
 /// Puts a single price to the test at an hour, for a level other than energy (2 to 4) and under a
 /// condition (1 to 3). The price is in cents and may have any value; one below 0 never fails.
 ///
-/// Beside what [`accept`](crate::accept) refuses, it refuses energy and a level that the technology
+/// Beside what [`levels`](crate::levels()) refuses, it refuses energy and a level that the technology
 /// doesn't hold (12), and a condition without a threshold for the level (14).
 ///
 /// ```

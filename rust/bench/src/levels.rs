@@ -42,7 +42,8 @@ pub struct Lamination {
     pub level: u64,
 }
 
-/// The levels at an hour. A refusal is the one of [`accept`](crate::accept).
+/// The levels at an hour: of each key the highest issue whose first hour has come counts. A refusal
+/// is the one of [`accept`](crate::accept), or 20 where the profile of the hour has no fuel in force.
 ///
 /// ```
 /// # mod r1 { include!(concat!(env!("CARGO_MANIFEST_DIR"), "/doc/r1.rs")); }
@@ -55,6 +56,25 @@ pub struct Lamination {
 /// assert_eq!(levels.no_load, Some(50_000));
 /// assert_eq!(levels.reserve, Some(25));
 /// # Ok::<(), bench::Refusal>(())
+/// ```
+///
+/// A contract's price that is known early counts from its first hour on:
+///
+/// ```
+/// # mod r1 { include!(concat!(env!("CARGO_MANIFEST_DIR"), "/doc/r1.rs")); }
+/// # use r1::{dossier, record};
+/// let ahead = record(b"FV", 2, &[(4, 24), (1, 1), (4, 5_000_000), (4, 1_000_000)]);
+/// let longer = [dossier(), ahead].concat();
+/// let energy = |hour| bench::levels(&longer, hour).map(|levels| levels.energy[0].level);
+/// assert_eq!((energy(23), energy(24)), (Ok(4_230), Ok(5_030)));
+///
+/// // a second profile whose fuel begins at hour 30 is asked for from hour 26 on
+/// let request = record(b"RQ", 1, &[(1, 1), (4, 26), (4, 40), (1, 2)]);
+/// let oil = record(b"FV", 1, &[(4, 30), (1, 2), (4, 11_500_000), (4, 1_800_000)]);
+/// let longer = [longer, request, oil].concat();
+/// let refusal = bench::Refusal { number: 20, place: 0 };
+/// assert_eq!(bench::levels(&longer, 26), Err(refusal));
+/// assert!(bench::accept(&longer).is_ok() && bench::levels(&longer, 30).is_ok());
 /// ```
 pub fn levels(dossier: &[u8], hour: u32) -> Result<Levels, Refusal> {
     let mut words = [0; WORDS];
@@ -83,8 +103,8 @@ fn lamination(words: &[u64]) -> Lamination {
 /// Writes the levels at an hour to the first words of a lent list and gives their number,
 /// [`WORDS`]; words past them stay. It allocates nothing.
 ///
-/// Beside what [`accept`](crate::accept) refuses, it refuses a list of fewer words (15). A refused
-/// call leaves every word.
+/// Beside what [`levels`] refuses, it refuses a list of fewer words (15). A refused call leaves every
+/// word.
 ///
 /// ```
 /// # mod r1 { include!(concat!(env!("CARGO_MANIFEST_DIR"), "/doc/r1.rs")); }

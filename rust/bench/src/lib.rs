@@ -12,8 +12,10 @@
 //! At most 60,000 bytes of records, back to back, in any order. A record has a mark of two letters,
 //! an issue number and some fields, which begin with its key (a heat point has its number as key, a
 //! fuel price the profile that it is for). Of the records with one mark and key, the one with the
-//! highest issue is *current*, wherever it lies; older ones stay and say nothing. `docs/LIBRARY.md`
-//! lists the marks with their fields.
+//! highest issue is *current*, wherever it lies; older ones stay and say nothing. Fuel, adders and
+//! maintenance may have a first hour (FV, AV and MV in place of FU, AD and MM, with the same keys): at
+//! an hour the highest issue whose first hour has come counts. `docs/LIBRARY.md` lists the marks with
+//! their fields.
 //!
 //! ```
 #![doc = include_str!("../doc/r1.rs")]
@@ -59,8 +61,8 @@
 //!
 //! Levels and prices are in cents: per MWh for energy, per start, per hour for no-load, per MW for
 //! reserve. Quantities are in 0.1 MW, charged energy in kWh. An hour is any number from 0 to
-//! 4,294,967,295, and means what it means in the dossier's requests (RQ); places are in bytes, from
-//! 0. Levels and conditions have numbers:
+//! 4,294,967,295, and means what it means in the dossier's requests (RQ) and first hours; places are
+//! in bytes, from 0. Levels and conditions have numbers:
 //!
 //! | Number | Level | Condition |
 //! |---|---|---|
@@ -104,7 +106,7 @@ use std::fmt;
 /// ```
 #[derive(Clone, Copy, Debug, PartialEq, Eq)]
 pub struct Refusal {
-    /// The rule, 1 to 17; README.md of the repository lists them.
+    /// The rule, 1 to 17 or 20; README.md of the repository lists them.
     pub number: u8,
     /// The byte of the dossier where the refused record begins, or of the offer where the refused
     /// pair does; the length of either where the whole of it is refused; 0 for the rest.

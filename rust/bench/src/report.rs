@@ -8,7 +8,7 @@ pub const REPORT_BYTES: usize = 2_283;
 /// Writes the report at an hour to the first bytes of a lent buffer and gives its length; bytes past
 /// it stay. The report is ASCII, levels in dollars and ends of laminations in MW.
 ///
-/// Beside what [`accept`](crate::accept) refuses, it refuses a buffer that the report doesn't fit
+/// Beside what [`levels`](crate::levels()) refuses, it refuses a buffer that the report doesn't fit
 /// (15), which one of [`REPORT_BYTES`] never is. A refused call leaves every byte.
 ///
 /// ```

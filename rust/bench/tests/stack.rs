@@ -1,6 +1,7 @@
 //! Every call on a thread that has no more stack than the documents ask for.
 
 use bench::{Verdict, REPORT_BYTES};
+use model::make::dated::many_fuels;
 use model::make::forecast::{full, Order, FULL_LEVEL};
 use model::make::offers;
 use model::make::written::record;
@@ -8,31 +9,43 @@ use std::thread::Builder;
 
 const STACK: usize = 256 * 1024;
 
-/// The dossier that takes the most: a forecast asks for the wide index, and an older record behind
-/// a newer one for the search for twins.
-fn deepest() -> Vec<u8> {
+/// The dossiers that take the most, each with an hour and its first energy level: a forecast asks for
+/// the wide index, an older record behind a newer one for the search for twins, and first hours for
+/// that of what counts at some hour.
+fn deepest() -> Vec<(Vec<u8>, u32, u64)> {
     let older = record(b"FU", 0, &[1, 0, 0]);
-    [full(Order::Any, Order::Any), older].concat()
+    let forecast = [full(Order::Any, Order::Any), older].concat();
+    let ahead = record(b"FV", 2, &[7, 1, 0, 0]);
+    let dated = [&forecast[..], &ahead].concat();
+    let fuels = many_fuels(3_000, Order::Any, Order::Any);
+    let level = model::levels(&fuels, 2_999).unwrap().energy[0].level;
+    vec![
+        (forecast, 0, FULL_LEVEL),
+        (dated, 0, FULL_LEVEL),
+        (fuels, 2_999, level),
+    ]
 }
 
-fn every_call() {
-    let dossier = deepest();
-    assert_eq!(bench::accept(&dossier), Ok(()));
-    assert_eq!(bench::current(&dossier, *b"RS", 0).bytes.len(), 31);
-    let levels = bench::levels(&dossier, 0).unwrap();
-    assert_eq!(levels.energy[0].level, FULL_LEVEL);
-    let offer = offers::bytes(&[(1_000, FULL_LEVEL as i32)]);
-    let verdict = bench::energy_test(&dossier, 0, 1, &offer);
+fn every_call(dossier: &[u8], hour: u32, level: u64) {
+    assert_eq!(bench::accept(dossier), Ok(()));
+    assert_eq!(bench::current(dossier, *b"RS", 0).bytes.len(), 31);
+    let levels = bench::levels(dossier, hour).unwrap();
+    assert_eq!(levels.energy[0].level, level);
+    let offer = offers::bytes(&[(1_000, level as i32)]);
+    let verdict = bench::energy_test(dossier, hour, 1, &offer);
     assert_eq!(verdict, Ok(Verdict::Passes));
-    let verdict = bench::price_test(&dossier, 0, 4, 1, 25);
+    let verdict = bench::price_test(dossier, hour, 4, 1, 25);
     assert_eq!(verdict, Ok(Verdict::Passes));
     let mut buffer = [0; REPORT_BYTES];
-    assert!(bench::report(&dossier, 0, &mut buffer).is_ok());
-    assert!(bench::week(&dossier).is_ok());
+    assert!(bench::report(dossier, hour, &mut buffer).is_ok());
+    assert!(bench::week(dossier).is_ok());
 }
 
 #[test]
 fn on_a_small_stack() {
-    let thread = Builder::new().stack_size(STACK);
-    thread.spawn(every_call).unwrap().join().unwrap();
+    for (dossier, hour, level) in deepest() {
+        let thread = Builder::new().stack_size(STACK);
+        let calls = thread.spawn(move || every_call(&dossier, hour, level));
+        calls.unwrap().join().unwrap();
+    }
 }

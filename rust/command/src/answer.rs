@@ -18,6 +18,8 @@ pub enum Status {
     Done,
     /// An offer fails.
     Fails,
+    /// Some of what was asked for is refused, and the rest is answered: a day with hours without fuel.
+    Partly,
     /// A refusal, by the library or of a line of text.
     Refused,
     /// The call itself can't be carried out.
@@ -28,7 +30,7 @@ impl Status {
     pub fn code(self) -> u8 {
         match self {
             Status::Done => 0,
-            Status::Refused => 1,
+            Status::Partly | Status::Refused => 1,
             Status::Wrong => 2,
             Status::Fails => 3,
         }

@@ -89,7 +89,10 @@ pub fn test(input: &Input, question: &Question) -> Said {
         }
     };
     match verdict {
-        Err(refusal) => refused(&of_offer(refusal, dossier, lines, pairs)).with(question.json()),
+        Err(refusal) => {
+            let explained = of_offer(refusal, dossier, lines, (*hour, pairs));
+            refused(&explained).with(question.json())
+        }
         Ok(Verdict::Passes) => judged(input, question, None),
         Ok(Verdict::Fails(failing)) => judged(input, question, Some(failing)),
     }

@@ -1,10 +1,12 @@
-//! `bench day`: the levels over hours as a table, and a picture of one hour's energy curve.
+//! `bench day`: the levels over hours as a table, with the hours at which one changes, and a picture
+//! of one hour's energy curve.
 
 use crate::answer::{refused, Said, Status, Stop, Streams};
 use crate::args::{hour, whole, Args};
+use crate::changes::Change;
 use crate::conduct::verdict;
 use crate::csv;
-use crate::explain::{of_dossier, of_offer};
+use crate::explain::{of_hour, of_offer};
 use crate::form::Form;
 use crate::input::Input;
 use crate::json::{object, Json};
@@ -39,6 +41,8 @@ struct Hour {
     hour: u32,
     levels: Levels,
     verdict: Option<Verdict>,
+    /// Where the levels are other than in the hour before.
+    change: Option<Change>,
 }
 
 /// A year of hours: more is no table that a person reads.
@@ -111,20 +115,31 @@ fn asked(input: &Input, question: &Question) -> Result<Day, Said> {
         hours: Vec::new(),
         refused: Vec::new(),
     };
+    let earlier = question.from.checked_sub(1);
+    let earlier = earlier.and_then(|hour| bench::levels(&input.dossier, hour).ok());
     for n in 0..question.hours {
-        match at(input, question, question.from + n) {
-            Ok(hour) => day.hours.push(hour),
-            Err(refusal) => day.refused.push((question.from + n, refusal)),
+        let hour = question.from + n;
+        match at(input, question, hour) {
+            Ok(mut now) => {
+                let last = day.hours.last().filter(|last| last.hour + 1 == hour);
+                let before = match n {
+                    0 => earlier.as_ref(),
+                    _ => last.map(|last| &last.levels),
+                };
+                now.change = Change::at(input, hour, before, &now.levels);
+                day.hours.push(now);
+            }
+            Err(refusal) => day.refused.push((hour, refusal)),
         }
     }
     match day.refused.first() {
-        Some((_, refusal)) if day.hours.is_empty() => {
+        Some((hour, refusal)) if day.hours.is_empty() => {
             let pairs = question.offer.as_ref().map_or(&[][..], |(_, pairs)| pairs);
             Err(refused(&of_offer(
                 *refusal,
                 &input.dossier,
                 &input.lines,
-                pairs,
+                (*hour, pairs),
             )))
         }
         _ => Ok(day),
@@ -140,6 +155,7 @@ fn at(input: &Input, question: &Question, hour: u32) -> Result<Hour, Refusal> {
         hour,
         levels: bench::levels(&input.dossier, hour)?,
         verdict,
+        change: None,
     })
 }
 
@@ -151,19 +167,20 @@ fn said(input: &Input, day: &Day) -> Said {
     let fails = day.hours.iter().any(|h| h.fails().is_some());
     let offered = day.hours.iter().any(|h| h.verdict.is_some());
     let (status, counts_as) = match (day.refused.is_empty(), fails, offered) {
-        (false, ..) => (Status::Refused, "refused at some hours"),
+        (false, ..) => (Status::Partly, "refused at some hours"),
         (true, true, _) => (Status::Fails, "fail"),
         (true, false, true) => (Status::Done, "pass"),
         (true, false, false) => (Status::Done, "with levels"),
     };
     let refusals = day.refused.iter().map(|(hour, refusal)| {
-        let explained = of_dossier(*refusal, &input.dossier, &input.lines);
+        let explained = of_hour(*refusal, &input.dossier, &input.lines, *hour);
         (*hour, explained)
     });
     let (mut words, mut hours) = (table(&day.hours), Vec::new());
     hours.extend(day.hours.iter().map(|hour| (hour.hour, hour.json())));
+    words += &changes(&day.hours);
     for (hour, explained) in refusals {
-        words += &format!("hour {hour}: {}\n", explained.line());
+        words += &format!("hour {hour}: {}{}\n", explained.line(), explained.behind());
         hours.push((hour, levels::at(hour).with("refused", explained.json())));
     }
     hours.sort_by_key(|(hour, _)| *hour);
@@ -180,10 +197,12 @@ fn said(input: &Input, day: &Day) -> Said {
 impl Hour {
     fn json(&self) -> Json {
         let json = json(self.hour, &self.levels);
-        match self.verdict {
+        let json = match self.verdict {
             Some(_) => json.with("offer", verdict(self.fails())),
             None => json,
-        }
+        };
+        let change = self.change.as_ref().map_or(Json::Null, Change::json);
+        json.with("change", change)
     }
 
     /// The first pair and lamination that fail, if the offer does.
@@ -205,8 +224,15 @@ impl Hour {
         })
     }
 
-    fn cells(&self) -> Vec<String> {
-        let mut cells = vec![self.hour.to_string(), self.levels.profile.to_string()];
+    /// The row of the hour; `marked` says that some hour has a mark behind it.
+    fn cells(&self, marked: bool) -> Vec<String> {
+        let mark = match (&self.change, marked) {
+            (Some(_), _) => CHANGED,
+            (None, true) => " ",
+            (None, false) => "",
+        };
+        let hour = format!("{}{mark}", self.hour);
+        let mut cells = vec![hour, self.levels.profile.to_string()];
         cells.extend(self.levels.energy.iter().map(|l| dollars(l.level)));
         cells.extend(
             others(&self.levels)
@@ -217,8 +243,9 @@ impl Hour {
         cells
     }
 
-    fn heads(&self) -> Vec<String> {
-        let mut heads = vec!["hour".to_string(), "profile".to_string()];
+    fn heads(&self, marked: bool) -> Vec<String> {
+        let hour = if marked { "hour " } else { "hour" };
+        let mut heads = vec![hour.to_string(), "profile".to_string()];
         let end = |l: &bench::Lamination| format!("to {} MW", megawatts(l.to));
         heads.extend(self.levels.energy.iter().map(end));
         let held = others(&self.levels)
@@ -230,10 +257,24 @@ impl Hour {
     }
 }
 
+/// What stands behind an hour at which a level changes.
+const CHANGED: &str = "*";
+
+/// The hours at which a level changes, each with what changes and why.
+fn changes(hours: &[Hour]) -> String {
+    let changed = hours
+        .iter()
+        .filter_map(|h| Some((h.hour, h.change.as_ref()?)));
+    let told = changed.map(|(hour, change)| format!("{CHANGED} {}\n", change.words(hour)));
+    told.collect()
+}
+
 /// One row an hour.
 fn table(hours: &[Hour]) -> String {
-    let mut rows: Vec<Vec<String>> = hours.first().map(Hour::heads).into_iter().collect();
-    rows.extend(hours.iter().map(Hour::cells));
+    let marked = hours.iter().any(|h| h.change.is_some());
+    let heads = hours.first().map(|h| h.heads(marked));
+    let mut rows: Vec<Vec<String>> = heads.into_iter().collect();
+    rows.extend(hours.iter().map(|h| h.cells(marked)));
     let heading = "energy in dollars per MWh by lamination; the other levels in dollars\n";
     // Hour and profile tell a row in each block.
     format!("{heading}{}", table::written(&rows, 2))
@@ -275,10 +316,13 @@ fn drawn_day(input: &Input, question: &Question, day: &Day) -> String {
         .map(|(hour, refusal)| (*hour, Err(*refusal)));
     let mut hours: Vec<_> = levels.chain(refused).collect();
     hours.sort_by_key(|(hour, _)| *hour);
+    let by_a_cost = |h: &&Hour| h.change.as_ref().is_some_and(|change| change.by_a_cost);
+    let changed = day.hours.iter().filter(by_a_cost);
     picture::day::svg(&picture::day::Day {
         title: &title,
         from: question.from,
         hours: hours.into_iter().map(|(_, found)| found).collect(),
+        changed: changed.map(|h| h.hour).collect(),
     })
 }
 
@@ -289,7 +333,7 @@ mod tests {
 
     const STATION: &str = concat!(env!("CARGO_MANIFEST_DIR"), "/../../examples/thermal.txt");
 
-    /// A day in which one hour is refused, as no rule does today.
+    /// A day in which one hour is refused.
     #[test]
     fn an_hour_that_is_refused_is_shown_among_the_others() {
         let text = std::fs::read(STATION).expect("an example");
@@ -312,7 +356,7 @@ mod tests {
         };
         day.refused.push((6, refusal));
         let said = said(&input, &day);
-        assert_eq!(said.status, Status::Refused);
+        assert_eq!((said.status, said.status.code()), (Status::Partly, 1));
         assert!(
             said.words.contains("\nhour 6: refused 8 at 7: "),
             "{}",

@@ -10,6 +10,7 @@ use crate::offer::{broken, Pair};
 use crate::plain::text_behind;
 use crate::record::{records, Record};
 use crate::rules::{rule, Rule};
+use crate::terms::book::Book;
 use crate::text::quoted;
 use bench::Refusal;
 
@@ -35,6 +36,47 @@ pub struct Standing {
     /// Its line or place in its file.
     pub origin: Origin,
     pub text: String,
+    /// The hours in which it counts, where that is told.
+    pub counts: Option<Span>,
+}
+
+/// The hours in which a record counts; without an end where no newer one follows.
+#[derive(Clone, Copy, Debug, PartialEq, Eq)]
+pub struct Span {
+    pub from: u32,
+    pub to: Option<u32>,
+}
+
+/// The refusal at an hour: that of a dossier, or of an hour without fuel.
+pub fn of_hour(refusal: Refusal, dossier: &[u8], lines: &Lines, hour: u32) -> Explained {
+    let mut explained = of_dossier(refusal, dossier, lines);
+    if refusal.number == 20 {
+        explained.details.extend(without_fuel(dossier, lines, hour));
+    }
+    explained
+}
+
+/// Which profile an hour has, and from which hour on that has fuel.
+fn without_fuel(dossier: &[u8], lines: &Lines, hour: u32) -> Vec<String> {
+    let book = Book::open(dossier, lines, hour);
+    let (profile, request) = (book.profile, book.request.map(|r| standing(&r, lines)));
+    let mut says = vec![format!(
+        "hour {hour} has profile {profile}, {}",
+        why(request.as_ref())
+    )];
+    says.extend(book.first_fuel().map(|fuel| {
+        let (first, fuel) = (fuel.first_hour(), standing(&fuel, lines).short());
+        format!("profile {profile} has fuel from hour {first} on: {fuel}")
+    }));
+    says
+}
+
+/// Why an hour has its profile, to stand behind it.
+pub fn why(request: Option<&Standing>) -> String {
+    match request {
+        Some(request) => format!("asked for by {}", request.short()),
+        None => "as no request covers the hour".to_string(),
+    }
 }
 
 /// The refusal of a dossier; `lines` are those of its records, if it came as text.
@@ -62,9 +104,14 @@ pub fn of_dossier(refusal: Refusal, dossier: &[u8], lines: &Lines) -> Explained 
     }
 }
 
-/// The refusal of an offer or a price put to a dossier.
-pub fn of_offer(refusal: Refusal, dossier: &[u8], lines: &Lines, offer: &[Pair]) -> Explained {
-    let mut explained = of_dossier(refusal, dossier, lines);
+/// The refusal of an offer or a price put to a dossier at an hour.
+pub fn of_offer(
+    refusal: Refusal,
+    dossier: &[u8],
+    lines: &Lines,
+    (hour, offer): (u32, &[Pair]),
+) -> Explained {
+    let mut explained = of_hour(refusal, dossier, lines, hour);
     let station = || current(dossier, "RS", 0);
     let detail = match refusal.number {
         10 => Some(malformed(offer, refusal.place)),
@@ -119,14 +166,22 @@ fn of_record(number: u8, dossier: &[u8], lines: &Lines, record: &Record) -> Vec<
             let came = |r| {
                 let twin = standing(&r, lines);
                 let (place, text) = (twin.place(), &twin.text);
-                format!("the same mark, key and issue came before: {place}: {text}")
+                let same = match twin.mark == record.mark.letters {
+                    true => "mark, key and issue",
+                    false => "key and issue",
+                };
+                format!("the same {same} came before: {place}: {text}")
             };
             twin.map(came).into_iter().collect()
         }
         6 => {
             let station = current(dossier, "RS", 0).map(|rs| rs.value("technology"));
             let technology = station.and_then(|name| Technology::of(&name));
-            technology.map_or_else(Vec::new, |technology| unfit(technology, record))
+            let mut says = technology.map_or_else(Vec::new, |t| unfit(t, record));
+            let book = Book::open(dossier, lines, record.first_hour());
+            let hours = book.cited(record).counts.and_then(|span| span.words());
+            says.extend(hours.map(|hours| format!("it counts {hours}")));
+            says
         }
         _ => Vec::new(),
     }
@@ -187,6 +242,20 @@ pub fn standing(record: &Record, lines: &Lines) -> Standing {
         issue: record.get("issue"),
         origin: lines.origin(record),
         text: record.text(),
+        counts: None,
+    }
+}
+
+impl Span {
+    /// The hours in words; nothing where it counts at every hour.
+    fn words(&self) -> Option<String> {
+        match (self.from, self.to) {
+            (0, None) => None,
+            (from, None) => Some(format!("from hour {from} on")),
+            (0, Some(to)) => Some(format!("up to hour {to}")),
+            (from, Some(to)) if from == to => Some(format!("at hour {from} alone")),
+            (from, Some(to)) => Some(format!("from hour {from} to {to}")),
+        }
     }
 }
 
@@ -197,7 +266,9 @@ impl Standing {
             words if words.is_empty() => format!("byte {}", self.start),
             words => words,
         };
-        format!("{} ({origin})", self.text)
+        let counts = self.counts.and_then(|span| span.words());
+        let counts = counts.map_or(String::new(), |hours| format!(", {hours}"));
+        format!("{} ({origin}){counts}", self.text)
     }
 
     /// Which record it is, without its text.
@@ -229,7 +300,14 @@ impl Standing {
             ("line", self.origin.line.map_or(Json::Null, Json::whole)),
             ("text", Json::text(&self.text)),
         ]);
-        record.and(self.origin.json())
+        let record = record.and(self.origin.json());
+        let hour = |hour: u32| Json::whole(hour as usize);
+        match self.counts {
+            Some(Span { from, to }) => record
+                .with("counts-from", hour(from))
+                .with("counts-to", to.map_or(Json::Null, hour)),
+            None => record,
+        }
     }
 }
 
@@ -238,6 +316,12 @@ impl Explained {
     pub fn line(&self) -> String {
         let Refusal { number, place } = self.refusal;
         format!("refused {number} at {place}: {}", self.rule.means)
+    }
+
+    /// The details in one line, to stand behind it.
+    pub fn behind(&self) -> String {
+        let details = self.details.iter();
+        details.map(|detail| format!("; {detail}")).collect()
     }
 
     /// The refusal in full.

@@ -79,6 +79,7 @@ Shows each level of an hour term by term: fuel, emission, each adder and mainten
 charging and opportunity side, a river station's place in the forecast, each with its records; then the
 sum in micro-dollars and the level in cents. L is energy, start, no-load or reserve. The terms are held
 against the library's level; where they don't add up to it, the answer says so and the status is 2.
+A cost that doesn't count at every hour has the hours in which it does; costs that lie ahead stand last.
 ";
 
 pub const TEST: &str = "\
@@ -112,12 +113,13 @@ pub const DAY: &str = "\
 bench day [FILE...] --from H [--hours N] [--together] [--json | --csv]
           [--condition C --offer PAIRS] [--svg OUT [--at H]] [--svg-day OUT]
 
-Prints the levels of N hours from hour H on (24 without --hours) as a table. With an offer, each hour
-has its verdict as well. Of many files each has its table; with --together they are one station. --csv
-writes a row for each level of each hour.
+Prints the levels of N hours from hour H on (24 without --hours) as a table. A * marks the hours at which
+a level is other than in the hour before; below the table stands why. Hours without fuel in force are
+refused one by one. With an offer, each hour has its verdict as well. Of many files each has its table;
+with --together they are one station. --csv writes a row for each level of each hour.
 --svg writes a picture of the energy curve at hour --at (the first without it), with the offer's pairs
 and the highest prices that pass over it. --svg-day writes one of the levels over the hours, with the
-profiles behind them. Both are of one station.
+profiles behind them and a line where a cost begins. Both are of one station.
 ";
 
 pub const WEEK: &str = "\
@@ -134,7 +136,8 @@ where no energy was charged. It is of one station.
 
 /// The fields of every record.
 pub fn fields() -> String {
-    let head = "Every record has issue=0 to 4294967295. A record is told by its mark and those of its fields with a *.\n";
+    let head = "Every record has issue=0 to 4294967295. A record is told by its mark and those of its fields with a *.\n\
+                FV, AV and MV are FU, AD and MM with a first hour, and share their keys.\n";
     let marks: Vec<String> = MARKS.iter().map(of_mark).collect();
     format!("{head}\n{}", marks.join("\n"))
 }
@@ -142,7 +145,11 @@ pub fn fields() -> String {
 fn of_mark(mark: &Mark) -> String {
     let mut text = format!("{}: {}\n", mark.letters, mark.holds);
     for (i, field) in mark.fields.iter().enumerate().skip(1) {
-        let star = if i <= mark.key { "*" } else { " " };
+        let star = if mark.key_fields().contains(&i) {
+            "*"
+        } else {
+            " "
+        };
         text += &format!("  {star} {:<18}{}\n", field.name, field.range());
     }
     text

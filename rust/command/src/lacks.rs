@@ -142,14 +142,14 @@ impl Look<'_> {
             let key = u32::try_from(profile).unwrap_or(0);
             is_absent(self.dossier, "FU", key)
         };
-        let first = lacks(1).then(|| "profile 1 has no FU".to_string());
+        let first = lacks(1).then(|| "profile 1 has no FU or FV".to_string());
         let mut says: Vec<String> = first.into_iter().collect();
         for request in (1..=16).filter_map(|key| current(self.dossier, "RQ", key)) {
             let (number, profile) = (request.get("request"), request.get("profile"));
             if profile != 0 && lacks(profile) {
                 let at = self.at(&request);
                 says.push(format!(
-                    "request {number}{at} names profile {profile}, which has no FU"
+                    "request {number}{at} names profile {profile}, which has no FU or FV"
                 ));
             }
         }

@@ -3,7 +3,7 @@
 use crate::answer::{refused, Said, Status, Stop, Streams};
 use crate::args::{hour, Args};
 use crate::csv;
-use crate::explain::of_dossier;
+use crate::explain::of_hour;
 use crate::form::Form;
 use crate::input::Input;
 use crate::json::{object, Json};
@@ -27,7 +27,7 @@ fn levels(input: &Input, hour: u32) -> Said {
             words: report,
             json: json(hour, &levels),
         },
-        Err(refusal) => refused(&of_dossier(refusal, dossier, lines)).with(at(hour)),
+        Err(refusal) => refused(&of_hour(refusal, dossier, lines, hour)).with(at(hour)),
     }
 }
 

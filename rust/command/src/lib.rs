@@ -5,6 +5,7 @@
 
 pub mod answer;
 pub mod args;
+mod changes;
 mod check;
 mod conduct;
 mod csv;

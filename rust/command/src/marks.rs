@@ -5,6 +5,7 @@ use crate::unit::{
     decimal, parts, whole, Unit, CONDITION, DOLLARS, DOLLARS_PER_MWH, FINE_DOLLARS, LEVEL,
     MEGAWATTS, PLAIN,
 };
+use std::ops::Range;
 
 /// One kind of record.
 #[derive(Debug)]
@@ -12,10 +13,12 @@ pub struct Mark {
     pub letters: &'static str,
     /// What such a record holds.
     pub holds: &'static str,
-    /// The fields in the order of their bytes; those of the key come first. The issue number, which
-    /// every record begins with, is the first.
+    /// The mark that it shares its keys with: its own, or for a dated one that without a first hour.
+    pub of: &'static str,
+    /// The fields in the order of their bytes. The issue number, which every record begins with, is
+    /// the first; behind it come the first hour of a dated one and the fields of the key.
     pub fields: &'static [Field],
-    /// How many fields behind the issue number form the key.
+    /// How many fields form the key.
     pub key: usize,
 }
 
@@ -65,9 +68,23 @@ const fn factor(name: &'static str, highest: i128) -> Field {
 
 const ISSUE: Field = to("issue", 4, ANY, PLAIN);
 const PRICED: Field = field("price", 4, -PRICE, PRICE, DOLLARS_PER_MWH);
+/// The first hour of a request, and that of a dated cost.
+const FIRST: Field = to("first", 4, ANY, PLAIN);
 const PROFILE: Field = key("profile", 1, 4);
 const OF_LEVEL: Field = field("level", 1, 1, 4, LEVEL);
 const OUTPUT: Field = to("output", 2, 20_000, MEGAWATTS);
+const FUEL: Field = to("fuel", 4, 400_000_000, FINE_DOLLARS);
+const EMISSION: Field = to("emission", 4, 400_000_000, decimal(6, 2, "dollars per GJ"));
+const OF_COST: Field = field("cost", 1, 1, 5, COST);
+const AMOUNT: Field = to("amount", 8, 1_000_000_000_000, FINE_DOLLARS);
+const ITEM: Field = key("item", 1, 8);
+const ITEM_COST: Field = to("cost", 8, 100_000_000_000, DOLLARS);
+const ITEM_OUTPUT: Field = Field {
+    lowest: 1,
+    ..OUTPUT
+};
+const INTERVAL: Field = field("interval", 4, 1, 1_000_000, whole("hours"));
+const START_HOURS: Field = to("start-hours", 2, 10_000, parts(1, "hours per start"));
 
 const TECHNOLOGY: Unit =
     PLAIN.with_words(&[("thermal", 1), ("nuclear", 2), ("storage", 3), ("hydro", 4)]);
@@ -83,11 +100,27 @@ const HYDRO: i128 = 4;
 const SHORT_WINDOW: i128 = 168;
 const WINDOW: &str = "hours (168 at most unless technology=hydro)";
 
-pub static MARKS: [Mark; 11] = [
+/// A mark with keys of its own.
+const fn mark(
+    letters: &'static str,
+    holds: &'static str,
+    fields: &'static [Field],
+    key: usize,
+) -> Mark {
     Mark {
-        letters: "RS",
-        holds: "the station",
-        fields: &[
+        letters,
+        holds,
+        of: letters,
+        fields,
+        key,
+    }
+}
+
+pub static MARKS: [Mark; 14] = [
+    mark(
+        "RS",
+        "the station",
+        &[
             ISSUE,
             field("technology", 1, 1, 4, TECHNOLOGY),
             field("capacity", 2, 1, 20_000, MEGAWATTS),
@@ -104,92 +137,114 @@ pub static MARKS: [Mark; 11] = [
             factor("efficiency", 1_000),
             to("window", 2, 4_000, whole(WINDOW)),
         ],
-        key: 0,
-    },
-    Mark {
-        letters: "HP",
-        holds: "a point of the heat curve",
-        fields: &[
+        0,
+    ),
+    mark(
+        "HP",
+        "a point of the heat curve",
+        &[
             ISSUE,
             key("point", 1, 21),
             OUTPUT,
             to("heat", 4, 20_000_000, whole("MJ per hour")),
         ],
-        key: 1,
-    },
+        1,
+    ),
+    mark(
+        "FU",
+        "the fuel of a profile",
+        &[ISSUE, PROFILE, FUEL, EMISSION],
+        1,
+    ),
     Mark {
-        letters: "FU",
-        holds: "the fuel of a profile",
-        fields: &[
+        of: "FU",
+        ..mark(
+            "FV",
+            "the fuel of a profile from an hour on",
+            &[ISSUE, FIRST, PROFILE, FUEL, EMISSION],
+            1,
+        )
+    },
+    mark(
+        "AD",
+        "an amount added to a level",
+        &[ISSUE, PROFILE, OF_COST, OF_LEVEL, AMOUNT],
+        3,
+    ),
+    Mark {
+        of: "AD",
+        ..mark(
+            "AV",
+            "an amount added to a level from an hour on",
+            &[ISSUE, FIRST, PROFILE, OF_COST, OF_LEVEL, AMOUNT],
+            3,
+        )
+    },
+    mark(
+        "MM",
+        "a maintenance item",
+        &[
             ISSUE,
             PROFILE,
-            to("fuel", 4, 400_000_000, FINE_DOLLARS),
-            to("emission", 4, 400_000_000, decimal(6, 2, "dollars per GJ")),
+            ITEM,
+            ITEM_COST,
+            ITEM_OUTPUT,
+            INTERVAL,
+            START_HOURS,
         ],
-        key: 1,
-    },
+        2,
+    ),
     Mark {
-        letters: "AD",
-        holds: "an amount added to a level",
-        fields: &[
-            ISSUE,
-            PROFILE,
-            field("cost", 1, 1, 5, COST),
-            OF_LEVEL,
-            to("amount", 8, 1_000_000_000_000, FINE_DOLLARS),
-        ],
-        key: 3,
+        of: "MM",
+        ..mark(
+            "MV",
+            "a maintenance item from an hour on",
+            &[
+                ISSUE,
+                FIRST,
+                PROFILE,
+                ITEM,
+                ITEM_COST,
+                ITEM_OUTPUT,
+                INTERVAL,
+                START_HOURS,
+            ],
+            2,
+        )
     },
-    Mark {
-        letters: "MM",
-        holds: "a maintenance item",
-        fields: &[
-            ISSUE,
-            PROFILE,
-            key("item", 1, 8),
-            to("cost", 8, 100_000_000_000, DOLLARS),
-            Field {
-                lowest: 1,
-                ..OUTPUT
-            },
-            field("interval", 4, 1, 1_000_000, whole("hours")),
-            to("start-hours", 2, 10_000, parts(1, "hours per start")),
-        ],
-        key: 2,
-    },
-    Mark {
-        letters: "RQ",
-        holds: "a request for a profile",
-        fields: &[
+    mark(
+        "RQ",
+        "a request for a profile",
+        &[
             ISSUE,
             key("request", 1, 16),
-            to("first", 4, ANY, PLAIN),
+            FIRST,
             to("last", 4, ANY, PLAIN),
             to("profile", 1, 4, PLAIN.with_words(&[("withdrawn", 0)])),
         ],
-        key: 1,
-    },
-    Mark {
-        letters: "HR",
-        holds: "the price of an hour of the window",
-        fields: &[ISSUE, key("hour", 1, 168), PRICED],
-        key: 1,
-    },
-    Mark {
-        letters: "CH",
-        holds: "an interval of charging",
-        fields: &[
+        1,
+    ),
+    mark(
+        "HR",
+        "the price of an hour of the window",
+        &[ISSUE, key("hour", 1, 168), PRICED],
+        1,
+    ),
+    mark(
+        "CH",
+        "an interval of charging",
+        &[
             ISSUE,
             key("interval", 2, 2_016),
             PRICED,
             to("energy", 4, 1_000_000, whole("kWh")),
         ],
-        key: 1,
-    },
-    Mark {
-        letters: "TH",
-        holds: "the thresholds of a condition and level",
-        fields: &[
+        1,
+    ),
+    mark(
+        "TH",
+        "the thresholds of a condition and level",
+        &[
             ISSUE,
             field("condition", 1, 1, 3, CONDITION),
             OF_LEVEL,
@@ -197,28 +252,45 @@ pub static MARKS: [Mark; 11] = [
             to("margin", 4, ANY, DOLLARS.with_words(&[("none", ANY)])),
             to("floor", 4, ANY, DOLLARS),
         ],
-        key: 2,
-    },
-    Mark {
-        letters: "FP",
-        holds: "a price of the forecast",
-        fields: &[ISSUE, key("place", 2, 4_000), PRICED],
-        key: 1,
-    },
-    Mark {
-        letters: "LC",
-        holds: "the last charging cost",
-        fields: &[
+        2,
+    ),
+    mark(
+        "FP",
+        "a price of the forecast",
+        &[ISSUE, key("place", 2, 4_000), PRICED],
+        1,
+    ),
+    mark(
+        "LC",
+        "the last charging cost",
+        &[
             ISSUE,
             to("cost", 4, 2_000_000_000, decimal(6, 2, "dollars per MWh")),
         ],
-        key: 0,
-    },
+        0,
+    ),
 ];
 
 impl Mark {
     pub fn of(letters: &[u8]) -> Option<&'static Mark> {
         MARKS.iter().find(|m| m.letters.as_bytes() == letters)
+    }
+
+    /// Whether its records have a first hour.
+    pub fn is_dated(&self) -> bool {
+        self.letters != self.of
+    }
+
+    /// Whether records of its keys may have a first hour.
+    pub fn can_be_dated(&self) -> bool {
+        let mut dated = MARKS.iter().filter(|mark| mark.is_dated());
+        dated.any(|mark| mark.of == self.of)
+    }
+
+    /// Where the fields of the key stand among the fields.
+    pub fn key_fields(&self) -> Range<usize> {
+        let first = 1 + usize::from(self.is_dated());
+        first..first + self.key
     }
 
     /// The whole length of such a record.
@@ -341,7 +413,26 @@ mod tests {
     #[test]
     fn lengths_are_those_of_the_paper() {
         let lengths: Vec<usize> = MARKS.iter().map(Mark::length).collect();
-        assert_eq!(lengths, [31, 13, 15, 17, 24, 16, 11, 16, 18, 12, 10]);
+        let paper = [31, 13, 15, 19, 17, 21, 24, 28, 16, 11, 16, 18, 12, 10];
+        assert_eq!(lengths, paper);
+    }
+
+    /// A dated mark is the one that it shares its keys with, with a first hour behind the issue.
+    #[test]
+    fn dated_marks_have_a_first_hour_more() {
+        let dated: Vec<&Mark> = MARKS.iter().filter(|m| m.is_dated()).collect();
+        assert_eq!(dated.len(), 3);
+        for mark in dated {
+            let undated = Mark::of(mark.of.as_bytes()).unwrap();
+            let names = |mark: &Mark| mark.fields.iter().map(|f| f.name).collect::<Vec<_>>();
+            let mut with_first = names(undated);
+            with_first.insert(1, "first");
+            assert_eq!(names(mark), with_first);
+            assert_eq!(
+                (mark.key, mark.length()),
+                (undated.key, undated.length() + 4)
+            );
+        }
     }
 
     #[test]

@@ -71,6 +71,11 @@ const fn may(mark: &'static str, how_many: &'static str, limits: Limits, samples
     }
 }
 
+/// The same records with a first hour, under the mark that shares their keys.
+const fn dated(mark: &'static str, need: Need, how_many: &'static str, samples: Samples) -> Need {
+    may(mark, how_many, need.limits, samples)
+}
+
 const REQUESTS: Need = may(
     "RQ",
     "up to 16; of those that cover an hour the highest request counts, and without one profile 1",
@@ -78,9 +83,15 @@ const REQUESTS: Need = may(
     &["RQ issue=1 request=1 first=6 last=21 profile=1"],
 );
 
-const FUEL: &str = "one for profile 1 and one for each profile that a request names";
+const FUEL: &str =
+    "one for profile 1 and one for each profile that a request names; an FV does as well";
 const ADDERS: &str = "one for each profile, cost and level that has such an amount";
 const ITEMS: &str = "up to 8 for each profile";
+const DATED_FUEL: &str =
+    "one for each change of a profile's fuel that is known ahead; hours before the first fuel of \
+    a profile have no level";
+const DATED_ADDERS: &str = "one for each change of such an amount that is known ahead";
+const DATED_ITEMS: &str = "one for each change of an item that is known ahead";
 const THRESHOLDS: &str = "one for each condition and level under which offers are tested";
 const STATION: &str = "one";
 
@@ -116,6 +127,82 @@ const HYDRO_STATION: &str =
 const HYDRO_ITEM: &str =
     "MM issue=1 profile=1 item=1 cost=900000.00 output=45.0 interval=43800 start-hours=0.0";
 
+const DATED_ADDER: &str =
+    "AV issue=2 first=7320 profile=1 cost=consumables level=energy amount=1.65";
+const DATED_THERMAL_ITEM: &str = "MV issue=2 first=7320 profile=1 item=1 cost=2150000.00 \
+    output=100.0 interval=25000 start-hours=10.0";
+const DATED_NUCLEAR_ITEM: &str = "MV issue=2 first=7320 profile=1 item=1 cost=43000000.00 \
+    output=880.0 interval=17520 start-hours=0.0";
+const DATED_STORAGE_ITEM: &str = "MV issue=2 first=7320 profile=1 item=1 cost=265000.00 \
+    output=80.0 interval=8760 start-hours=0.0";
+const DATED_HYDRO_ITEM: &str = "MV issue=2 first=7320 profile=1 item=1 cost=950000.00 \
+    output=45.0 interval=43800 start-hours=0.0";
+
+const THERMAL_FUEL: Need = must(
+    "FU",
+    FUEL,
+    &[("fuel", In("dollars per GJ"))],
+    &["FU issue=1 profile=1 fuel=4.00 emission=1.00"],
+);
+const THERMAL_ADDERS: Need = may(
+    "AD",
+    ADDERS,
+    &[("cost", ALL_BUT_PRORATED)],
+    &[
+        "AD issue=1 profile=1 cost=consumables level=energy amount=1.50",
+        "AD issue=1 profile=1 cost=consumables level=reserve amount=0.25",
+    ],
+);
+const THERMAL_ITEMS: Need = may("MM", ITEMS, &[], &[THERMAL_ITEM]);
+const NUCLEAR_FUEL: Need = must(
+    "FU",
+    FUEL,
+    &[
+        ("fuel", In("dollars per kg of uranium")),
+        ("emission", ZERO),
+    ],
+    &["FU issue=1 profile=1 fuel=310.00 emission=0.00"],
+);
+const NUCLEAR_ADDERS: Need = may(
+    "AD",
+    ADDERS,
+    &[("level", Only(&[1]))],
+    &[
+        "AD issue=1 profile=1 cost=scheduled level=energy amount=3.20",
+        "AD issue=1 profile=1 cost=prorated-start level=energy amount=0.85",
+    ],
+);
+const NUCLEAR_ITEMS: Need = may("MM", ITEMS, &[("start-hours", ZERO)], &[NUCLEAR_ITEM]);
+const STORAGE_FUEL: Need = must(
+    "FU",
+    FUEL,
+    &[
+        ("fuel", In("dollars per MWh, beside the price of energy")),
+        ("emission", ZERO),
+    ],
+    &["FU issue=1 profile=1 fuel=0.75 emission=0.00"],
+);
+const STORAGE_ADDERS: Need = may(
+    "AD",
+    ADDERS,
+    &[("cost", ALL_BUT_PRORATED), ("level", ENERGY_AND_RESERVE)],
+    &["AD issue=1 profile=1 cost=consumables level=reserve amount=0.10"],
+);
+const STORAGE_ITEMS: Need = may("MM", ITEMS, &[("start-hours", ZERO)], &[STORAGE_ITEM]);
+const HYDRO_FUEL: Need = must(
+    "FU",
+    FUEL,
+    &[("fuel", ZERO), ("emission", ZERO)],
+    &["FU issue=1 profile=1 fuel=0.00 emission=0.00"],
+);
+const HYDRO_ADDERS: Need = may(
+    "AD",
+    ADDERS,
+    &[("cost", ALL_BUT_PRORATED), ("level", ENERGY_AND_RESERVE)],
+    &["AD issue=1 profile=1 cost=unscheduled level=energy amount=2.35"],
+);
+const HYDRO_ITEMS: Need = may("MM", ITEMS, &[("start-hours", ZERO)], &[HYDRO_ITEM]);
+
 /// At a station that holds energy and reserve.
 const TWO_THRESHOLDS: Need = may(
     "TH",
@@ -150,22 +237,17 @@ pub static TECHNOLOGIES: [Technology; 4] = [
                     "HP issue=1 point=2 output=100.0 heat=900000",
                 ],
             ),
-            must(
-                "FU",
-                FUEL,
-                &[("fuel", In("dollars per GJ"))],
-                &["FU issue=1 profile=1 fuel=4.00 emission=1.00"],
+            THERMAL_FUEL,
+            dated(
+                "FV",
+                THERMAL_FUEL,
+                DATED_FUEL,
+                &["FV issue=2 first=7320 profile=1 fuel=5.10 emission=1.00"],
             ),
-            may(
-                "AD",
-                ADDERS,
-                &[("cost", ALL_BUT_PRORATED)],
-                &[
-                    "AD issue=1 profile=1 cost=consumables level=energy amount=1.50",
-                    "AD issue=1 profile=1 cost=consumables level=reserve amount=0.25",
-                ],
-            ),
-            may("MM", ITEMS, &[], &[THERMAL_ITEM]),
+            THERMAL_ADDERS,
+            dated("AV", THERMAL_ADDERS, DATED_ADDERS, &[DATED_ADDER]),
+            THERMAL_ITEMS,
+            dated("MV", THERMAL_ITEMS, DATED_ITEMS, &[DATED_THERMAL_ITEM]),
             REQUESTS,
             may("TH", THRESHOLDS, &[], &[THRESHOLD, START_THRESHOLD]),
         ],
@@ -188,25 +270,17 @@ pub static TECHNOLOGIES: [Technology; 4] = [
                 ],
                 &[NUCLEAR_STATION],
             ),
-            must(
-                "FU",
-                FUEL,
-                &[
-                    ("fuel", In("dollars per kg of uranium")),
-                    ("emission", ZERO),
-                ],
-                &["FU issue=1 profile=1 fuel=310.00 emission=0.00"],
+            NUCLEAR_FUEL,
+            dated(
+                "FV",
+                NUCLEAR_FUEL,
+                DATED_FUEL,
+                &["FV issue=2 first=7320 profile=1 fuel=322.00 emission=0.00"],
             ),
-            may(
-                "AD",
-                ADDERS,
-                &[("level", Only(&[1]))],
-                &[
-                    "AD issue=1 profile=1 cost=scheduled level=energy amount=3.20",
-                    "AD issue=1 profile=1 cost=prorated-start level=energy amount=0.85",
-                ],
-            ),
-            may("MM", ITEMS, &[("start-hours", ZERO)], &[NUCLEAR_ITEM]),
+            NUCLEAR_ADDERS,
+            dated("AV", NUCLEAR_ADDERS, DATED_ADDERS, &[DATED_ADDER]),
+            NUCLEAR_ITEMS,
+            dated("MV", NUCLEAR_ITEMS, DATED_ITEMS, &[DATED_NUCLEAR_ITEM]),
             REQUESTS,
             may("TH", THRESHOLDS, &[("level", Only(&[1]))], &[THRESHOLD]),
         ],
@@ -229,22 +303,17 @@ pub static TECHNOLOGIES: [Technology; 4] = [
                 ],
                 &[STORAGE_STATION],
             ),
-            must(
-                "FU",
-                FUEL,
-                &[
-                    ("fuel", In("dollars per MWh, beside the price of energy")),
-                    ("emission", ZERO),
-                ],
-                &["FU issue=1 profile=1 fuel=0.75 emission=0.00"],
+            STORAGE_FUEL,
+            dated(
+                "FV",
+                STORAGE_FUEL,
+                DATED_FUEL,
+                &["FV issue=2 first=7320 profile=1 fuel=0.82 emission=0.00"],
             ),
-            may(
-                "AD",
-                ADDERS,
-                &[("cost", ALL_BUT_PRORATED), ("level", ENERGY_AND_RESERVE)],
-                &["AD issue=1 profile=1 cost=consumables level=reserve amount=0.10"],
-            ),
-            may("MM", ITEMS, &[("start-hours", ZERO)], &[STORAGE_ITEM]),
+            STORAGE_ADDERS,
+            dated("AV", STORAGE_ADDERS, DATED_ADDERS, &[DATED_ADDER]),
+            STORAGE_ITEMS,
+            dated("MV", STORAGE_ITEMS, DATED_ITEMS, &[DATED_STORAGE_ITEM]),
             REQUESTS,
             must(
                 "HR",
@@ -285,19 +354,17 @@ pub static TECHNOLOGIES: [Technology; 4] = [
                 ],
                 &[HYDRO_STATION],
             ),
-            must(
-                "FU",
-                FUEL,
-                &[("fuel", ZERO), ("emission", ZERO)],
-                &["FU issue=1 profile=1 fuel=0.00 emission=0.00"],
+            HYDRO_FUEL,
+            dated(
+                "FV",
+                HYDRO_FUEL,
+                DATED_FUEL,
+                &["FV issue=2 first=7320 profile=1 fuel=0.00 emission=0.00"],
             ),
-            may(
-                "AD",
-                ADDERS,
-                &[("cost", ALL_BUT_PRORATED), ("level", ENERGY_AND_RESERVE)],
-                &["AD issue=1 profile=1 cost=unscheduled level=energy amount=2.35"],
-            ),
-            may("MM", ITEMS, &[("start-hours", ZERO)], &[HYDRO_ITEM]),
+            HYDRO_ADDERS,
+            dated("AV", HYDRO_ADDERS, DATED_ADDERS, &[DATED_ADDER]),
+            HYDRO_ITEMS,
+            dated("MV", HYDRO_ITEMS, DATED_ITEMS, &[DATED_HYDRO_ITEM]),
             REQUESTS,
             TWO_THRESHOLDS,
             must(

@@ -3,7 +3,7 @@
 
 use crate::answer::{Status, Stop, Streams};
 use crate::args::Args;
-use crate::marks::{listed, Field};
+use crate::marks::{listed, Field, Mark};
 use crate::near::hint;
 use crate::needs::{Need, Technology, TECHNOLOGIES};
 use crate::text::quoted;
@@ -32,7 +32,8 @@ pub fn template(technology: &Technology) -> String {
         "# A {name} station: one record a line, its mark and every field of it as name=value.\n\
          # The numbers are made up; put yours in their place. Records with a # before them may be there: take\n\
          # the # away to use one. Of the records with one mark and key the highest issue counts, wherever it\n\
-         # stands: a new price is a new line with a higher issue.\n"
+         # stands: a new price is a new line with a higher issue. FV, AV and MV have the keys of FU, AD and MM, and\n\
+         # count from their first hour on: a price that is known early can be sent early.\n"
     );
     let sections = technology.needs.iter().map(section);
     [head].into_iter().chain(sections).collect()
@@ -60,12 +61,12 @@ fn section(need: &Need) -> String {
 fn fields(need: &Need) -> impl Iterator<Item = (&'static Field, bool)> {
     let mark = need.mark();
     let fields = mark.map_or(&[][..], |mark| mark.fields);
-    let key = mark.map_or(0, |mark| mark.key);
+    let key = mark.map_or(0..0, Mark::key_fields);
     fields
         .iter()
         .enumerate()
         .skip(1)
-        .map(move |(i, field)| (field, i <= key))
+        .map(move |(i, field)| (field, key.contains(&i)))
 }
 
 /// docs/RECORDS.md.
@@ -76,7 +77,9 @@ pub fn page() -> String {
         `bench help fields` prints; `bench new TECHNOLOGY` writes a text with them that is accepted as it stands. \
         Every record has `issue`, 0 to 4294967295; of\n\
         the records with one mark and key (the fields with a \\*) the highest issue counts, and older ones may stay. \
-        A record that isn't listed for a technology\nis refused (6).\n";
+        FV, AV and MV share the keys of FU, AD and MM, and\n\
+        count from hour `first` on: at an hour the highest issue counts whose first hour has come. \
+        A record that isn't listed for a technology is refused (6).\n";
     let pages = TECHNOLOGIES.iter().map(of_technology);
     [head.to_string()].into_iter().chain(pages).collect()
 }

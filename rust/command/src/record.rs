@@ -62,20 +62,35 @@ impl Record<'_> {
 
     /// The key in words, empty where the mark has none.
     pub fn key(&self) -> String {
-        joined(self.fields().skip(1).take(self.mark.key))
+        let key = self.mark.key_fields();
+        joined(self.fields().skip(key.start).take(key.len()))
     }
 
     /// The key's bytes as one number, as the library's lookup takes it; 0 where there is none.
     pub fn key_number(&self) -> u32 {
-        let key = &self.claim()[2 + self.mark.fields[0].width..];
-        key.iter()
-            .fold(0, |number, byte| number << 8 | u32::from(*byte))
+        let key = self.mark.key_fields();
+        let fields = self.mark.places().skip(key.start).take(key.len());
+        let bytes = fields.flat_map(|(field, at)| &self.bytes[at..at + field.width]);
+        bytes.fold(0, |number, byte| number << 8 | u32::from(*byte))
     }
 
-    /// Mark, issue and key: what no two records may share.
-    pub fn claim(&self) -> &[u8] {
-        let widths = self.mark.fields.iter().take(1 + self.mark.key);
-        &self.bytes[..2 + widths.map(|f| f.width).sum::<usize>()]
+    /// The mark that it shares its keys with, and its key: records that have both alike take one
+    /// another's place.
+    pub fn of_key(&self) -> (&'static str, u32) {
+        (self.mark.of, self.key_number())
+    }
+
+    /// The hour from which it counts; 0 for a mark without one.
+    pub fn first_hour(&self) -> u32 {
+        match self.mark.is_dated() {
+            true => u32::try_from(self.get("first")).unwrap_or(u32::MAX),
+            false => 0,
+        }
+    }
+
+    /// Mark, key and issue: what no two records may share, under either mark of a key.
+    pub fn claim(&self) -> ((&'static str, u32), i128) {
+        (self.of_key(), self.get("issue"))
     }
 
     /// What is out of range in it, in words.
@@ -106,6 +121,19 @@ mod tests {
         let record = records(LINE).next().expect("a record");
         assert_eq!((record.get("issue"), record.get("cost")), (3, 10));
         assert_eq!(record.value("cost"), "0.00001");
+    }
+
+    const DATED: &[u8] = b"AV\0\0\0\x03\0\0\x1c\x98\x02\x03\x04\0\0\0\0\0\0\0\x05";
+
+    #[test]
+    fn a_first_hour_is_no_part_of_the_key() {
+        let record = records(DATED).next().expect("a record");
+        assert_eq!(record.first_hour(), 7_320);
+        assert_eq!(record.of_key(), ("AD", 0x02_03_04));
+        assert_eq!(record.key(), "profile=2 cost=consumables level=reserve");
+        let text = "AV issue=3 first=7320 profile=2 cost=consumables level=reserve amount=0.000005";
+        assert_eq!(record.text(), text);
+        assert_eq!(records(LINE).next().expect("a record").first_hour(), 0);
     }
 
     #[test]

@@ -13,12 +13,13 @@ const STATION: &str = "station";
 const TRADER: &str = "trader";
 const DESK: &str = "desk";
 
-/// The rules by number; README.md lists them with the same words.
-pub static RULES: [Rule; 17] = [
+/// The rules by number; README.md lists them with the same words. 18 and 19 belong to requests that
+/// aren't built.
+pub static RULES: [Rule; 18] = [
     Rule {
         number: 1,
         means: "a mark that is unknown",
-        wants: "each record begins with one of the marks RS, HP, FU, AD, MM, RQ, HR, CH, TH, FP and LC",
+        wants: "each record begins with one of the marks RS, HP, FU, AD, MM, RQ, HR, CH, TH, FP, LC, FV, AV and MV",
         who: STATION,
     },
     Rule {
@@ -36,7 +37,7 @@ pub static RULES: [Rule; 17] = [
     Rule {
         number: 4,
         means: "a mark, key and issue that came before",
-        wants: "records of one mark and key have different issues; the highest issue counts",
+        wants: "records of one mark and key have different issues; FU and FV share their keys, as AD and AV and as MM and MV do",
         who: STATION,
     },
     Rule {
@@ -47,8 +48,8 @@ pub static RULES: [Rule; 17] = [
     },
     Rule {
         number: 6,
-        means: "a current record that doesn't fit the technology",
-        wants: "every record with the highest issue of its mark and key fits the technology that the current RS names",
+        means: "a record that counts at some hour and doesn't fit the technology",
+        wants: "every record that no newer one of its key hides at all hours fits the technology that the current RS names",
         who: STATION,
     },
     Rule {
@@ -60,7 +61,7 @@ pub static RULES: [Rule; 17] = [
     Rule {
         number: 8,
         means: "no fuel record for profile 1, or for one that a current request names",
-        wants: "an FU for profile 1 and for each profile that a current RQ names",
+        wants: "an FU or an FV for profile 1 and for each profile that a current RQ names",
         who: STATION,
     },
     Rule {
@@ -117,6 +118,12 @@ pub static RULES: [Rule; 17] = [
         wants: "a window of at least 50, and an FP for each place from 1 to the window",
         who: STATION,
     },
+    Rule {
+        number: 20,
+        means: "an hour whose profile has no fuel in force",
+        wants: "an FU for the profile of the hour, or an FV whose first hour has come",
+        who: STATION,
+    },
 ];
 
 /// What is said of a number that is none of these. The library refuses by these alone, so that another
@@ -157,9 +164,14 @@ mod tests {
     }
 
     #[test]
-    fn each_rule_stands_at_its_number() {
-        for (number, rule) in (1..).zip(&RULES) {
-            assert_eq!(rule.number, number);
+    fn each_rule_is_found_by_its_number() {
+        let numbers: Vec<u8> = RULES.iter().map(|rule| rule.number).collect();
+        let known: Vec<u8> = (1..=17).chain([20]).collect();
+        assert_eq!(numbers, known);
+        for number in 0..=u8::MAX {
+            let found = rule(number);
+            assert_eq!(found.is_known(), known.contains(&number));
+            assert!(!found.is_known() || found.number == number);
         }
     }
 }

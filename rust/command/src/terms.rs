@@ -4,19 +4,20 @@
 //! library's lookup, each term from a formula of the papers, and where the terms don't come to the
 //! library's level the answer says so and is an error.
 
-mod book;
+pub mod book;
 pub mod charging;
 mod costs;
 pub mod words;
 
 use crate::answer::{refused, Said, Status, Stop, Streams};
 use crate::args::{hour, Args};
-use crate::explain::{of_dossier, of_offer, standing, Standing};
+use crate::explain::{of_hour, of_offer, standing, Standing};
 use crate::form::Form;
 use crate::input::Input;
 use crate::levels::{at, others};
 use crate::many::each;
 use crate::offer::read_level;
+use crate::record::Record;
 use crate::unit::LEVEL;
 use bench::{Levels, Refusal};
 use book::Book;
@@ -93,6 +94,17 @@ pub struct Explanation {
     /// Each level in cents as the library has it.
     pub library: Vec<(Place, i128)>,
     pub library_profile: u8,
+    /// The costs of the profile that count from a later hour on.
+    pub ahead: Vec<Ahead>,
+}
+
+/// A cost that lies ahead.
+#[derive(Debug)]
+pub struct Ahead {
+    pub first: u32,
+    /// The levels that it joins.
+    pub levels: Vec<u8>,
+    pub record: Standing,
 }
 
 pub fn run(args: &Args, streams: &mut Streams) -> Result<Status, Stop> {
@@ -105,11 +117,11 @@ pub fn run(args: &Args, streams: &mut Streams) -> Result<Status, Stop> {
 fn explain(input: &Input, hour: u32, level: Option<u8>) -> Said {
     let Input { dossier, lines, .. } = input;
     if let Some(refusal) = level.and_then(|level| unheld(dossier, hour, level)) {
-        return refused(&of_offer(refusal, dossier, lines, &[])).with(at(hour));
+        return refused(&of_offer(refusal, dossier, lines, (hour, &[]))).with(at(hour));
     }
     match Explanation::of(input, hour) {
         Ok(explanation) => explanation.only(level).said(),
-        Err(refusal) => refused(&of_dossier(refusal, dossier, lines)).with(at(hour)),
+        Err(refusal) => refused(&of_hour(refusal, dossier, lines, hour)).with(at(hour)),
     }
 }
 
@@ -124,7 +136,7 @@ impl Explanation {
     /// The levels of an hour; a refusal is the library's.
     pub fn of(input: &Input, hour: u32) -> Result<Explanation, Refusal> {
         let levels = bench::levels(&input.dossier, hour)?;
-        let book = Book::open(input, hour);
+        let book = Book::open(&input.dossier, &input.lines, hour);
         let cited = |record| standing(&record, &input.lines);
         Ok(Explanation {
             hour,
@@ -134,6 +146,7 @@ impl Explanation {
             levels: costs::levels(&book),
             library: library(&levels),
             library_profile: levels.profile,
+            ahead: book.ahead().iter().map(|r| Ahead::of(r, input)).collect(),
         })
     }
 
@@ -142,6 +155,8 @@ impl Explanation {
         let asked = |place: &Place| level.is_none_or(|level| place.level == level);
         self.levels.retain(|level| asked(&level.place));
         self.library.retain(|(place, _)| asked(place));
+        let joins = |ahead: &Ahead| level.is_none_or(|level| ahead.levels.contains(&level));
+        self.ahead.retain(joins);
         self
     }
 
@@ -195,6 +210,16 @@ impl Explanation {
             line: String::new(),
             words,
             json: self.json(&differences),
+        }
+    }
+}
+
+impl Ahead {
+    fn of(record: &Record, input: &Input) -> Ahead {
+        Ahead {
+            first: record.first_hour(),
+            levels: costs::joined(record),
+            record: standing(record, &input.lines),
         }
     }
 }

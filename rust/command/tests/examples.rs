@@ -89,7 +89,7 @@ fn documents_show_what_is_printed() {
         assert!(document.contains("    $ bench "), "{name} shows no call");
         stands(name, renewed(&document, &folder));
     }
-    for name in ["thermal.svg", "day.svg", "week.svg"] {
+    for name in ["thermal.svg", "day.svg", "week.svg", "contract.svg"] {
         let picture = fs::read_to_string(folder.0.join(name)).expect("a picture");
         stands(&format!("examples/{name}"), picture);
     }

@@ -18,9 +18,14 @@ fn whole(technology: &Technology) -> Vec<u8> {
     packed.expect("a template that packs").dossier
 }
 
-/// A dossier without the records of a mark.
-fn without(dossier: &[u8], letters: &str) -> Vec<u8> {
-    let others = records(dossier).filter(|r| r.mark.letters != letters);
+/// A dossier without the records of a mark; where one has to be there, without those of the mark that
+/// shares its keys too, as one of these would do.
+fn without(dossier: &[u8], need: &Need) -> Vec<u8> {
+    let left_out = |mark: &Mark| match need.must {
+        true => mark.of == need.mark,
+        false => mark.letters == need.mark,
+    };
+    let others = records(dossier).filter(|r| !left_out(r.mark));
     others.flat_map(|r| r.bytes.to_vec()).collect()
 }
 
@@ -70,7 +75,7 @@ fn what_must_be_there_is_wanted_and_the_rest_is_not() {
         let whole = whole(technology);
         assert_eq!(refusal(&whole), None, "{}", technology.name);
         for need in technology.needs {
-            let refused = refusal(&without(&whole, need.mark)).is_some();
+            let refused = refusal(&without(&whole, need)).is_some();
             assert_eq!(refused, need.must, "{} {}", technology.name, need.mark);
         }
         for mark in &MARKS {

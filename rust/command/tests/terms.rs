@@ -32,7 +32,8 @@ fn explained(random: &mut Random, dossier: &[u8]) -> Option<Explanation> {
 /// The sums in micro-dollars are those of the model, which is written from the papers alone.
 fn sums_are_those_of_the_model(explanation: &Explanation, dossier: &[u8]) -> Check {
     let station = accepted(dossier).map_err(|refusal| format!("{refusal:?}"))?;
-    let levels: Levels<Micro> = reckon(&station, explanation.hour);
+    let levels = reckon(&station, explanation.hour);
+    let levels: Levels<Micro> = levels.map_err(|refusal| format!("{refusal:?}"))?;
     let model: Vec<i128> = levels.all().map(|micro| micro.0 as i128).collect();
     let sums: Vec<i128> = explanation.levels.iter().map(|level| level.sum()).collect();
     same("sums", sums, model)

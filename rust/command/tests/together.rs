@@ -90,7 +90,9 @@ fn the_order_of_files_says_nothing() {
         let before = together("levels", &files, &["--hour", &hour]);
         random.shuffle(&mut files);
         let after = together("levels", &files, &["--hour", &hour]);
-        same("status", after.status, Status::Done)?;
+        let has_fuel = model::levels(&joined, hour.parse().expect("an hour")).is_ok();
+        same("levels there", after.status == Status::Done, has_fuel)?;
+        same("status", after.status, before.status)?;
         same("levels", after.out, before.out)
     });
 }

@@ -28,10 +28,17 @@ pub fn accepted(dossier: &[u8]) -> Result<Station<'_>, Refusal> {
     }
 }
 
-/// 6, at the unfit current record that lies first in the dossier.
+/// 6, at the unfit record that lies first in the dossier, of those that count at some hour.
 fn all_fit(station: &Station) -> Answer {
-    let unfit = station.current.all().filter(|r| !fits(station, r));
-    match unfit.map(|record| record.start).min() {
+    let unfit = |record: &Record| !fits(station, record);
+    let start = if station.current.dated {
+        let counting = station.current.at_some_hour().into_iter();
+        counting.filter(unfit).map(|record| record.start).min()
+    } else {
+        let current = station.current.all().filter(|record| unfit(record));
+        current.map(|record| record.start).min()
+    };
+    match start {
         Some(start) => refuse(6, start),
         None => Ok(()),
     }
@@ -41,7 +48,7 @@ fn fits(station: &Station, record: &Record) -> bool {
     let technology = station.technology;
     let thermal = technology == Technology::Thermal;
     let held = |level: Field| technology.holds(record.get(level) as u8);
-    match &record.kind.mark {
+    match &record.kind.of {
         b"RS" => rs_fits(technology, record),
         b"HP" => thermal,
         b"HR" | b"CH" | b"LC" => technology == Technology::Storage,
@@ -97,7 +104,7 @@ pub fn rise(lower: &Record, upper: &Record) -> (i128, i128) {
     )
 }
 
-/// 8: profile 1 and every profile that a current request names have fuel.
+/// 8: profile 1 and every profile that a current request names have fuel, from whichever hour.
 fn fuel_is_there(station: &Station) -> bool {
     let requests = station.current.of_mark(b"RQ");
     let named = requests

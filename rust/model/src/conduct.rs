@@ -25,7 +25,7 @@ pub struct Failing {
 pub const PAIR: usize = 6;
 pub const MOST_PAIRS: usize = 20;
 
-/// The energy test: 1 to 9, 13 and 17, then 14, 10 and 11.
+/// The energy test: 1 to 9, 13 and 17, then 20, 14, 10 and 11.
 pub fn energy_test(
     dossier: &[u8],
     hour: u32,
@@ -33,13 +33,13 @@ pub fn energy_test(
     offer: &[u8],
 ) -> Result<Verdict, Refusal> {
     let station = &accepted(dossier)?;
+    let laminations = levels_of(station, hour)?.energy;
     let threshold = Threshold::of(station, condition, ENERGY)?;
     let pairs = pairs(offer)?;
     // Quantities rise, but the place is that of the first pair above the capacity.
     if let Some(i) = pairs.iter().position(|p| p.to > station.capacity()) {
         return refuse(11, i * PAIR);
     }
-    let laminations = levels_of(station, hour).energy;
     for (pair, p) in (1..).zip(&pairs) {
         for (lamination, l) in (1..).zip(&laminations) {
             if p.overlaps(l) && threshold.fails(l.level, p.price) {
@@ -50,7 +50,7 @@ pub fn energy_test(
     Ok(Verdict::Passes)
 }
 
-/// The single-price test: 1 to 9, 13 and 17, then 12 and 14.
+/// The single-price test: 1 to 9, 13 and 17, then 20, 12 and 14.
 pub fn price_test(
     dossier: &[u8],
     hour: u32,
@@ -59,7 +59,7 @@ pub fn price_test(
     price: i32,
 ) -> Result<Verdict, Refusal> {
     let station = &accepted(dossier)?;
-    let levels = levels_of(station, hour);
+    let levels = levels_of(station, hour)?;
     let Some((_, cents)) = levels.single().find(|(number, _)| *number == level) else {
         return refuse(12, 0);
     };

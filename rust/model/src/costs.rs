@@ -3,34 +3,41 @@
 use crate::accept::{hours_of_charge, place_from_the_top, priced, rise};
 use crate::dossier::Record;
 use crate::levels::{profile_at, Lamination, Money};
-use crate::station::Station;
+use crate::station::{Current, Station};
 use crate::table::{ad, ch, fp, fu, hp, hr, lc, mm, rs, ENERGY, NO_LOAD, START};
+use crate::{refuse, Refusal};
+use std::borrow::Cow;
 
 /// A station's costs in the profile of an hour.
 pub struct Costs<'s, 'a> {
     station: &'s Station<'a>,
+    in_force: Cow<'s, Current<'a>>,
     pub profile: u8,
     fuel: u128,
     emission: u128,
 }
 
 impl<'s, 'a> Costs<'s, 'a> {
-    pub fn at(station: &'s Station<'a>, hour: u32) -> Self {
+    /// The costs at an hour, or 20: its profile has no fuel in force.
+    pub fn at(station: &'s Station<'a>, hour: u32) -> Result<Self, Refusal> {
         let profile = profile_at(station, hour);
-        let fuel = station.current.get(b"FU", &[profile]);
-        let fuel = fuel.expect("8 gives each named profile its fuel");
-        Costs {
+        let in_force = station.current.in_force(hour);
+        let Some(fuel) = in_force.get(b"FU", &[profile]) else {
+            return refuse(20, 0);
+        };
+        Ok(Costs {
             station,
             profile,
             fuel: fuel.amount(fu::FUEL),
             emission: fuel.amount(fu::EMISSION),
-        }
+            in_force,
+        })
     }
 
     /// The AD amounts of one level.
     pub fn additions<M: Money>(&self, level: u8) -> M {
         let (profile, level) = (i128::from(self.profile), i128::from(level));
-        let records = self.station.current.of_mark(b"AD");
+        let records = self.in_force.of_mark(b"AD");
         let mine = records.filter(|r| r.get(ad::PROFILE) == profile && r.get(ad::LEVEL) == level);
         total(mine.map(|r| M::quotient(r.amount(ad::AMOUNT), 1)))
     }
@@ -38,7 +45,7 @@ impl<'s, 'a> Costs<'s, 'a> {
     /// The profile's MM records, each with its own division.
     fn maintenance<M: Money>(&self, term: impl Fn(&Record) -> M) -> M {
         let profile = i128::from(self.profile);
-        let records = self.station.current.of_mark(b"MM");
+        let records = self.in_force.of_mark(b"MM");
         let mine = records.filter(|r| r.get(mm::PROFILE) == profile);
         total(mine.map(term))
     }

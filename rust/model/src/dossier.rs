@@ -1,7 +1,7 @@
 //! "At most 60,000 bytes of records, back to back": the records of a dossier, with 13, then 1 to 3
 //! for each record in turn.
 
-use crate::table::{as_in, kind_of, rq, Field, Kind, HEAD};
+use crate::table::{as_in, kind_of, rq, Field, Kind, Mark, FIRST_HOUR, HEAD};
 use crate::{refuse, Refusal};
 
 pub const LONGEST: usize = 60_000;
@@ -21,16 +21,27 @@ impl<'a> Record<'a> {
     }
 
     pub fn key(&self) -> &'a [u8] {
-        &self.bytes[HEAD..HEAD + self.kind.key_width]
+        self.kind.key(self.bytes)
     }
 
-    /// Mark, issue and key together: no two records may share all three.
-    pub fn claim(&self) -> &'a [u8] {
-        &self.bytes[..HEAD + self.kind.key_width]
+    /// The hour from which it counts; 0 for a mark without one.
+    pub fn first_hour(&self) -> u32 {
+        if self.kind.is_dated() {
+            FIRST_HOUR.read(self.bytes) as u32
+        } else {
+            0
+        }
     }
 
+    /// Mark, issue and key together: no two records may share all three. FU and FV are one here, as
+    /// AD and AV and as MM and MV are.
+    pub fn claim(&self) -> (Mark, u32, &'a [u8]) {
+        (self.kind.of, self.issue(), self.key())
+    }
+
+    /// A field of the undated mark, which a dated record has too.
     pub fn get(&self, field: Field) -> i128 {
-        field.read(self.bytes)
+        field.read(&self.bytes[self.kind.shift()..])
     }
 
     /// A field that is never negative.

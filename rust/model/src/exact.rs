@@ -23,10 +23,10 @@ impl Money for Ratio {
 }
 
 pub fn exact_levels(dossier: &[u8], hour: u32) -> Result<Levels<Ratio>, Refusal> {
-    Ok(exact_levels_of(&accepted(dossier)?, hour))
+    exact_levels_of(&accepted(dossier)?, hour)
 }
 
-pub fn exact_levels_of(station: &Station, hour: u32) -> Levels<Ratio> {
+pub fn exact_levels_of(station: &Station, hour: u32) -> Result<Levels<Ratio>, Refusal> {
     reckon(station, hour)
 }
 

@@ -3,6 +3,9 @@
 /// A record's mark and issue number, which every record begins with.
 pub const HEAD: usize = 6;
 
+/// The hour from which a dated record counts. It takes every value and is no part of the key.
+pub const FIRST_HOUR: Field = Field::first(4, 0, 4_294_967_295);
+
 /// What a field does beside holding a number.
 #[derive(Clone, Copy, Debug, PartialEq, Eq)]
 pub enum Role {
@@ -45,6 +48,14 @@ impl Field {
         Field {
             at: self.at + self.width,
             ..Field::first(width, lowest, highest)
+        }
+    }
+
+    /// The field in a dated record, where it stands behind the first hour.
+    pub const fn dated(self) -> Field {
+        Field {
+            at: self.at + FIRST_HOUR.width,
+            ..self
         }
     }
 

@@ -126,18 +126,18 @@ impl Micro {
 
 /// The levels of a dossier at an hour, in cents.
 pub fn levels(dossier: &[u8], hour: u32) -> Result<Levels<u64>, Refusal> {
-    Ok(levels_of(&accepted(dossier)?, hour))
+    levels_of(&accepted(dossier)?, hour)
 }
 
-pub fn levels_of(station: &Station, hour: u32) -> Levels<u64> {
-    reckon(station, hour).map(Micro::cents)
+pub fn levels_of(station: &Station, hour: u32) -> Result<Levels<u64>, Refusal> {
+    Ok(reckon(station, hour)?.map(Micro::cents))
 }
 
-/// The levels of an accepted dossier, each a finished sum.
-pub fn reckon<M: Money>(station: &Station, hour: u32) -> Levels<M> {
-    let costs = Costs::at(station, hour);
+/// The levels of an accepted dossier, each a finished sum, or 20.
+pub fn reckon<M: Money>(station: &Station, hour: u32) -> Result<Levels<M>, Refusal> {
+    let costs = Costs::at(station, hour)?;
     let held = |level| station.technology.holds(level);
-    Levels {
+    Ok(Levels {
         profile: costs.profile,
         energy: match station.technology {
             Technology::Thermal => costs.thermal_energy(),
@@ -148,7 +148,7 @@ pub fn reckon<M: Money>(station: &Station, hour: u32) -> Levels<M> {
         start: held(START).then(|| costs.start()),
         no_load: held(NO_LOAD).then(|| costs.no_load()),
         reserve: held(RESERVE).then(|| costs.additions(RESERVE)),
-    }
+    })
 }
 
 /// The profile at an hour: that of the highest request that covers it, else 1.

@@ -1,4 +1,4 @@
-//! Document 01 with requests 1 to 3 and 6 of document 02 in plain Rust: a dossier's acceptance, its
+//! Document 01 with requests 1 to 3, 6 and 8 of document 02 in plain Rust: a dossier's acceptance, its
 //! levels, the conduct test, the report and the charging week.
 //!
 //! Bench is run against this crate. It is written to be read beside the papers, goes over a dossier

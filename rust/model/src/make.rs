@@ -1,10 +1,11 @@
 //! A seeded maker of test dossiers, hours, offers and prices.
 //!
 //! Sound dossiers (`sound`) are accepted; damaged ones (`damage`) draw the number they aim at; some
-//! are written out (`written`, `forecast`, `idle`, `nearest`) or made to a length (`sized`). The
-//! offers and prices (`offers`) crowd around the floors and limits of the dossier they are put to.
+//! are written out (`written`, `forecast`, `idle`, `nearest`, `dated`) or made to a length (`sized`).
+//! The offers and prices (`offers`) crowd around the floors and limits of the dossier they are put to.
 
 pub mod damage;
+pub mod dated;
 pub mod forecast;
 pub mod idle;
 mod incomplete;
@@ -18,7 +19,8 @@ mod unfit;
 pub mod written;
 
 use crate::random::Random;
-use crate::table::{as_in, kind_of, rq, rs, Field, Kind, Mark, Technology, HEAD};
+use crate::table::{as_in, dated_kind_of, kind_of, rq, rs};
+use crate::table::{Field, Kind, Mark, Technology, FIRST_HOUR, HEAD};
 
 /// A dossier in the making: its records in the order they lie.
 #[derive(Clone, Debug)]
@@ -49,17 +51,17 @@ impl Draft {
         places
     }
 
-    /// Removes every record of a mark and key, current or not.
+    /// Removes every record of a mark and key, current or not, dated ones too.
     fn remove(&mut self, mark: &Mark, of_key: &[u8]) {
-        let named = |r: &Vec<u8>| is_whole(r) && r.starts_with(mark) && key(r) == of_key;
+        let named = |r: &Vec<u8>| is_whole(r) && kind(r).of == *mark && key(r) == of_key;
         self.records.retain(|r| !named(r));
     }
 
-    /// Adds a record anywhere, in place of all that share its mark and key.
+    /// Adds a record anywhere, in place of all that share its key.
     fn put(&mut self, random: &mut Random, record: Vec<u8>) {
         let kind = kind(&record);
         let of_key = key(&record).to_vec();
-        self.remove(&kind.mark, &of_key);
+        self.remove(&kind.of, &of_key);
         self.insert(random, record);
     }
 
@@ -80,7 +82,20 @@ fn kind(record: &[u8]) -> &'static Kind {
 }
 
 fn key(record: &[u8]) -> &[u8] {
-    &record[HEAD..HEAD + kind(record).key_width]
+    kind(record).key(record)
+}
+
+/// The record with a first hour, in place of the one that it has, or without any. `None` where its
+/// mark has no dated form.
+pub fn with_first_hour(record: &[u8], first: Option<u32>) -> Option<Vec<u8>> {
+    let of = kind(record).of;
+    let rest = &record[HEAD + kind(record).shift()..];
+    let dated = dated_kind_of(&of)?;
+    let (mark, hour) = match first {
+        Some(hour) => (dated.mark, hour.to_be_bytes().to_vec()),
+        None => (of, Vec::new()),
+    };
+    Some([&mark[..], &record[2..HEAD], &hour, rest].concat())
 }
 
 fn issue(record: &[u8]) -> u32 {
@@ -135,9 +150,15 @@ fn reconcile(record: &mut [u8]) {
     }
 }
 
-/// Written dossiers at the edges of forecasts, of idle weeks and of divisions.
+/// Written dossiers at the edges of forecasts, of idle weeks, of divisions and of first hours.
 pub fn edges() -> Vec<Vec<u8>> {
-    [forecast::edges(), idle::edges(), nearest::edges()].concat()
+    [
+        forecast::edges(),
+        idle::edges(),
+        nearest::edges(),
+        dated::edges(),
+    ]
+    .concat()
 }
 
 /// A dossier of any sort: sound, damaged once or twice, or noise.
@@ -158,7 +179,10 @@ pub fn noise(random: &mut Random) -> Vec<u8> {
         0 => bytes.resize_with(random.spread(0, 300) as usize, || random.next() as u8),
         1 => {
             for _ in 0..random.below(8) {
-                let mark = random.pick(&[b"RS", b"FU", b"RQ", b"TH", b"FP", b"LC"]);
+                let marks = [
+                    b"RS", b"FU", b"RQ", b"TH", b"FP", b"LC", b"FV", b"AV", b"MV",
+                ];
+                let mark = random.pick(&marks);
                 let mut record = any_record(random, kind_of(mark).expect("a known mark"));
                 let at = random.between(2, record.len() as i128 - 1) as usize;
                 record[at] = random.next() as u8;
@@ -180,16 +204,22 @@ pub fn noise(random: &mut Random) -> Vec<u8> {
     bytes
 }
 
-/// An hour for a dossier: often the first or last hour of one of its requests, or a neighbour.
+/// An hour for a dossier: often the first or last hour of one of its requests, the first hour of one
+/// of its costs, or a neighbour.
 pub fn hour(random: &mut Random, dossier: &[u8]) -> u32 {
-    let records = crate::dossier::records(dossier).unwrap_or_default();
-    let requests: Vec<_> = records.iter().filter(|r| r.kind.mark == *b"RQ").collect();
+    let mut turns = Vec::new();
+    for record in crate::dossier::records(dossier).unwrap_or_default() {
+        if record.kind.mark == *b"RQ" {
+            turns.extend([rq::FIRST, rq::LAST].map(|end| record.get(end)));
+        } else if record.kind.is_dated() {
+            turns.push(FIRST_HOUR.read(record.bytes));
+        }
+    }
     let ends = [0, i128::from(u32::MAX)];
     let mut hour = random.pick(&ends);
-    if !requests.is_empty() && !random.one_in(4) {
-        let request = random.pick(&requests);
-        let end = request.get(random.pick(&[rq::FIRST, rq::LAST]));
-        hour = (end + random.between(-1, 1)).clamp(ends[0], ends[1]);
+    if !turns.is_empty() && !random.one_in(4) {
+        let turn = random.pick(&turns) + random.between(-1, 1);
+        hour = turn.clamp(ends[0], ends[1]);
     } else if random.one_in(2) {
         hour = random.spread(ends[0], ends[1]);
     }

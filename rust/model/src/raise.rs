@@ -8,9 +8,10 @@ use crate::table::{Field, Role, Technology};
 
 /// How high a money amount may rise; 0 where the technology wants 0.
 ///
-/// In an accepted dossier such an amount can be above 0 only in an FU that isn't current.
+/// In an accepted dossier such an amount can be above 0 only in an FU or FV that counts at no hour.
 fn limit(technology: Technology, record: &Record, field: Field) -> i128 {
-    if record.kind.mark == *b"FU" && technology.unpriced().contains(&field) {
+    let is_it = |unpriced: &Field| unpriced.at + record.kind.shift() == field.at;
+    if record.kind.of == *b"FU" && technology.unpriced().iter().any(is_it) {
         0
     } else {
         field.highest
@@ -39,7 +40,7 @@ pub fn is_raise(dossier: &[u8], raised: &[u8]) -> bool {
     let mut put_back = raised.to_vec();
     for (record, field, limit) in amounts(dossier) {
         let part = record.start..record.start + record.bytes.len();
-        let (old, new) = (record.get(field), field.read(&raised[part.clone()]));
+        let (old, new) = (field.read(record.bytes), field.read(&raised[part.clone()]));
         if new != old && !(old < new && new <= limit) {
             return false;
         }
@@ -54,7 +55,7 @@ pub fn raised(random: &mut Random, dossier: &[u8]) -> Vec<u8> {
     let amounts = amounts(dossier);
     let rarity = random.pick(&[1, 2, 8, amounts.len() as u64]);
     for (record, field, limit) in amounts {
-        let old = record.get(field);
+        let old = field.read(record.bytes);
         if old >= limit || !random.one_in(rarity) {
             continue;
         }

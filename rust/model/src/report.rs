@@ -1,7 +1,6 @@
 //! "Report": the lines, the lent buffer, and what the program `levels` prints.
 
-use crate::accept::accepted;
-use crate::levels::{levels_of, Levels};
+use crate::levels::{levels, Levels};
 use crate::{refuse, Refusal};
 
 /// The report's bytes, every line ended by byte 10.
@@ -30,7 +29,7 @@ fn dollars(cents: u64) -> String {
 /// Writes the report to the buffer's first bytes and gives its length. A refused call, 15 for a
 /// short buffer among them, leaves every byte.
 pub fn report(dossier: &[u8], hour: u32, buffer: &mut [u8]) -> Result<usize, Refusal> {
-    let text = text(&levels_of(&accepted(dossier)?, hour));
+    let text = text(&levels(dossier, hour)?);
     match buffer.get_mut(..text.len()) {
         Some(head) => head.copy_from_slice(&text),
         None => return refuse(15, 0),
@@ -52,8 +51,8 @@ pub fn program(input: &[u8]) -> Vec<u8> {
         });
     };
     let hour = u32::from_be_bytes(*hour);
-    match accepted(dossier) {
-        Ok(station) => text(&levels_of(&station, hour)),
+    match levels(dossier, hour) {
+        Ok(levels) => text(&levels),
         Err(refusal) => refusal_line(refusal),
     }
 }

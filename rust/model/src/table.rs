@@ -1,7 +1,7 @@
-//! "A constant table holds each mark's whole length and key bounds": the eleven marks, their
+//! "A constant table holds each mark's whole length and key bounds": the fourteen marks, their
 //! fields with their ranges, and what each technology holds and uses.
 
-pub use crate::field::{Field, Role, HEAD};
+pub use crate::field::{Field, Role, FIRST_HOUR, HEAD};
 
 pub type Mark = [u8; 2];
 
@@ -108,20 +108,42 @@ pub mod lc {
     pub const COST: Field = Field::first(4, 0, 2_000_000_000).money();
 }
 
-/// One kind of record.
+/// The records of one mark.
 #[derive(Debug)]
 pub struct Kind {
     pub mark: Mark,
+    /// The mark that it shares its keys with: FU for FV, AD for AV, MM for MV, else its own.
+    pub of: Mark,
     pub length: usize,
-    /// How many bytes the key takes; they follow the head.
+    /// How many bytes the key takes; they follow the head and, in a dated record, the first hour.
     pub key_width: usize,
     pub fields: &'static [Field],
 }
 
 impl Kind {
+    /// Whether its records have a first hour.
+    pub fn is_dated(&self) -> bool {
+        self.mark != self.of
+    }
+
+    /// How far behind its place in the undated mark a field stands.
+    pub fn shift(&self) -> usize {
+        if self.is_dated() {
+            FIRST_HOUR.width
+        } else {
+            0
+        }
+    }
+
+    /// The key's bytes in a whole record.
+    pub fn key<'a>(&self, record: &'a [u8]) -> &'a [u8] {
+        &record[HEAD + self.shift()..][..self.key_width]
+    }
+
     /// Where the key of a whole record in range stands among all keys in bounds, the lowest at 0.
     pub fn slot(&self, record: &[u8]) -> usize {
-        let key = self.fields.iter().take_while(|f| f.role == Role::Key);
+        let fields = self.fields[usize::from(self.is_dated())..].iter();
+        let key = fields.take_while(|f| f.role == Role::Key);
         key.fold(0, |slot, field| {
             let above = |number| (number - field.lowest) as usize;
             slot * (above(field.highest) + 1) + above(field.read(record))
@@ -132,13 +154,28 @@ impl Kind {
 const fn kind(mark: &Mark, length: usize, key_width: usize, fields: &'static [Field]) -> Kind {
     Kind {
         mark: *mark,
+        of: *mark,
         length,
         key_width,
         fields,
     }
 }
 
-pub static TABLE: [Kind; 11] = [
+/// A mark whose records are those of another with a first hour.
+const fn dated(
+    mark: &Mark,
+    of: &Mark,
+    length: usize,
+    key_width: usize,
+    fields: &'static [Field],
+) -> Kind {
+    Kind {
+        of: *of,
+        ..kind(mark, length, key_width, fields)
+    }
+}
+
+pub static TABLE: [Kind; 14] = [
     kind(
         b"RS",
         31,
@@ -185,11 +222,58 @@ pub static TABLE: [Kind; 11] = [
     ),
     kind(b"FP", 12, 2, &[fp::PLACE, fp::PRICE]),
     kind(b"LC", 10, 0, &[lc::COST]),
+    dated(
+        b"FV",
+        b"FU",
+        19,
+        1,
+        &[
+            FIRST_HOUR,
+            fu::PROFILE.dated(),
+            fu::FUEL.dated(),
+            fu::EMISSION.dated(),
+        ],
+    ),
+    dated(
+        b"AV",
+        b"AD",
+        21,
+        3,
+        &[
+            FIRST_HOUR,
+            ad::PROFILE.dated(),
+            ad::COST.dated(),
+            ad::LEVEL.dated(),
+            ad::AMOUNT.dated(),
+        ],
+    ),
+    dated(
+        b"MV",
+        b"MM",
+        28,
+        2,
+        &[
+            FIRST_HOUR,
+            mm::PROFILE.dated(),
+            mm::ITEM.dated(),
+            mm::C.dated(),
+            mm::W.dated(),
+            mm::T.dated(),
+            mm::S.dated(),
+        ],
+    ),
 ];
 
 /// The kind that a mark names, if it names one.
 pub fn kind_of(mark: &Mark) -> Option<&'static Kind> {
     TABLE.iter().find(|kind| kind.mark == *mark)
+}
+
+/// The kind of a mark's records with a first hour, if there is one.
+pub fn dated_kind_of(mark: &Mark) -> Option<&'static Kind> {
+    TABLE
+        .iter()
+        .find(|kind| kind.is_dated() && kind.of == *mark)
 }
 
 /// A field with the range that it has in this record: 3 goes by what an RS itself says.
@@ -255,7 +339,7 @@ impl Technology {
         }
     }
 
-    /// The prices of an FU that it wants 0.
+    /// The prices of an FU or FV that it wants 0.
     pub fn unpriced(self) -> &'static [Field] {
         match self {
             Technology::Thermal => &[],
@@ -269,17 +353,33 @@ impl Technology {
 mod tests {
     use super::*;
 
-    /// Keys come first, fields lie back to back, and they fill the printed length.
+    /// The key comes first, behind a first hour if there is one; fields lie back to back, and they
+    /// fill the printed length.
     #[test]
     fn fields_fill_their_records() {
         for kind in &TABLE {
             let mut at = HEAD;
             for field in kind.fields {
                 assert_eq!(field.at, at);
-                assert_eq!(field.role == Role::Key, at < HEAD + kind.key_width);
+                let key = HEAD + kind.shift()..HEAD + kind.shift() + kind.key_width;
+                assert_eq!(field.role == Role::Key, key.contains(&at));
                 at += field.width;
             }
             assert_eq!(at, kind.length, "{:?}", kind.mark);
+        }
+    }
+
+    #[test]
+    fn a_dated_record_is_another_with_a_first_hour() {
+        let dated: Vec<&Kind> = TABLE.iter().filter(|kind| kind.is_dated()).collect();
+        assert_eq!(dated.len(), 3);
+        for kind in dated {
+            let undated = kind_of(&kind.of).unwrap();
+            let fields: Vec<Field> = undated.fields.iter().map(|f| f.dated()).collect();
+            assert_eq!(kind.fields[0], FIRST_HOUR);
+            assert_eq!(kind.fields[1..], fields);
+            assert_eq!(kind.length, undated.length + 4);
+            assert_eq!(kind.key_width, undated.key_width);
         }
     }
 }

@@ -1,6 +1,7 @@
 //! The cases with their expected answers: one a line, words parted by a space, bytes in
 //! hexadecimal, `-` for none.
 
+use crate::table::kind_of;
 use crate::{refuse, Failing, Refusal, Verdict, Week};
 
 #[derive(Debug)]
@@ -64,6 +65,20 @@ impl Vector {
             _ => None,
         }
     }
+
+    /// The weeks were asked for before request 8: where one is refused for a mark that is known since,
+    /// it has another answer now.
+    fn is_overtaken(&self) -> bool {
+        match self {
+            Vector::Week {
+                dossier,
+                week: Err(Refusal { number: 1, place }),
+            } => dossier[*place..]
+                .first_chunk()
+                .is_some_and(|mark| kind_of(mark).is_some()),
+            _ => false,
+        }
+    }
 }
 
 /// The vectors in the repository's data folder.
@@ -73,8 +88,9 @@ pub fn read() -> Vec<Vector> {
         let path = format!("{folder}/{name}");
         std::fs::read_to_string(&path).expect(&path)
     };
-    let texts = ["request-3.txt", "week.txt"].map(text);
-    texts.iter().flat_map(|t| t.lines()).map(vector).collect()
+    let texts = ["request-8.txt", "week.txt"].map(text);
+    let vectors = texts.iter().flat_map(|t| t.lines()).map(vector);
+    vectors.filter(|vector| !vector.is_overtaken()).collect()
 }
 
 fn vector(line: &str) -> Vector {

@@ -8,7 +8,7 @@ use model::accept::accepted;
 use model::dossier::records;
 use model::levels::{reckon, Levels, Micro};
 use model::make::idle::{battery, charged_weeks, edges, idle_weeks, last_cost};
-use model::make::sound::sound_of;
+use model::make::sound::with_levels_at;
 use model::make::written::{hydro, nuclear_at, plain_thermal, record, storage};
 use model::memo::{is_idle, level_at, made_weeks, told, written_weeks, Week};
 use model::raise::is_raise;
@@ -68,7 +68,7 @@ fn charged_energy_leaves_it_out() {
 
 /// A battery's sum in micro-dollars, before the rounding to cents.
 fn sum(dossier: &[u8]) -> u128 {
-    let sums: Levels<Micro> = reckon(&accepted(dossier).unwrap(), 0);
+    let sums: Levels<Micro> = reckon(&accepted(dossier).unwrap(), 0).unwrap();
     sums.energy[0].level.0
 }
 
@@ -237,7 +237,7 @@ fn made_batteries() {
     let mut random = Random::new(7);
     let mut seen: BTreeMap<&str, usize> = BTreeMap::new();
     for _ in 0..8_000 {
-        let dossier = sound_of(&mut random, Technology::Storage).bytes();
+        let dossier = with_levels_at(&mut random, Technology::Storage, 0).bytes();
         let station = accepted(&dossier).unwrap();
         let last = station.current.get(b"LC", &[]);
         let cost = last.map(|record| record.get(lc::COST));

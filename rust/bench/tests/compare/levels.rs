@@ -13,7 +13,7 @@ use model::random::Random;
 use model::report::text;
 use model::table::Technology;
 use model::vectors::{read, Vector};
-use model::Refusal;
+use model::{refuse, Refusal};
 
 const STEPS: usize = 20;
 
@@ -173,10 +173,11 @@ fn a_raise_lowers_no_level() {
         let hour = make::hour(random, dossier);
         let before = model_levels(dossier, hour);
         let after = model_levels(&raised, hour);
-        let (Ok(before), Ok(after)) = (before, after) else {
-            return Err("a raise or its base is refused".to_string());
-        };
-        same("no level is lower", none_lower(&before, &after), true)
+        match (&before, &after) {
+            (Ok(before), Ok(after)) => same("no level is lower", none_lower(before, after), true),
+            // an hour without fuel has none before or after
+            _ => same("neither", (before, after), (refuse(20, 0), refuse(20, 0))),
+        }
     });
 }
 

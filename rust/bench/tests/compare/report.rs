@@ -6,6 +6,7 @@ use model::make::written::{r1, R1_LINES};
 use model::make::{self, sound};
 use model::random::Random;
 use model::report::{refusal_line, text};
+use model::table::TECHNOLOGIES;
 use model::vectors::{read, Vector};
 
 /// One buffer of this length, filled before the call.
@@ -37,8 +38,9 @@ fn dossiers_of_every_sort() {
 #[test]
 fn every_length_of_a_buffer() {
     let mut random = Random::new(1);
-    for _ in 0..20 {
-        let dossier = sound::sound(&mut random).bytes();
+    for n in 0..20 {
+        let technology = TECHNOLOGIES[n % TECHNOLOGIES.len()];
+        let dossier = sound::with_levels_at(&mut random, technology, 0).bytes();
         let length = text(&model::levels(&dossier, 0).unwrap()).len();
         for length in 0..length + 20 {
             check_buffer(&mut random, &dossier, 0, length).unwrap();

@@ -124,5 +124,6 @@ fn every_vector() {
         assert_eq!(model_week(dossier), *week, "{dossier:?}");
         count += 1;
     }
-    assert_eq!(count, 200);
+    // all 200 but the two that are refused for a mark that request 8 brought
+    assert_eq!(count, 198);
 }

@@ -1,5 +1,6 @@
 //! The picture of a day as SVG: each level over the hours as steps, the profiles as bands behind
-//! them, and refused hours hatched. The levels but energy have plots of their own below.
+//! them, a line where another cost begins to count, and refused hours hatched. The levels but energy
+//! have plots of their own below.
 
 use super::axis::{round_step, Axis};
 use super::sheet::*;
@@ -13,6 +14,8 @@ pub struct Day<'a> {
     pub title: &'a str,
     pub from: u32,
     pub hours: Vec<Result<&'a Levels, Refusal>>,
+    /// The hours from which another cost counts.
+    pub changed: Vec<u32>,
 }
 
 /// Hours in a row that are alike: from and to, counted from the first of the picture.
@@ -32,6 +35,9 @@ struct Course {
 const TINTS: [&str; 4] = ["#ffffff", "#dcebf7", "#fbe3cf", "#d5d5d5"];
 const EDGE: &str = "stroke='#bbbbbb' stroke-width='1'";
 const STEP: &str = "stroke='#0063a6' stroke-width='3'";
+const CHANGE: &str = "stroke='#000000' stroke-width='1.5' stroke-dasharray='2 4'";
+/// How many hours of change the legend names.
+const MOST_NAMED: usize = 6;
 /// The height of a plot below that of energy, and the gap above it.
 const LOW: f64 = 62.0;
 const GAP: f64 = 18.0;
@@ -62,6 +68,7 @@ pub fn svg(day: &Day) -> String {
             },
         );
         sheet.frame(plot);
+        sheet.changes(plot, day);
         sheet.courses(plot, courses);
     }
     if let Some(plot) = plots.last() {
@@ -195,7 +202,22 @@ fn legend(day: &Day, stretches: &[Stretch], energy: &[Course]) -> Vec<(Mark, Str
         let text = format!("{}: refused {}", hours(day, stretch), refusal.number);
         legend.push((Mark::Failure, text));
     }
+    if !day.changed.is_empty() {
+        let text = format!("a cost begins: {}", named(&day.changed));
+        legend.push((Mark::Line(CHANGE), text));
+    }
     legend
+}
+
+/// Hours in a row, the first ones of many.
+fn named(hours: &[u32]) -> String {
+    let named = hours.iter().take(MOST_NAMED).map(u32::to_string);
+    let mut named: Vec<String> = named.collect();
+    if hours.len() > MOST_NAMED {
+        named.push("and more".to_string());
+    }
+    let s = if hours.len() == 1 { "" } else { "s" };
+    format!("hour{s} {}", named.join(", "))
 }
 
 fn tint(profile: u8) -> &'static str {
@@ -234,7 +256,11 @@ fn description(day: &Day, stretches: &[Stretch]) -> String {
         format!(" {}: {found}.", hours(day, stretch))
     };
     let told: String = stretches.iter().map(told).collect();
-    format!("Energy in dollars per MWh, the other levels in dollars.{told}")
+    let begun = match day.changed.is_empty() {
+        true => String::new(),
+        false => format!(" A cost begins: {}.", named(&day.changed)),
+    };
+    format!("Energy in dollars per MWh, the other levels in dollars.{told}{begun}")
 }
 
 /// Where the names of levels stand beside their last prices, as near as they can without lying on one
@@ -281,13 +307,24 @@ impl Sheet {
                 }
             }
         }
-        for stretch in stretches {
-            let middle = (first.x(stretch.from) + first.x(stretch.to)) / 2.0;
-            let text = match stretch.found {
-                Ok(levels) => format!("profile {}", levels.profile),
-                Err(refusal) => format!("refused {}", refusal.number),
-            };
-            self.text_above(first, middle, &text);
+        let name = |stretch: &Stretch| match stretch.found {
+            Ok(levels) => format!("profile {}", levels.profile),
+            Err(refusal) => format!("refused {}", refusal.number),
+        };
+        // Within a profile levels may change: its name stands once.
+        for alike in stretches.chunk_by(|a, b| name(a) == name(b)) {
+            let (from, to) = (alike[0].from, alike[alike.len() - 1].to);
+            let middle = (first.x(from) + first.x(to)) / 2.0;
+            self.text_above(first, middle, &name(&alike[0]));
+        }
+    }
+
+    /// A line where another cost begins to count.
+    fn changes(&mut self, plot: &Plot, day: &Day) {
+        for hour in &day.changed {
+            let index = u16::try_from(hour.saturating_sub(day.from)).unwrap_or(u16::MAX);
+            let x = quarter(plot.x(index));
+            self.path(&format!("M{x} {}V{}", plot.top, plot.bottom), CHANGE);
         }
     }
 
@@ -345,10 +382,15 @@ mod tests {
     }
 
     fn drawn(from: u32, hours: Vec<Result<&Levels, Refusal>>) -> String {
+        drawn_with(from, hours, &[])
+    }
+
+    fn drawn_with(from: u32, hours: Vec<Result<&Levels, Refusal>>, changed: &[u32]) -> String {
         let out = svg(&Day {
             title: "a day",
             from,
             hours,
+            changed: changed.to_vec(),
         });
         check(&out);
         check_texts(&out);
@@ -425,6 +467,25 @@ mod tests {
                 }
             }
         }
+    }
+
+    /// Each hour from which another cost counts has a line in every plot.
+    #[test]
+    fn costs_that_begin_are_told() {
+        let all = [1, 2].map(|n| levels(n, 3, true));
+        let hours = || (0..24).map(|hour| Ok(&all[hour / 12])).collect();
+        let out = drawn_with(100, hours(), &[112]);
+        assert_eq!(
+            out.matches("stroke-dasharray='2 4'").count(),
+            4 + 1,
+            "{out}"
+        );
+        assert!(out.contains(">a cost begins: hour 112<"));
+        assert!(out.contains(" A cost begins: hour 112."));
+        let many: Vec<u32> = (100..124).collect();
+        let out = drawn_with(100, hours(), &many);
+        assert!(out.contains(">a cost begins: hours 100, 101, 102, 103, 104, 105, and more<"));
+        assert!(!drawn(100, hours()).contains("a cost begins"));
     }
 
     #[test]

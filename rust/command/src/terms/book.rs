@@ -1,12 +1,14 @@
 //! The records that count at an hour, through the library's lookup.
 
-use crate::explain::{standing, Standing};
-use crate::input::Input;
+use crate::explain::{standing, Span, Standing};
+use crate::lines::Lines;
 use crate::record::{records, Record};
 
 /// A station's records as they count at an hour.
 pub struct Book<'a> {
-    input: &'a Input,
+    dossier: &'a [u8],
+    lines: &'a Lines,
+    hour: u32,
     /// All records in the order they lie.
     records: Vec<Record<'a>>,
     pub profile: u8,
@@ -15,10 +17,12 @@ pub struct Book<'a> {
 }
 
 impl<'a> Book<'a> {
-    pub fn open(input: &'a Input, hour: u32) -> Book<'a> {
+    pub fn open(dossier: &'a [u8], lines: &'a Lines, hour: u32) -> Book<'a> {
         let mut book = Book {
-            input,
-            records: records(&input.dossier).collect(),
+            dossier,
+            lines,
+            hour,
+            records: records(dossier).collect(),
             profile: 1,
             request: None,
         };
@@ -31,21 +35,34 @@ impl<'a> Book<'a> {
         book
     }
 
-    /// The record of a mark and key that counts: the current one. Where records have a first hour,
-    /// this is where the hour comes in.
+    /// The record of a mark and key that counts: the current one, which is the library's; where its
+    /// first hour lies ahead, of the others the newest whose first hour has come.
     pub fn counting(&self, letters: &str, key: u32) -> Option<Record<'a>> {
         let mark = letters.as_bytes().try_into().ok()?;
-        let part = bench::current(&self.input.dossier, mark, key);
+        let part = bench::current(self.dossier, mark, key);
         if part.bytes.is_empty() {
             return None;
         }
         let index = self.records.binary_search_by_key(&part.start, |r| r.start);
-        index.ok().map(|index| self.records[index])
+        let current = self.records[index.ok()?];
+        if current.first_hour() <= self.hour {
+            return Some(current);
+        }
+        let come = self.of_key(&current);
+        let come = come.filter(|r| r.first_hour() <= self.hour);
+        come.max_by_key(|r| r.get("issue"))
     }
 
-    /// The records of a mark that count, by rising keys.
+    /// All records of a record's key, itself among them.
+    fn of_key(&self, record: &Record) -> impl Iterator<Item = Record<'a>> + '_ {
+        let key = record.of_key();
+        let shares = move |r: &&Record| r.mark.of == key.0 && r.of_key() == key;
+        self.records.iter().filter(shares).copied()
+    }
+
+    /// The records of a mark, and of the one that shares its keys, that count, by rising keys.
     pub fn all(&self, letters: &str) -> Vec<Record<'a>> {
-        let of_mark = self.records.iter().filter(|r| r.mark.letters == letters);
+        let of_mark = self.records.iter().filter(|r| r.mark.of == letters);
         let mut keys: Vec<u32> = of_mark.map(Record::key_number).collect();
         keys.sort_unstable();
         keys.dedup();
@@ -79,7 +96,49 @@ impl<'a> Book<'a> {
         prices
     }
 
+    /// The records of the hour's profile that count for the first time at this hour.
+    pub fn begun(&self) -> Vec<Record<'a>> {
+        let costs = ["FU", "AD", "MM"].map(|letters| self.of_profile(letters));
+        let begins = |r: &Record| r.mark.is_dated() && r.first_hour() == self.hour;
+        costs.concat().into_iter().filter(begins).collect()
+    }
+
+    /// The records of the hour's profile that will count, by their first hours.
+    pub fn ahead(&self) -> Vec<Record<'a>> {
+        let of_profile = |r: &&Record| r.get("profile") == i128::from(self.profile);
+        let later = self.records.iter().filter(|r| r.first_hour() > self.hour);
+        let mut ahead: Vec<Record> = later.filter(of_profile).copied().collect();
+        ahead.retain(|record| {
+            let newer = |r: &Record| r.get("issue") > record.get("issue");
+            let hides = |r: &Record| newer(r) && r.first_hour() <= record.first_hour();
+            !self.of_key(record).any(|r| hides(&r))
+        });
+        ahead.sort_by_key(Record::first_hour);
+        ahead
+    }
+
+    /// The fuel that the hour's profile has first: of those with the earliest first hour the newest.
+    pub fn first_fuel(&self) -> Option<Record<'a>> {
+        let key = ("FU", u32::from(self.profile));
+        let fuels = self.records.iter().filter(|r| r.of_key() == key);
+        fuels
+            .min_by_key(|r| (r.first_hour(), -r.get("issue")))
+            .copied()
+    }
+
+    /// A record that counts, with the hours in which it does.
     pub fn cited(&self, record: &Record) -> Standing {
-        standing(record, &self.input.lines)
+        let newer = self.of_key(record);
+        let newer = newer.filter(|r| r.get("issue") > record.get("issue"));
+        // A newer one that hasn't come lies ahead of this hour, which is 0 or more.
+        let end = newer.map(|r| r.first_hour()).min();
+        let span = || Span {
+            from: record.first_hour(),
+            to: end.map(|hour| hour.saturating_sub(1)),
+        };
+        Standing {
+            counts: record.mark.can_be_dated().then(span),
+            ..standing(record, self.lines)
+        }
     }
 }

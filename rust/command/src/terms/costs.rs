@@ -44,6 +44,16 @@ pub fn levels(book: &Book) -> Vec<Level> {
     }
 }
 
+/// The levels that a dated cost may join: fuel all but reserve, an adder its own, an item energy and
+/// starts.
+pub fn joined(record: &Record) -> Vec<u8> {
+    match record.mark.of {
+        "FU" => vec![ENERGY, START, NO_LOAD],
+        "AD" => u8::try_from(record.get("level")).into_iter().collect(),
+        _ => vec![ENERGY, START],
+    }
+}
+
 /// What the levels of a station rest on.
 struct Costs<'b, 'a> {
     book: &'b Book<'a>,

@@ -1,7 +1,7 @@
 //! Levels term by term, in words and in JSON.
 
 use super::{Explanation, Level, Place, Side, Term};
-use crate::explain::Standing;
+use crate::explain::{why, Standing};
 use crate::json::{object, Json};
 use crate::levels::{at, megawatts};
 use crate::unit::{decimal, parts, DOLLARS, FINE_DOLLARS, LEVEL};
@@ -70,10 +70,7 @@ impl Place {
 impl Explanation {
     /// The levels, each under its name, behind the profile and what asks for it.
     pub fn words(&self) -> String {
-        let why = match &self.request {
-            Some(request) => format!("asked for by {}", request.short()),
-            None => "as no request covers the hour".to_string(),
-        };
+        let why = why(self.request.as_ref());
         let mut words = format!("hour {}: profile {}, {why}\n", self.hour, self.profile);
         if let Some(station) = &self.station {
             words += &format!("station: {}\n", station.short());
@@ -82,7 +79,24 @@ impl Explanation {
             let there = self.library.iter().find(|(place, _)| *place == level.place);
             level.words(there.map(|(_, cents)| *cents))
         });
-        words + &levels.collect::<String>()
+        words + &levels.collect::<String>() + &self.ahead_words()
+    }
+
+    /// The costs that lie ahead, each with the hour from which it counts.
+    fn ahead_words(&self) -> String {
+        let told = self.ahead.iter().take(MOST);
+        let told = told.map(|ahead| {
+            let (first, record) = (ahead.first, ahead.record.short());
+            format!("  from hour {first} on: {record}\n")
+        });
+        let more = match self.ahead.len().saturating_sub(MOST) {
+            0 => String::new(),
+            more => format!("  and {more} more, which --json lists\n"),
+        };
+        match self.ahead.is_empty() {
+            true => String::new(),
+            false => format!("\nahead\n{}{more}", told.collect::<String>()),
+        }
     }
 
     pub fn json(&self, differences: &[String]) -> Json {
@@ -100,6 +114,10 @@ impl Explanation {
             (
                 "differences",
                 Json::List(differences.iter().map(Json::text).collect()),
+            ),
+            (
+                "ahead",
+                Json::List(self.ahead.iter().map(|a| a.record.json()).collect()),
             ),
         ]))
     }

@@ -1,12 +1,13 @@
 //! Ways to break a sound dossier, each with the number that it draws.
 
+use super::dated::*;
 use super::incomplete::*;
 use super::sound::{sound, sound_of};
 use super::unfit::*;
-use super::{any_record, is_whole, key, kind, noise, reconcile, Draft};
+use super::{any_record, is_whole, kind, noise, reconcile, with_first_hour, Draft};
 use crate::dossier::LONGEST;
 use crate::random::Random;
-use crate::table::{as_in, kind_of, rq, rs, Field, Mark, Technology};
+use crate::table::{as_in, kind_of, rq, rs, Field, Mark, Role, Technology};
 
 /// One way: its name, the number it draws, and what it does to a sound dossier. `None` says that
 /// this dossier can't be broken in this way.
@@ -26,12 +27,12 @@ pub static DAMAGES: &[Damage] = damages! {
     1: unknown_mark, unknown_mark_at_the_end;
     2: cut_short, one_byte_left;
     3: below_range, above_range, first_after_last, long_window_elsewhere;
-    4: twin;
+    4: twin, twin_of_the_other_mark;
     5: no_rs;
     6: used_field_zero, unused_field_set, point_not_thermal, hour_not_storage,
        interval_not_storage, last_cost_not_storage, place_not_hydro, fuel_at_hydro,
        emission_not_thermal, addition_not_held, prorated_not_nuclear,
-       start_hours_not_thermal, threshold_not_held;
+       start_hours_not_thermal, threshold_not_held, unfit_for_some_hours, unfit_from_some_hour;
     7: no_point, one_point, point_missing, output_not_rising, heat_falling, slope_falling,
        curve_not_to_capacity;
     8: no_first_fuel, no_named_fuel;
@@ -208,11 +209,27 @@ fn long_window_elsewhere(random: &mut Random, draft: &mut Draft) -> Option<()> {
 /// The mark, key and issue of a record, current or not, once more; the rest as it was or not.
 fn twin(random: &mut Random, draft: &mut Draft) -> Option<()> {
     let at = any_place(random, draft)?;
-    let mut twin = draft.records[at].clone();
+    let twin = draft.records[at].clone();
+    put_twin(random, draft, twin)
+}
+
+/// The same under the other mark of its key: FU and FV, AD and AV, MM and MV.
+fn twin_of_the_other_mark(random: &mut Random, draft: &mut Draft) -> Option<()> {
+    let at = any_place(random, draft)?;
+    let record = &draft.records[at];
+    let any = random.next() as u32;
+    let first = random.pick(&[0, 1, 24, any, u32::MAX]);
+    let first = (!kind(record).is_dated()).then_some(first);
+    let twin = with_first_hour(record, first)?;
+    put_twin(random, draft, twin)
+}
+
+fn put_twin(random: &mut Random, draft: &mut Draft, mut twin: Vec<u8>) -> Option<()> {
     if random.one_in(2) {
         let fresh = any_record(random, kind(&twin));
-        let claim = super::HEAD + key(&twin).len();
-        twin[claim..].copy_from_slice(&fresh[claim..]);
+        for field in kind(&twin).fields.iter().filter(|f| f.role != Role::Key) {
+            field.write(&mut twin, field.read(&fresh));
+        }
         reconcile(&mut twin);
     }
     // A lone byte or a cut record stays last, or the twin would complete it.

@@ -11,7 +11,7 @@ pub enum Order {
     Any,
 }
 
-/// Each order of arrival with each order of prices.
+/// Each order with each, of arrival and of prices or of issues and of first hours.
 pub fn orders() -> impl Iterator<Item = (Order, Order)> {
     let orders = [Order::Rising, Order::Falling, Order::Any];
     let pairs = orders.map(|arrival| orders.map(|prices| (arrival, prices)));
@@ -20,7 +20,7 @@ pub fn orders() -> impl Iterator<Item = (Order, Order)> {
 
 impl Order {
     /// Puts a list that rises into this order.
-    fn arrange<T>(self, list: &mut [T]) {
+    pub(super) fn arrange<T>(self, list: &mut [T]) {
         match self {
             Order::Rising => {}
             Order::Falling => list.reverse(),

@@ -8,7 +8,7 @@ use crate::table::{ENERGY, PRICE};
 use std::collections::BTreeSet;
 
 /// What an offer is put to: the levels and thresholds of one dossier at one hour, none of them if
-/// the dossier isn't accepted.
+/// the dossier isn't accepted, and no level at an hour without fuel.
 pub struct Target {
     levels: Option<Levels<u64>>,
     thresholds: Vec<(u8, u8, Threshold)>,
@@ -23,7 +23,7 @@ impl Target {
             thresholds.extend(found.into_iter().flatten().map(|t| (condition, level, t)));
         }
         Target {
-            levels: station.map(|s| levels_of(&s, hour)),
+            levels: station.and_then(|s| levels_of(&s, hour).ok()),
             thresholds,
         }
     }

@@ -1,10 +1,10 @@
 //! Dossiers of a length, to be timed: keys of all marks that a technology may have, several issues
-//! of each, in any order; and a full charging week.
+//! of each, in any order, without first hours or with them; and a full charging week.
 //!
 //! None has an LC, which says nothing where a battery charged.
 
-use super::set_issue;
 use super::written::record;
+use super::{set_issue, with_first_hour};
 use crate::random::Random;
 use crate::table::{Role, Technology};
 
@@ -15,12 +15,30 @@ pub(super) const CAPACITY: i128 = 1_000;
 
 /// A dossier of this length or a few bytes less; 1,000 are enough for each technology.
 pub fn sized(technology: Technology, length: usize) -> Vec<u8> {
+    filled(technology, length, |record, _| record)
+}
+
+/// The same with a first hour in every newer issue of a cost that can have one: each counts from a
+/// day after the one before it.
+pub fn sized_dated(technology: Technology, length: usize) -> Vec<u8> {
+    filled(technology, length, |record, issue| {
+        let first = (issue > 1).then(|| 24 * (issue - 1));
+        with_first_hour(&record, first).unwrap_or(record)
+    })
+}
+
+/// Issue upon issue of each key, as `told` makes it of a record, until the length is reached.
+fn filled(
+    technology: Technology,
+    length: usize,
+    told: impl Fn(Vec<u8>, u32) -> Vec<u8>,
+) -> Vec<u8> {
     let random = &mut Random::new(length as u64);
     let keys = keys(technology, length);
     let mut left = length;
     let issues = (1..).flat_map(|issue| keys.iter().map(move |key| (key, issue)));
     let mut records: Vec<_> = issues
-        .map(|(key, issue)| reissued(random, key, issue))
+        .map(|(key, issue)| told(reissued(random, key, issue), issue))
         .take_while(|record| goes_in(&mut left, record.len()))
         .collect();
     random.shuffle(&mut records);

@@ -1,10 +1,10 @@
 //! Dossiers that are accepted, of all technologies and many shapes.
 
 use super::written::record;
-use super::{any_record, reconcile, set_issue, value, Draft};
+use super::{any_record, dated, reconcile, set_issue, value, with_first_hour, Draft};
 use crate::accept::accepted;
 use crate::dossier::LONGEST;
-use crate::levels::{profile_at, reckon, Levels, Micro};
+use crate::levels::{levels, profile_at, reckon, Levels, Micro};
 use crate::random::Random;
 use crate::table::{ad, as_in, fu, kind_of, mm, rq, th};
 use crate::table::{Field, Mark, Role, Technology, ENERGY, TECHNOLOGIES};
@@ -38,7 +38,8 @@ pub fn sound_of(random: &mut Random, technology: Technology) -> Draft {
     maker.arranged()
 }
 
-/// A sound dossier of exactly this length: old issues of one request and one fuel fill it up.
+/// A sound dossier of exactly this length: old issues of one request and one fuel, some of them from
+/// an hour on, fill it up.
 pub fn filled(random: &mut Random, length: usize) -> Draft {
     let mut draft = loop {
         let draft = sound(random);
@@ -48,32 +49,57 @@ pub fn filled(random: &mut Random, length: usize) -> Draft {
     };
     draft.remove(b"RQ", &[16]);
     draft.remove(b"FU", &[4]);
+    let dated = random.pick(&[0, 0, 20, (length - draft.length() - 600) / 19]);
+    for n in 0..dated {
+        let mut fuel = fourth_fuel(random, draft.technology);
+        // newer than the others
+        set_issue(&mut fuel, LONGEST as u32 + n as u32);
+        let first = random.spread(0, u32::MAX.into()) as u32;
+        let fuel = with_first_hour(&fuel, Some(first)).expect("fuel can be dated");
+        draft.records.push(fuel);
+    }
     // as many records of 15 bytes as there is room for, some of them one byte longer
     let room = length - draft.length();
     let (count, longer) = (room / 15, room % 15);
     for issue in 0..count {
-        let mark = if issue < longer { b"RQ" } else { b"FU" };
-        let mut record = any_record(random, kind_of(mark).expect("a known mark"));
-        set_issue(&mut record, issue as u32);
+        let mut record = fourth_fuel(random, draft.technology);
         if issue < longer {
+            record = any_record(random, kind_of(b"RQ").expect("a known mark"));
             rq::REQUEST.write(&mut record, 16);
             rq::PROFILE.write(&mut record, 1);
-        } else {
-            fu::PROFILE.write(&mut record, 4);
-            for price in draft.technology.unpriced() {
-                price.write(&mut record, 0);
-            }
         }
+        set_issue(&mut record, issue as u32);
         draft.records.push(record);
     }
     random.shuffle(&mut draft.records);
     draft
 }
 
+/// A fuel of profile 4 that fits.
+fn fourth_fuel(random: &mut Random, technology: Technology) -> Vec<u8> {
+    let mut fuel = any_record(random, kind_of(b"FU").expect("a known mark"));
+    fu::PROFILE.write(&mut fuel, 4);
+    for price in technology.unpriced() {
+        price.write(&mut fuel, 0);
+    }
+    fuel
+}
+
+/// A sound dossier that has levels at an hour.
+pub fn with_levels_at(random: &mut Random, technology: Technology, hour: u32) -> Draft {
+    loop {
+        let draft = sound_of(random, technology);
+        if levels(&draft.bytes(), hour).is_ok() {
+            return draft;
+        }
+    }
+}
+
 /// A sound dossier in which an AD amount brings the sum of one level at hour 0 to the half cent or
 /// one micro-dollar below it: one division that goes another way then shows.
 pub fn at_half_cent(random: &mut Random) -> Vec<u8> {
-    let mut draft = sound(random);
+    let technology = random.pick(&TECHNOLOGIES);
+    let mut draft = with_levels_at(random, technology, 0);
     let level = random.pick(draft.technology.levels());
     let profile = profile_at(&accepted(&draft.bytes()).expect("sound"), 0);
     let cost = random.between(1, 4);
@@ -81,7 +107,9 @@ pub fn at_half_cent(random: &mut Random) -> Vec<u8> {
     let amount = random.spread(0, 300_000_000);
     let fields = [profile.into(), cost, level.into(), amount];
     draft.records.push(record(b"AD", 1, &fields));
-    let sums: Levels<Micro> = reckon(&accepted(&draft.bytes()).expect("sound"), 0);
+    let bytes = draft.bytes();
+    let sums = reckon(&accepted(&bytes).expect("sound"), 0);
+    let sums: Levels<Micro> = sums.expect("levels at hour 0");
     let sum = match sums.single().find(|(number, _)| *number == level) {
         Some((_, sum)) => *sum,
         None => sums.energy[random.below(sums.energy.len() as u64) as usize].level,
@@ -220,9 +248,11 @@ impl Maker<'_> {
         }
     }
 
-    /// Gives each record its issue and, in some dossiers, older ones behind it.
+    /// Gives each record its issue and, in some dossiers, older ones behind it, or in place of it
+    /// several with first hours.
     fn histories(&mut self) {
         let rarity = self.random.pick(&[1_000, 1_000, 8, 8, 4, 1]);
+        let turns = dated::turns(self.random);
         let mut length: usize = self.records.iter().map(Vec::len).sum();
         let mut older = Vec::new();
         for i in 0..self.records.len() {
@@ -230,6 +260,15 @@ impl Maker<'_> {
             let newest = self.random.between(0, most.into());
             let newest = self.random.pick(&[newest, most.into()]) as u32;
             set_issue(&mut self.records[i], newest);
+            let history = turns.history(self.random, &self.records[i]);
+            let longer: usize = history.iter().flatten().map(Vec::len).sum();
+            if let Some(history) = history.filter(|_| length + longer <= LONGEST - 500) {
+                // whole, or a record that says anything would lose the one that hides it
+                length += longer;
+                older.extend(history);
+                self.records[i].clear();
+                continue;
+            }
             for (_, record) in self.older(i, newest, rarity) {
                 length += record.len();
                 // some bytes short of the most, as damage adds records
@@ -238,6 +277,7 @@ impl Maker<'_> {
                 }
             }
         }
+        self.records.retain(|record| !record.is_empty());
         self.records.extend(older);
     }
 
