@@ -1,5 +1,5 @@
-/* Every call of the library from C, on case R1 of README.md with two thresholds, and the charging week of a battery. docs/calls.py is the same from
- * Python; both print docs/calls.out.
+/* Every call of the library from C, on case R1 of README.md with two thresholds, with prices that come in later and one that is known early, and the
+ * charging week of a battery. docs/calls.py is the same from Python; both print docs/calls.out.
  * With the library built (rt staticlib bench), at the root of the repository:
  *
  *   cc -std=c99 -Iinclude -o target/calls docs/calls.c target/staticlib/libbench.a && target/calls
@@ -161,6 +161,38 @@ static void show_fuel(const struct bytes *dossier) {
     printf("current fuel: issue %d, %" PRIu32 " bytes at %" PRIu32 "\n", issue, bench_b(part), start);
 }
 
+/* The energy level at an hour. */
+static void show_energy(const struct bytes *dossier, uint32_t hour) {
+    uint64_t words[BENCH_WORDS] = {0};
+    char asked[30], good[30];
+    uint64_t answer = bench_levels(dossier->at, dossier->length, hour, words, BENCH_WORDS);
+    snprintf(asked, sizeof asked, "energy at hour %" PRIu32, hour);
+    snprintf(good, sizeof good, "%" PRIu64 " cents", words[4]);
+    say(asked, answer, good);
+}
+
+/* Gas at 5.00 dollars from hour 24 on, sent early; and oil, profile 2, which is asked for two hours before its price begins. */
+static void show_first_hours(const struct bytes *dossier) {
+    struct bytes later = *dossier;
+    begin(&later, "FV", 2);
+    put(&later, 4, 24); /* first hour */
+    put(&later, 1, 1);  /* profile */
+    put(&later, 4, 5000000);
+    put(&later, 4, 1000000);
+    begin(&later, "RQ", 1);
+    put(&later, 1, 1);  /* request */
+    put(&later, 4, 26); /* first hour */
+    put(&later, 4, 40); /* last hour */
+    put(&later, 1, 2);  /* profile */
+    begin(&later, "FV", 1);
+    put(&later, 4, 28);
+    put(&later, 1, 2);
+    put(&later, 4, 11500000);
+    put(&later, 4, 1800000);
+    say("fuel from hour 24 on", bench_accept(later.at, later.length), "accepted");
+    for (uint32_t hour = 23; hour <= 29; hour += 2) show_energy(&later, hour);
+}
+
 /* A battery of 80.0 MW with one full hour of charge and one hour in its window. */
 static struct bytes battery(void) {
     struct bytes dossier = {{0}, 0};
@@ -220,6 +252,7 @@ int main(void) {
     say("reserve at 0.50", reserve_test(&dossier, 50), "passes");
     say("reserve at 0.51", reserve_test(&dossier, 51), "passes");
     show_fuel(&dossier);
+    show_first_hours(&dossier);
     show_week();
     return 0;
 }

@@ -1,5 +1,5 @@
-"""Every call of the library from Python, on case R1 of README.md with two thresholds, and the charging week of a battery. docs/calls.c is the same
-from C; both print docs/calls.out.
+"""Every call of the library from Python, on case R1 of README.md with two thresholds, with prices that come in later and one that is known early, and
+the charging week of a battery. docs/calls.c is the same from C; both print docs/calls.out.
 With the library built (rt staticlib bench), at the root of the repository:
 
     cc -shared -o target/libbench.so -Wl,--whole-archive target/staticlib/libbench.a -Wl,--no-whole-archive
@@ -166,6 +166,24 @@ def show_fuel(bench, dossier):
     print(f"current fuel: issue {issue}, {length} bytes at {start}")
 
 
+def show_energy(bench, dossier, hour):
+    """The energy level at an hour."""
+    words = (U64 * WORDS)()
+    answer = bench.bench_levels(dossier, len(dossier), hour, words, len(words))
+    say(f"energy at hour {hour}", answer, f"{words[4]} cents")
+
+
+def show_first_hours(bench, dossier):
+    """Gas at 5.00 dollars from hour 24 on, sent early; and oil, profile 2, which is asked for two hours before its price begins."""
+    gas = record(b"FV", 2, (4, 24), (1, 1), (4, 5_000_000), (4, 1_000_000))
+    request = record(b"RQ", 1, (1, 1), (4, 26), (4, 40), (1, 2))
+    oil = record(b"FV", 1, (4, 28), (1, 2), (4, 11_500_000), (4, 1_800_000))
+    later = dossier + gas + request + oil
+    say("fuel from hour 24 on", bench.bench_accept(later, len(later)), "accepted")
+    for hour in range(23, 30, 2):
+        show_energy(bench, later, hour)
+
+
 def charging(issue, interval, price, energy):
     """What was charged in an interval of five minutes: its price in cents per MWh, its energy in kWh."""
     return record(b"CH", issue, (2, interval), (4, price & 0xFFFFFFFF), (4, energy))
@@ -198,6 +216,7 @@ def main():
     say("reserve at 0.50", reserve_test(bench, R1, 50), "passes")
     say("reserve at 0.51", reserve_test(bench, R1, 51), "passes")
     show_fuel(bench, R1)
+    show_first_hours(bench, R1)
     show_week(bench)
 
 
