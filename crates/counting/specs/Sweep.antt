@@ -41,7 +41,7 @@ unfoldable pub idsFrom : ℕ → List (List ℕ) → List ℕ
 idsFrom p [] = []
 idsFrom p (r ∷ l) = packed (group (kind r) (keyOf r)) (issue r) p ∷ idsFrom (p + length r) l
 
--- the parts of such a number
+-- the kind and key in such a number
 abbrev pub groupIn : ℕ → ℕ
 groupIn x = x / 281474976710656
 
