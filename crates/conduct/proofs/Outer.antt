@@ -1,24 +1,29 @@
 -- From the tests over levels as code hands them over to the verdicts.
-use mathlib.Core.Path.{_≡_, ap, _∙_}
-use mathlib.Core.Bool.{true}
+use mathlib.Core.Path.{_≡_, ap, ap₂, _∙_}
 use mathlib.Core.List.{List, map}
 use Prim.Native.Nat.{ℕ, _/_}
+use lib.IntN.{ℤ}
 use lib.ListN.{length}
+use Rattle.fields.specs.Numbers.{biasedOf}
 use Rattle.records.specs.declared.Answer.the-variants.{Accepted}
-use Rattle.station.specs.Parameters.{Parameters}
+use Rattle.station.specs.Parameters.{Parameters, Amounts}
+use Rattle.lookup.specs.Parts.{parametersHeld}
+use Rattle.lookup.proofs.Held.{parameters-held}
 use Rattle.rules.specs.Fit.{energy}
-use Rattle.formulas.specs.Levels.{parametersAt, amountsAt, fuelled, Line, shown, profile, lines, levels}
-use Rattle.formulas.proofs.Hours.{levels-fuelled}
+use Rattle.formulas.specs.Levels.{Line, shown, linesOf}
 use Rattle.arrays.specs.declared.HourLevels.{HourLevels}
 use Rattle.arrays.specs.Packed.{arraysOf, laminationsFrom, unpacked, amountOf}
 use Rattle.verdicts.specs.declared.Verdict.{Verdict}
 use Rattle.verdicts.specs.Refusals.{offerRefusal, priceRefusal}
-use Rattle.verdicts.specs.Verdict.{offerVerdict, priceVerdict}
-use Rattle.verdicts.proofs.Settled.{settle-accepted, price-accepted}
+use Rattle.verdicts.specs.Verdict.{offerVerdict, priceVerdict, onOffer, onPrice}
+use Rattle.verdicts.proofs.Settled.{settle-accepted, price-accepted, on-offer, on-price}
 use Rattle.limits.specs.declared.Threshold.{Threshold}
 use Rattle.limits.specs.Thresholds.{thresholdOf, offerShown, singleShown}
 use Rattle.limits.proofs.Laminations.{laminations-alone, offer-shown}
 use Rattle.limits.proofs.Single.{single-tested}
+use Rattle.query.proofs.Asking.{Ready}
+use Rattle.reference.specs.Held.{linesHeld}
+use Rattle.reference.proofs.AtHour.{lines-held}
 
 -- the levels r were handed over for l; their laminations alone are tested
 pub offer-tested :
@@ -35,11 +40,24 @@ offer-tested s c l o r t a u e f =
     ∙ offer-shown s c l o 0 (length o / 6))
 
 pub price-tested :
-    (d : List ℕ) (h v c price : ℕ) (t : Threshold) {x : ℕ} {w : Verdict}
-    → fuelled (parametersAt d h) h ≡ true → priceRefusal (parametersAt d h) v c ≡ Accepted → x ≡ amountOf v (levels d h)
-    → t ≡ thresholdOf (parametersAt d h) c v → w ≡ singleShown t price x → w ≡ priceVerdict (parametersAt d h) v c (levels d h) price
-unfolding priceVerdict lines
-price-tested d h v c price t u a e f g =
-    let q = price-accepted (parametersAt d h) v c a in
-    settle-accepted a (rw (e, f) at g ∙ rw (levels-fuelled d h u) (single-tested (parametersAt d h) (amountsAt d h) (profile (parametersAt d h) h) c price v
-    (q .1) (q .2) (q .0)))
+    (s : Parameters) (m : Amounts) (p v c price : ℕ) (t : Threshold) {x : ℕ} {w : Verdict}
+    → priceRefusal s v c ≡ Accepted → x ≡ amountOf v (linesOf s m p) → t ≡ thresholdOf s c v → w ≡ singleShown t price x
+    → w ≡ priceVerdict s v c (linesOf s m p) price
+unfolding priceVerdict
+price-tested s m p v c price t a e f g =
+    let q = price-accepted s v c a in
+    settle-accepted a (rw (e, f) at g ∙ single-tested s m p c price v (q .1) (q .2) (q .0))
+
+-- ---- in the profile of an hour that is answered, these are the dossier's at the hour
+
+module _ {d : List ℕ} {h p : ℕ} {ix : List ℕ} (g : Ready d h p ix) where
+  pub offer-at : (c : ℕ) (o : List ℕ) {w : Verdict} → w ≡ offerVerdict (parametersHeld d ix) c (linesHeld d ix p) o → w ≡ onOffer d h c o
+  offer-at c o e =
+      on-offer d h c o (g .drawn)
+      (e ∙ ap₂ (λ (s : Parameters) (l : List Line). offerVerdict s c l o) (parameters-held h (g .index)) (lines-held g))
+
+  pub price-at : (v c : ℕ) (price : ℤ) {w : Verdict} → w ≡ priceVerdict (parametersHeld d ix) v c (linesHeld d ix p) (biasedOf price)
+      → w ≡ onPrice d h v c price
+  price-at v c price e =
+      on-price d h v c price (g .drawn)
+      (e ∙ ap₂ (λ (s : Parameters) (l : List Line). priceVerdict s v c l (biasedOf price)) (parameters-held h (g .index)) (lines-held g))

@@ -4,25 +4,25 @@ mod refusals;
 ghost use mathlib.Core.Path.{_≡_};
 ghost use Prim.Native.Nat.{_<_, _≤_};
 ghost use lib.ListN.{length};
-ghost use Rattle.records.specs.Dossier.{records};
-ghost use Rattle.station.specs.Parameters.{parameters};
 ghost use Rattle.station.specs.Week.{WeekIn};
 ghost use Rattle.records.specs.declared.Answer.the-variants.{Accepted};
-ghost use Rattle.formulas.specs.Levels.{levels, hourAnswer, parametersAt};
-ghost use Rattle.lookup.specs.Parts.{Indexed, Empty, AtHour};
+ghost use Rattle.rules.specs.Answer.{answer};
+ghost use Rattle.lookup.specs.Parts.{Indexed, Empty, parametersHeld};
+ghost use Rattle.reference.specs.Held.{linesHeld};
 ghost use Rattle.limits.specs.Thresholds.{thresholdOf};
 ghost use Rattle.verdicts.specs.Verdict.{offerVerdict, priceVerdict, onOffer, onPrice};
 use crate::refusals::offer_refusal;
 use crate::refusals::price_refusal;
 use limits::Threshold;
 use lookup::Room;
+use query::Asked;
 use records::Answer;
 use verdicts::Verdict;
 
 // What the TH of a condition and level says.
 fn threshold_of(d: &[u8], index: &[u16], condition: usize, level: usize) -> Threshold
     requires { ⌜ Indexed (now d) (now index) × (1 ≤ condition) × (condition ≤ 3) × (1 ≤ level) × (level ≤ 4) ⌝ }
-    ensures { λ r. ⌜ r ≡ thresholdOf (parameters (records (now (d .entry)))) condition level ⌝ }
+    ensures { λ r. ⌜ r ≡ thresholdOf (parametersHeld (now (d .entry)) (now (index .entry))) condition level ⌝ }
 {
     let percent = parameters::percent(d, index, condition, level);
     let margin = parameters::margin(d, index, condition, level);
@@ -39,12 +39,13 @@ fn offer_verdict(
     d: &[u8],
     index: &[u16],
     sums: &[u64],
-    hour: u32,
+    p: usize,
     condition: u8,
     offer: &[u8],
 ) -> Verdict
-    requires { ⌜ (hourAnswer (now d) hour ≡ Accepted) × AtHour hour (now d) (now index) × (length (now sums) ≡ 2) × WeekIn (now d) (now sums) ⌝ }
-    ensures { λ r. ⌜ r ≡ offerVerdict (parametersAt (now (d .entry)) hour) condition (levels (now (d .entry)) hour) (now (offer .entry)) ⌝ }
+    requires { ⌜ (answer (now d) ≡ Accepted) × Indexed (now d) (now index) × (1 ≤ p) × (p ≤ 4) × (length (now sums) ≡ 2) × WeekIn (now d) (now sums) ⌝ }
+    ensures { λ r. ⌜ r ≡ offerVerdict (parametersHeld (now (d .entry)) (now (index .entry))) condition
+        (linesHeld (now (d .entry)) (now (index .entry)) p) (now (offer .entry)) ⌝ }
 {
     let c = condition as usize;
     match offer_refusal(d, index, c, offer) {
@@ -53,7 +54,7 @@ fn offer_verdict(
             let mut from = [0u64; 20];
             let mut to = [0u64; 20];
             let mut cents = [0u64; 20];
-            let lv = reference::hour_levels(d, index, sums, hour, &mut from, &mut to, &mut cents);
+            let lv = reference::profile_levels(d, index, sums, p, &mut from, &mut to, &mut cents);
             let t = threshold_of(d, index, c, 1);
             limits::rising_offer_test(&from, &to, &cents, lv.count, t, offer)
         }
@@ -61,22 +62,16 @@ fn offer_verdict(
 }
 
 // The verdict on a single price, held plus 2^31, of an accepted dossier. Its level alone is worked out.
-fn price_verdict(
-    d: &[u8],
-    index: &[u16],
-    hour: u32,
-    level: u8,
-    condition: u8,
-    price: u64,
-) -> Verdict
-    requires { ⌜ (hourAnswer (now d) hour ≡ Accepted) × AtHour hour (now d) (now index) × (price < 4294967296) ⌝ }
-    ensures { λ r. ⌜ r ≡ priceVerdict (parametersAt (now (d .entry)) hour) level condition (levels (now (d .entry)) hour) price ⌝ }
+fn price_verdict(d: &[u8], index: &[u16], p: usize, level: u8, condition: u8, price: u64) -> Verdict
+    requires { ⌜ Indexed (now d) (now index) × (1 ≤ p) × (p ≤ 4) × (price < 4294967296) ⌝ }
+    ensures { λ r. ⌜ r ≡ priceVerdict (parametersHeld (now (d .entry)) (now (index .entry))) level condition
+        (linesHeld (now (d .entry)) (now (index .entry)) p) price ⌝ }
 {
     let c = condition as usize;
     match price_refusal(d, index, level, c) {
         Answer::Refused { number, place } => Verdict::Refused { number, place },
         Answer::Accepted => {
-            let amount = reference::single_level(d, index, hour, level);
+            let amount = reference::single_level(d, index, p, level);
             let t = threshold_of(d, index, c, level as usize);
             limits::single_test(amount, t, price)
         }
@@ -90,8 +85,8 @@ fn energy_test_in(d: &[u8], index: &mut [u16], hour: u32, condition: u8, offer: 
 {
     let mut sums = [0u64; 2];
     match query::judge_at(d, hour, index, &mut sums) {
-        Answer::Refused { number, place } => Verdict::Refused { number, place },
-        Answer::Accepted => offer_verdict(d, index, &sums, hour, condition, offer),
+        Asked::Refused { number, place } => Verdict::Refused { number, place },
+        Asked::Answered { profile } => offer_verdict(d, index, &sums, profile, condition, offer),
     }
 }
 
@@ -133,8 +128,10 @@ fn price_test_in(
 {
     let mut sums = [0u64; 2];
     match query::judge_at(d, hour, index, &mut sums) {
-        Answer::Refused { number, place } => Verdict::Refused { number, place },
-        Answer::Accepted => price_verdict(d, index, hour, level, condition, limits::biased(price)),
+        Asked::Refused { number, place } => Verdict::Refused { number, place },
+        Asked::Answered { profile } => {
+            price_verdict(d, index, profile, level, condition, limits::biased(price))
+        }
     }
 }
 

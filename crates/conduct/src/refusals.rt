@@ -3,9 +3,7 @@ ghost use mathlib.Core.Path.{_≡_};
 ghost use Prim.Native.Nat.{_≤_, _/_};
 ghost use lib.ListN.{length};
 ghost use Rattle.records.specs.declared.Answer.the-variants.{Accepted};
-ghost use Rattle.records.specs.Dossier.{records};
-ghost use Rattle.station.specs.Parameters.{parameters};
-ghost use Rattle.lookup.specs.Parts.{Indexed};
+ghost use Rattle.lookup.specs.Parts.{Indexed, parametersHeld};
 ghost use Rattle.verdicts.specs.Refusals.{malformed as malformedFrom, aboveCapacity, lengthRefusal, levelRefusal, conditionRefusal, offerRefusal, priceRefusal};
 ghost use Rattle.conduct.specs.Pairs.{pairTest};
 use records::Answer;
@@ -48,7 +46,7 @@ fn malformed(offer: &[u8]) -> Answer
 // 11 at the first pair whose quantity is above the capacity.
 fn above_capacity(d: &[u8], index: &[u16], offer: &[u8]) -> Answer
     requires { ⌜ Indexed (now d) (now index) × (length (now offer) ≤ 120) ⌝ }
-    ensures { λ r. ⌜ r ≡ aboveCapacity (parameters (records (now (d .entry)))) (now (offer .entry)) 0 (length (now (offer .entry)) / 6) ⌝ }
+    ensures { λ r. ⌜ r ≡ aboveCapacity (parametersHeld (now (d .entry)) (now (index .entry))) (now (offer .entry)) 0 (length (now (offer .entry)) / 6) ⌝ }
 {
     let capacity = parameters::capacity(d, index);
     let pairs = offer.len() / 6;
@@ -68,7 +66,7 @@ fn above_capacity(d: &[u8], index: &[u16], offer: &[u8]) -> Answer
 // 11 of an offer that draws no 10: its quantities rise, so where the last is not above the capacity, none is.
 fn capacity_refusal(d: &[u8], index: &[u16], offer: &[u8]) -> Answer
     requires { ⌜ Indexed (now d) (now index) × (length (now offer) ≤ 120) × (malformedFrom (now offer) 0 (length (now offer) / 6) ≡ Accepted) ⌝ }
-    ensures { λ r. ⌜ r ≡ aboveCapacity (parameters (records (now (d .entry)))) (now (offer .entry)) 0 (length (now (offer .entry)) / 6) ⌝ }
+    ensures { λ r. ⌜ r ≡ aboveCapacity (parametersHeld (now (d .entry)) (now (index .entry))) (now (offer .entry)) 0 (length (now (offer .entry)) / 6) ⌝ }
 {
     let pairs = offer.len() / 6;
     if pairs == 0 {
@@ -99,7 +97,7 @@ fn length_refusal(offer: &[u8]) -> Answer
 // 12, put to the single-price test.
 fn level_refusal(d: &[u8], index: &[u16], level: u8) -> Answer
     requires { ⌜ Indexed (now d) (now index) ⌝ }
-    ensures { λ r. ⌜ r ≡ levelRefusal (parameters (records (now (d .entry)))) level ⌝ }
+    ensures { λ r. ⌜ r ≡ levelRefusal (parametersHeld (now (d .entry)) (now (index .entry))) level ⌝ }
 {
     let technology = parameters::technology(d, index);
     if (level == 1) | !rules::level_held(technology, level) {
@@ -115,7 +113,7 @@ fn level_refusal(d: &[u8], index: &[u16], level: u8) -> Answer
 // 14, of a level from 1 to 4.
 fn condition_refusal(d: &[u8], index: &[u16], level: usize, condition: usize) -> Answer
     requires { ⌜ Indexed (now d) (now index) × (1 ≤ level) × (level ≤ 4) ⌝ }
-    ensures { λ r. ⌜ r ≡ conditionRefusal (parameters (records (now (d .entry)))) level condition ⌝ }
+    ensures { λ r. ⌜ r ≡ conditionRefusal (parametersHeld (now (d .entry)) (now (index .entry))) level condition ⌝ }
 {
     if (1 <= condition) & (condition <= 3) {
         let th = lookup::th(d, index, condition, level);
@@ -132,7 +130,7 @@ fn condition_refusal(d: &[u8], index: &[u16], level: usize, condition: usize) ->
 // The refusals of an energy offer, in their order.
 pub fn offer_refusal(d: &[u8], index: &[u16], condition: usize, offer: &[u8]) -> Answer
     requires { ⌜ Indexed (now d) (now index) ⌝ }
-    ensures { λ r. ⌜ r ≡ offerRefusal (parameters (records (now (d .entry)))) condition (now (offer .entry)) ⌝ }
+    ensures { λ r. ⌜ r ≡ offerRefusal (parametersHeld (now (d .entry)) (now (index .entry))) condition (now (offer .entry)) ⌝ }
 {
     match condition_refusal(d, index, 1, condition) {
         Answer::Refused { number, place } => Answer::Refused { number, place },
@@ -149,7 +147,7 @@ pub fn offer_refusal(d: &[u8], index: &[u16], condition: usize, offer: &[u8]) ->
 // The refusals of a single price, in their order.
 pub fn price_refusal(d: &[u8], index: &[u16], level: u8, condition: usize) -> Answer
     requires { ⌜ Indexed (now d) (now index) ⌝ }
-    ensures { λ r. ⌜ r ≡ priceRefusal (parameters (records (now (d .entry)))) level condition ⌝ }
+    ensures { λ r. ⌜ r ≡ priceRefusal (parametersHeld (now (d .entry)) (now (index .entry))) level condition ⌝ }
 {
     match level_refusal(d, index, level) {
         Answer::Refused { number, place } => Answer::Refused { number, place },

@@ -1,17 +1,16 @@
 -- What an hour draws, from what its index tells.
-use mathlib.Core.Path.{_≡_, refl, sym, _∙_}
-use mathlib.Core.Bool.{true, false, not}
+use mathlib.Core.Path.{_≡_, refl}
+use mathlib.Core.Bool.{not}
 use mathlib.Core.List.{List}
 use Prim.Native.Nat.{ℕ, _≤_, _<_}
-use lib.Dec.{ltb, eqb}
+use lib.Dec.{eqb}
 use lib.ListN.{length, getD}
-use borrow.Author.Tests.{eq-eqb, ne-eqb}
+use borrow.Author.Tests.{ne-eqb}
 use Rattle.lists.specs.Lists.{Each}
-use Rattle.records.specs.declared.Answer.the-variants.{Accepted, Refused}
 use Rattle.records.specs.Table.{FU}
 use Rattle.records.specs.Answers.{refuseIf}
 use Rattle.records.specs.Dossier.{records}
-use Rattle.station.specs.Current.{current, present}
+use Rattle.station.specs.Current.{present}
 use Rattle.station.specs.InForce.{inForce}
 use Rattle.station.specs.Parameters.{parameters}
 use Rattle.station.proofs.InForce.{force-each}
@@ -22,6 +21,9 @@ use Rattle.lookup.proofs.Keys.{fuel-key}
 use Rattle.lookup.proofs.Parts.{fits, index-tells}
 use Rattle.formulas.specs.Levels.{parametersIn, parametersAt, profile, fuelled}
 use Rattle.formulas.proofs.Profile.{profile-always}
+use Rattle.query.specs.declared.Asked.{Asked}
+use Rattle.query.specs.declared.Asked.the-variants.{Answered, Refused}
+use Rattle.query.specs.Drawn.{asked}
 
 -- the hour's profile has fuel in force exactly if its slot in the hour's index isn't empty
 module _ (h : ℕ) {d ix : List ℕ} (i : AtHour h d ix) {p : ℕ} (e : p ≡ profile (parametersIn d) h) (a : 1 ≤ p) (b : p ≤ 4) where
@@ -35,10 +37,14 @@ module _ (h : ℕ) {d ix : List ℕ} (i : AtHour h d ix) {p : ℕ} (e : p ≡ pr
   unfolding fuelled parameters present
   fuel-tells = rw (profile-always (records d) h, ← e) (index-tells i good FU p (fuel-key p a b) fuel-slot)
 
-  pub without : {j : ℕ} → j ≡ slot FU p → getD ix j 0 ≡ 0 → Refused 20 0 ≡ refuseIf (not (fuelled (parametersAt d h) h)) 20 0
-  unfolding refuseIf
+  -- 20, or nothing with the profile
+  abbrev told : Asked
+  told = asked (refuseIf (not (fuelled (parametersAt d h) h)) 20 0) (profile (parametersAt d h) h)
+
+  pub without : {j : ℕ} → j ≡ slot FU p → getD ix j 0 ≡ 0 → Refused 20 0 ≡ told
+  unfolding refuseIf asked
   without s z = rw (fuel-tells, ← s, z) refl
 
-  pub with-fuel : {j : ℕ} → j ≡ slot FU p → (getD ix j 0 ≡ 0 → ⊥) → Accepted ≡ refuseIf (not (fuelled (parametersAt d h) h)) 20 0
-  unfolding refuseIf
-  with-fuel {j} s z = rw (fuel-tells, ← s, ne-eqb (getD ix j 0) 0 z) refl
+  pub with-fuel : {j : ℕ} → j ≡ slot FU p → (getD ix j 0 ≡ 0 → ⊥) → Answered p ≡ told
+  unfolding refuseIf asked
+  with-fuel {j} s z = rw (fuel-tells, ← s, ne-eqb (getD ix j 0) 0 z, profile-always (records d) h, ← e) refl

@@ -1,2 +1,3 @@
 pub mod Requests
 pub mod Drawn
+pub mod Asking

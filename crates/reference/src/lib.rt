@@ -8,17 +8,19 @@ ghost use Prim.Native.Nat.{_≤_};
 ghost use lib.ListN.{length, replicate};
 ghost use Rattle.station.specs.Parameters.{technology, capacity};
 ghost use Rattle.station.specs.Week.{WeekIn};
-ghost use Rattle.lookup.specs.Parts.{Indexed, Empty, parametersHeld, amountsHeld, AtHour};
+ghost use Rattle.lookup.specs.Parts.{Indexed, Empty, parametersHeld, amountsHeld};
 ghost use Rattle.rules.specs.Fit.{holds};
 ghost use Rattle.records.specs.declared.Answer.the-variants.{Accepted};
 ghost use Rattle.formulas.specs.Exact.{microDollars, cents as centsOf};
-ghost use Rattle.formulas.specs.Levels.{parametersIn, linesOf, levels, hourAnswer};
-ghost use Rattle.arrays.specs.Packed.{padded, singleLevels, hourOf, singleSum, amountOf, packed, packedAt, noLevels};
+ghost use Rattle.rules.specs.Answer.{answer};
+ghost use Rattle.arrays.specs.Packed.{padded, singleLevels, hourOf, singleSum, amountOf, noLevels};
+ghost use Rattle.reference.specs.Held.{linesHeld, packedHeld};
 ghost use Rattle.reference.specs.Answer.{levelsAnswer};
 use arithmetic::Money;
 use arrays::HourLevels;
 use arrays::SingleLevels;
 use lookup::Room;
+use query::Asked;
 use records::Answer;
 
 // The answer to a dossier with its levels at an hour: all zero where it is refused.
@@ -68,9 +70,7 @@ fn thermal_levels(
 ) -> SingleLevels
     requires { ⌜ Indexed (now d) (now index) × (1 ≤ p) × (p ≤ 4) × (technology (parametersHeld (now d) (now index)) ≡ 1) × (now from ≡ replicate 20 0)
         × (now to ≡ replicate 20 0) × (now cents ≡ replicate 20 0) ⌝ }
-    ensures { λ r. ⌜ hourOf r (now (from .exit)) (now (to .exit)) (now (cents .exit))
-        ≡ packed (technology (parametersHeld (now (d .entry)) (now (index .entry)))) p
-        (linesOf (parametersHeld (now (d .entry)) (now (index .entry))) (amountsHeld (now (d .entry)) (now (index .entry))) p) ⌝ }
+    ensures { λ r. ⌜ hourOf r (now (from .exit)) (now (to .exit)) (now (cents .exit)) ≡ packedHeld (now (d .entry)) (now (index .entry)) p ⌝ }
 {
     let count = costs::thermal::lamination_count(d, index);
     laminations::laminations(d, index, p, count, from, to, cents);
@@ -87,21 +87,20 @@ fn thermal_levels(
     }
 }
 
-// The levels of an accepted dossier at an hour, given the sums of its charging week; their laminations in empty arrays.
-pub fn hour_levels(
+// The levels of an accepted dossier in a profile, given the sums of its charging week; their laminations in empty arrays.
+pub fn profile_levels(
     d: &[u8],
     index: &[u16],
     sums: &[u64],
-    hour: u32,
+    p: usize,
     from: &mut [u64],
     to: &mut [u64],
     cents: &mut [u64],
 ) -> SingleLevels
-    requires { ⌜ (hourAnswer (now d) hour ≡ Accepted) × AtHour hour (now d) (now index) × (length (now sums) ≡ 2) × WeekIn (now d) (now sums)
+    requires { ⌜ (answer (now d) ≡ Accepted) × Indexed (now d) (now index) × (1 ≤ p) × (p ≤ 4) × (length (now sums) ≡ 2) × WeekIn (now d) (now sums)
         × (now from ≡ replicate 20 0) × (now to ≡ replicate 20 0) × (now cents ≡ replicate 20 0) ⌝ }
-    ensures { λ r. ⌜ hourOf r (now (from .exit)) (now (to .exit)) (now (cents .exit)) ≡ packedAt (now (d .entry)) hour ⌝ }
+    ensures { λ r. ⌜ hourOf r (now (from .exit)) (now (to .exit)) (now (cents .exit)) ≡ packedHeld (now (d .entry)) (now (index .entry)) p ⌝ }
 {
-    let p = query::profile::profile(d, index, hour);
     let technology = parameters::technology(d, index);
     if technology == 1 {
         return thermal_levels(d, index, p, from, to, cents);
@@ -134,13 +133,12 @@ fn single_sum(d: &[u8], index: &[u16], p: usize, level: u8) -> u64
     costs::maintenance::adders(d, index, p, 4)
 }
 
-// A level without laminations at an hour, worked out by itself: the test of a single price needs no other.
-pub fn single_level(d: &[u8], index: &[u16], hour: u32, level: u8) -> u64
-    requires { ⌜ (hourAnswer (now d) hour ≡ Accepted) × AtHour hour (now d) (now index) × (holds (technology (parametersIn (now d))) level ≡ true)
+// A level without laminations in a profile, worked out by itself: the test of a single price needs no other.
+pub fn single_level(d: &[u8], index: &[u16], p: usize, level: u8) -> u64
+    requires { ⌜ Indexed (now d) (now index) × (1 ≤ p) × (p ≤ 4) × (holds (technology (parametersHeld (now d) (now index))) level ≡ true)
         × (2 ≤ level) × (level ≤ 4) ⌝ }
-    ensures { λ r. ⌜ r ≡ amountOf level (levels (now (d .entry)) hour) ⌝ }
+    ensures { λ r. ⌜ r ≡ amountOf level (linesHeld (now (d .entry)) (now (index .entry)) p) ⌝ }
 {
-    let p = query::profile::profile(d, index, hour);
     let money = Money::from_sum(single_sum(d, index, p, level));
     money.cents
 }
@@ -165,15 +163,15 @@ fn no_levels() -> HourLevels
     }
 }
 
-// The levels of an accepted dossier at an hour, with their laminations.
-fn whole_levels(d: &[u8], index: &[u16], sums: &[u64], hour: u32) -> HourLevels
-    requires { ⌜ (hourAnswer (now d) hour ≡ Accepted) × AtHour hour (now d) (now index) × (length (now sums) ≡ 2) × WeekIn (now d) (now sums) ⌝ }
-    ensures { λ r. ⌜ r ≡ packedAt (now (d .entry)) hour ⌝ }
+// The levels of an accepted dossier in a profile, with their laminations.
+fn whole_levels(d: &[u8], index: &[u16], sums: &[u64], p: usize) -> HourLevels
+    requires { ⌜ (answer (now d) ≡ Accepted) × Indexed (now d) (now index) × (1 ≤ p) × (p ≤ 4) × (length (now sums) ≡ 2) × WeekIn (now d) (now sums) ⌝ }
+    ensures { λ r. ⌜ r ≡ packedHeld (now (d .entry)) (now (index .entry)) p ⌝ }
 {
     let mut from = [0u64; 20];
     let mut to = [0u64; 20];
     let mut cents = [0u64; 20];
-    let lv = hour_levels(d, index, sums, hour, &mut from, &mut to, &mut cents);
+    let lv = profile_levels(d, index, sums, p, &mut from, &mut to, &mut cents);
     HourLevels {
         technology: lv.technology,
         profile: lv.profile,
@@ -194,12 +192,12 @@ fn levels_in(d: &[u8], index: &mut [u16], hour: u32) -> LevelsAnswer
 {
     let mut sums = [0u64; 2];
     match query::judge_at(d, hour, index, &mut sums) {
-        Answer::Accepted => {
+        Asked::Answered { profile } => {
             let answer = Answer::Accepted;
-            let levels = whole_levels(d, index, &sums, hour);
+            let levels = whole_levels(d, index, &sums, profile);
             LevelsAnswer { answer, levels }
         }
-        Answer::Refused { number, place } => {
+        Asked::Refused { number, place } => {
             let answer = Answer::Refused { number, place };
             let levels = no_levels();
             LevelsAnswer { answer, levels }

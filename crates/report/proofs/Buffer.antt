@@ -1,24 +1,27 @@
 -- The answer to a report, and the buffer after it.
-use mathlib.Core.Path.{_≡_, refl}
+use mathlib.Core.Path.{_≡_, refl, ap, _∙_}
 use mathlib.Core.List.{List, map}
 use Prim.Native.Nat.{ℕ}
 use lib.ListN.{length}
 use Rattle.records.specs.declared.Answer.the-variants.{Accepted, Refused as Turned}
 use Rattle.records.specs.Answers.{orElse, isAccepted}
 use Rattle.arrays.specs.declared.HourLevels.{HourLevels}
-use Rattle.formulas.specs.Levels.{parametersAt, profile, hourAnswer, levels, shown}
-use Rattle.arrays.specs.Packed.{unpacked}
+use Rattle.formulas.specs.Levels.{hourAnswer, shown}
+use Rattle.query.proofs.Asking.{Ready}
+use Rattle.reference.specs.Held.{packedHeld}
+use Rattle.reference.proofs.AtHour.{lines-held}
+use Rattle.reference.proofs.Handed.{handed-shown, handed-profile}
 use Rattle.layout.specs.declared.Written.{Written}
 use Rattle.layout.specs.declared.Written.the-variants.{Refused}
 use Rattle.lines.specs.Parts.{packedReport}
 use Rattle.lines.proofs.Fits.{Put}
 use Rattle.layout.specs.Report.{report, bufferWith, written, reportAnswer, bufferAfter}
 
--- levels as code hands them over give the dossier's report
-pub packed-is : (d : List ℕ) (h : ℕ) (r : HourLevels) → unpacked r ≡ map shown (levels d h) → r .profile ≡ profile (parametersAt d h) h
-    → packedReport r ≡ report d h
+-- levels as code hands them over, in the profile of an hour that is answered, give the dossier's report
+pub packed-is : {d : List ℕ} {h p : ℕ} {ix : List ℕ} → Ready d h p ix → {r : HourLevels} → r ≡ packedHeld d ix p → packedReport r ≡ report d h
 unfolding packedReport report
-packed-is d h r p q = rw (p, q)
+packed-is {d} {h} {p} {ix} g {r} e =
+    rw (handed-shown d ix p e ∙ ap (map shown) (lines-held g), handed-profile d ix p e ∙ g .its)
 
 -- what a report of dossier d at hour h tells its caller, and what it leaves of a buffer that held e
 abbrev pub Told : List ℕ → ℕ → List ℕ → Written → List ℕ → Type 0

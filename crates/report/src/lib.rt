@@ -6,7 +6,7 @@ ghost use Rattle.layout.specs.Report.{written, report, reportAnswer, bufferAfte
 ghost use Rattle.report.specs.Print.{printAnswer, bufferPrinted};
 use layout::Written;
 use lookup::Room;
-use records::Answer;
+use query::Asked;
 
 // The report of a dossier at an hour, written to a lent buffer; worked out in an empty index.
 fn report_in(d: &[u8], index: &mut [u16], hour: u32, buf: &mut [u8]) -> Written
@@ -16,14 +16,22 @@ fn report_in(d: &[u8], index: &mut [u16], hour: u32, buf: &mut [u8]) -> Written
 {
     let mut sums = [0u64; 2];
     match query::judge_at(d, hour, index, &mut sums) {
-        Answer::Accepted => {
+        Asked::Answered { profile } => {
             let mut from = [0u64; 20];
             let mut to = [0u64; 20];
             let mut cents = [0u64; 20];
-            let lv = reference::hour_levels(d, index, &sums, hour, &mut from, &mut to, &mut cents);
+            let lv = reference::profile_levels(
+                d,
+                index,
+                &sums,
+                profile,
+                &mut from,
+                &mut to,
+                &mut cents,
+            );
             lines::put_report(buf, lv, &from, &to, &cents)
         }
-        Answer::Refused { number, place } => Written::Refused { number, place },
+        Asked::Refused { number, place } => Written::Refused { number, place },
     }
 }
 

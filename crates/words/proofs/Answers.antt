@@ -9,10 +9,10 @@ use Rattle.records.specs.declared.Answer.{Answer}
 use Rattle.records.specs.declared.Answer.the-variants.{Accepted, Refused}
 use Rattle.records.specs.Answers.{orElse, refuseIf, isAccepted}
 use Rattle.arrays.specs.declared.HourLevels.{HourLevels}
-use mathlib.Core.Bool.{true}
-use Rattle.formulas.specs.Levels.{parametersAt, fuelled, hourAnswer, Line, amount}
+use Rattle.formulas.specs.Levels.{hourAnswer, Line, amount}
 use Rattle.arrays.specs.Packed.{arraysOf, energyLines, padded, packed, packedAt}
-use Rattle.arrays.proofs.Packed.{handed-count}
+use Rattle.reference.specs.Held.{packedHeld}
+use Rattle.reference.proofs.Handed.{handed-count}
 use Rattle.words.specs.Words.{Blank, wordsOf, wordsAnswer, wordsAfter}
 
 -- what a call for dossier d at hour h answers, and what it leaves of words that held e
@@ -36,7 +36,7 @@ module _ (d : List ℕ) (h : ℕ) (e : List ℕ) where
   unfolding wordsAnswer wordsAfter orElse isAccepted
   told-refusal k p a = rw a (refl, refl)
 
--- ---- what `hour_levels` hands over has nothing past its laminations
+-- ---- what `profile_levels` hands over has nothing past its laminations
 
 padded-past : (k i : ℕ) (l : List ℕ) → length l ≤ i → getD (padded k l) i 0 ≡ 0
 unfolding padded
@@ -62,6 +62,6 @@ packed-blank t p l h =
           ) refl;
     }
 
-pub handed-blank : (d : List ℕ) (h : ℕ) {r : HourLevels} → fuelled (parametersAt d h) h ≡ true → r ≡ packedAt d h → Blank (arraysOf r)
-handed-blank d h {r} f e =
-    subst (λ (x : HourLevels). Blank (arraysOf x)) (sym e) (packed-blank _ _ _ (subst (λ (x : HourLevels). x .count ≤ 20) e (handed-count d h r e f)))
+pub handed-blank : (d ix : List ℕ) (p : ℕ) {r : HourLevels} → r ≡ packedHeld d ix p → Blank (arraysOf r)
+handed-blank d ix p e =
+    subst (λ (x : HourLevels). Blank (arraysOf x)) (sym e) (packed-blank _ _ _ (handed-count d ix p refl))

@@ -10,6 +10,7 @@ ghost use Rattle.words.specs.Words.{heldBits, Blank, wordsTo, wordsOf, w
 use arrays::SingleLevels;
 use lists::choose;
 use lookup::Room;
+use query::Asked;
 use records::Answer;
 use rules::level_held;
 
@@ -88,7 +89,7 @@ fn levels_words_in(d: &[u8], index: &mut [u16], hour: u32, words: &mut [u64]) ->
 {
     let mut sums = [0u64; 2];
     match query::judge_at(d, hour, index, &mut sums) {
-        Answer::Accepted => {
+        Asked::Answered { profile } => {
             if words.len() < 66 {
                 return Answer::Refused {
                     number: 15,
@@ -98,11 +99,19 @@ fn levels_words_in(d: &[u8], index: &mut [u16], hour: u32, words: &mut [u64]) ->
             let mut from = [0u64; 20];
             let mut to = [0u64; 20];
             let mut cents = [0u64; 20];
-            let lv = reference::hour_levels(d, index, &sums, hour, &mut from, &mut to, &mut cents);
+            let lv = reference::profile_levels(
+                d,
+                index,
+                &sums,
+                profile,
+                &mut from,
+                &mut to,
+                &mut cents,
+            );
             put_words(lv, &from, &to, &cents, words);
             Answer::Accepted
         }
-        Answer::Refused { number, place } => Answer::Refused { number, place },
+        Asked::Refused { number, place } => Answer::Refused { number, place },
     }
 }
 

@@ -1,17 +1,16 @@
-use mathlib.Core.Path.{_≡_, refl, sym, _∙_}
+use mathlib.Core.Path.{_≡_, sym, _∙_}
 use mathlib.Core.Logic.{inl, inr}
 use native.Mathlib.Omega.{arith}
 use lib.ListN.{length}
 use borrow.Author.Needs.{needs}
 use Rattle.records.specs.declared.Answer.{Answer}
-use Rattle.records.specs.Answers.{orElse}
 use Rattle.records.proofs.Answers.{not-refused}
 use Rattle.rules.specs.Answer.{answer}
 use Rattle.lookup.specs.Parts.{AtHour}
 use Rattle.lookup.proofs.Parts.{whole-index}
 use Rattle.hours.proofs.Undated.{undated-at}
-use Rattle.formulas.specs.Levels.{hourAnswer}
 use Rattle.formulas.proofs.Hours.{hour-refused}
+use Rattle.query.proofs.Asking.{asked-own, asked-then}
 use Rattle.query.proofs.judge_at.Statement.{statement}
 use Rattle.query.proofs.judge_at.Tie as tie
 
@@ -40,17 +39,17 @@ answered : (c : tie.After-judge) {a : Answer} → c .judge .result .answer ≡ a
 answered c e = sym (c .judge .ensures .0) ∙ e
 
 returns : tie.Need-returns
-unfolding hourAnswer orElse
 returns c =
     let t = c .before .before .before in
     let j = t .before .before .before .before .before .before in
     let e = t .enum-told .given .1 in
-    (c .fuel-at .ensures ∙ rw (answered j e) refl, λ z. (its-hour (c .before .before), j .judge .ensures .1 e .1))
+    (c .fuel-at .ensures ∙ asked-then _ _ (answered j e), λ z. (its-hour (c .before .before), j .judge .ensures .1 e .1))
 
 returns-2 : tie.Need-returns-2
 returns-2 c =
     let j = c .before .before .before .before .before .before .before in
-    (sym (hour-refused _ _ (answered j (c .before .answer .given .1))), λ e. absurd (not-refused _ _ e))
+    let e = answered j (c .before .answer .given .1) in
+    (asked-own _ _ e, λ z. absurd (not-refused _ _ (sym (hour-refused _ _ e) ∙ z)))
 
 pub judge-at-spec : {M : Type 1} → statement M
 judge-at-spec =

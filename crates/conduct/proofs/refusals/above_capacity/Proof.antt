@@ -1,14 +1,10 @@
-use Rattle.lists.specs.Tests.{among}
-use Rattle.records.specs.Record.{datable}
 use borrow.Author.Needs.{needs}
-use mathlib.Core.Path.{_≡_, refl, _∙_}
+use mathlib.Core.Path.{_≡_, _∙_}
 use Prim.Native.Nat.{_-_, _/_, _≤_}
 use native.Mathlib.Omega.{arith}
 use lib.ListN.{length}
-use Rattle.records.specs.Table.{RS, table}
-use Rattle.records.specs.Dossier.{records}
-use Rattle.station.specs.Parameters.{parameters, capacity as capacityOf}
-use Rattle.lookup.proofs.Held.{says-always}
+use Rattle.station.specs.Parameters.{capacity as capacityOf}
+use Rattle.lookup.specs.Parts.{parametersHeld}
 use Rattle.verdicts.specs.Refusals.{aboveCapacity}
 use Rattle.limits.proofs.Turns.{all-left}
 use Rattle.conduct.proofs.Turns.{above-stop, above-next, above-end}
@@ -17,23 +13,22 @@ use Rattle.conduct.proofs.refusals.above_capacity.Tie as tie
 
 abbrev Inv-loop : tie.InvT-loop
 Inv-loop d index offer capacity pairs k₀ k =
-    let s = parameters (records d) in
+    let s = parametersHeld d index in
     (k ≤ pairs) × (pairs ≤ 20) × (capacity ≡ capacityOf s) × (aboveCapacity s offer k (pairs - k) ≡ aboveCapacity s offer 0 pairs)
 
 abbrev μ-loop : tie.MeasureT-loop
 μ-loop d index offer capacity pairs k₀ k = pairs - k
 
 loop-holds : tie.Need-loop-holds Inv-loop μ-loop
-unfolding datable among table
 loop-holds c =
     let p = c .before .before .before .before .pre in
-    (omega arith, omega (arith, p .1), c .capacity .ensures .0 ∙ says-always (p .0) RS 0 refl 1, all-left (aboveCapacity _ _ 0) _)
+    (omega arith, omega (arith, p .1), c .capacity .ensures .0, all-left (aboveCapacity _ _ 0) _)
 
 returns : tie.Need-returns Inv-loop μ-loop
 returns c =
     let i = c .before .before .before .loop in
     let a = c .before .before .before .before .before .before .before .before .args in
-    above-stop (parameters (records (a .d .now))) (a .offer .now) (length (a .offer .now) / 6) (i .k) _ _
+    above-stop (parametersHeld (a .d .now) (a .index .now)) (a .offer .now) (length (a .offer .now) / 6) (i .k) _ _
     (c .before .before .loop-test .taken) (i .inv .2) (c .before .quantity-at .ensures) (c .if1 .taken)
     ∙ i .inv .3
 
@@ -44,7 +39,7 @@ loop-again c =
       omega arith,
       omega arith,
       i .inv .2,
-      above-next (parameters (records (a .d .now))) (a .offer .now) (length (a .offer .now) / 6) (i .k) _ _
+      above-next (parametersHeld (a .d .now) (a .index .now)) (a .offer .now) (length (a .offer .now) / 6) (i .k) _ _
           (c .before .before .loop-test .taken) (i .inv .2) (c .before .quantity-at .ensures) (c .if1 .left)
           ∙ i .inv .3,
     )
@@ -53,7 +48,7 @@ returns-2 : tie.Need-returns-2 Inv-loop μ-loop
 returns-2 c =
     let i = c .before .loop in
     let a = c .before .before .before .before .before .before .args in
-    above-end (parameters (records (a .d .now))) (a .offer .now) (length (a .offer .now) / 6) (i .k) (c .loop-test .left) ∙ i .inv .3
+    above-end (parametersHeld (a .d .now) (a .index .now)) (a .offer .now) (length (a .offer .now) / 6) (i .k) (c .loop-test .left) ∙ i .inv .3
 
 pub above-capacity-spec : {M : Type 1} → statement M
 above-capacity-spec =

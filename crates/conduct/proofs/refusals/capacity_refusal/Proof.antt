@@ -1,14 +1,10 @@
-use Rattle.lists.specs.Tests.{among}
-use Rattle.records.specs.Record.{datable}
 use borrow.Author.Needs.{needs}
-use mathlib.Core.Path.{_≡_, refl, _∙_}
+use mathlib.Core.Path.{_≡_, _∙_}
 use Prim.Native.Nat.{_-_, _/_}
 use native.Mathlib.Omega.{arith}
 use lib.ListN.{length}
-use Rattle.records.specs.Table.{RS, table}
-use Rattle.records.specs.Dossier.{records}
-use Rattle.station.specs.Parameters.{parameters, capacity}
-use Rattle.lookup.proofs.Held.{says-always}
+use Rattle.station.specs.Parameters.{capacity}
+use Rattle.lookup.specs.Parts.{parametersHeld}
 use Rattle.verdicts.specs.Test.{quantity}
 use Rattle.verdicts.specs.Refusals.{aboveCapacity}
 use Rattle.limits.proofs.Turns.{all-left}
@@ -19,19 +15,18 @@ use Rattle.conduct.proofs.refusals.capacity_refusal.Tie as tie
 returns : tie.Need-returns
 returns c =
     let a = c .before .before .before .before .args in
-    let s = parameters (records (a .d .now)) in
+    let s = parametersHeld (a .d .now) (a .index .now) in
     let n = length (a .offer .now) / 6 in
     above-end s (a .offer .now) n 0 (omega (arith, c .if1 .taken)) ∙ all-left (aboveCapacity s (a .offer .now) 0) n
 
 returns-2 : tie.Need-returns-2
-unfolding datable among table
 returns-2 c =
     let b = c .before .before .before .before .before .before .before in
     let o = b .args .offer .now in
     let k = c .before .before in
-    let e : k .capacity .result ≡ capacity (parameters (records (b .args .d .now))) = k .capacity .ensures .0 ∙ says-always (b .pre .0) RS 0 refl 1 in
+    let e : k .capacity .result ≡ capacity (parametersHeld (b .args .d .now) (b .args .index .now)) = k .capacity .ensures .0 in
     let f : c .before .quantity-at .result ≡ quantity o (length o / 6 - 1) = c .before .quantity-at .ensures in
-    within-capacity o (length o / 6) (b .pre .2) (parameters (records (b .args .d .now))) (omega (arith, e, f, c .if2 .taken))
+    within-capacity o (length o / 6) (b .pre .2) (parametersHeld (b .args .d .now) (b .args .index .now)) (omega (arith, e, f, c .if2 .taken))
 
 pub capacity-refusal-spec : {M : Type 1} → statement M
 capacity-refusal-spec =
