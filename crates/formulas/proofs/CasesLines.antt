@@ -4,7 +4,7 @@ use mathlib.Core.List.{List, [], _∷_, map}
 use Prim.Native.Nat.{ℕ, _*_, _-_}
 use Rattle.records.specs.Table.{RS, HP, FU, AD, MM, RQ, CH, LC}
 use Rattle.station.specs.Parameters.{adderKey, itemKey}
-use Rattle.formulas.specs.Levels.{profile, lines, shownAs, shown}
+use Rattle.formulas.specs.Levels.{profile, retired, lines, shownAs, shown}
 use Rattle.formulas.specs.Memo.{Week, calculated, lastNonZero, memoCost, toSend}
 use Rattle.formulas.proofs.Computed.{computed}
 use Rattle.formulas.proofs.Cases.{Entry, says, owed, find, asParameters, asAmounts, nuclear, storage, idle, hydro, thirds}
@@ -26,7 +26,7 @@ profiles = (refl, refl, refl, refl, refl)
 
 -- ---- all the lines of a station
 
--- 11.11 dollars times the level's number: costs 1 to 4 of a profile and level
+-- 11.11 dollars times the level's number: costs 1 to 4 of a profile and level, of which cost 4's 0.01 joins nothing
 abbrev fourCosts : ℕ → ℕ → List Entry → List Entry
 fourCosts p v l =
     says AD (adderKey p 1 v) 3 (10000000 * v) ∷ says AD (adderKey p 2 v) 3 (1000000 * v)
@@ -51,11 +51,19 @@ unit =
     ∷ says RQ 16 0 16 ∷ says RQ 16 1 5 ∷ says RQ 16 2 9 ∷ says RQ 16 3 2
     ∷ []))))))
 
--- fuel 48.00 and 60.00, emission 8.00 and 10.00, adders 11.11, maintenance 1.10; the start has 875.00 of it
+-- fuel 48.00 and 60.00, emission 8.00 and 10.00, adders 11.10, maintenance 1.10; the start has 875.00 of it
 unit-lines : map shown (lines (asParameters unit) (asAmounts unit) 5)
-    ≡ shownAs 1 1 0 800 6821 ∷ shownAs 1 2 800 1000 8221 ∷ shownAs 2 0 0 0 439722 ∷ shownAs 3 0 0 0 73333 ∷ shownAs 4 0 0 0 4444 ∷ []
+    ≡ shownAs 1 1 0 800 6820 ∷ shownAs 1 2 800 1000 8220 ∷ shownAs 2 0 0 0 439720 ∷ shownAs 3 0 0 0 73330 ∷ shownAs 4 0 0 0 4440 ∷ []
 unfolding unit find computed
 unit-lines = refl
+
+-- third-party payments of profile 2 at levels 1 and 4 and of profile 1 at level 2, and another cost of profile 2
+payments : List Entry
+payments = says AD (adderKey 2 4 1) 0 2 ∷ says AD (adderKey 2 4 4) 0 2 ∷ says AD (adderKey 1 4 2) 0 1 ∷ says AD (adderKey 2 3 2) 0 2 ∷ []
+
+payments-retired : (retired (asParameters payments) 2 ≡ 2) × (retired (asParameters payments) 1 ≡ 1) × (retired (asParameters payments) 3 ≡ 0)
+unfolding payments find computed
+payments-retired = (refl, refl, refl)
 
 -- profile 1, at hour 10, has no cost at all
 unit-behind : map shown (lines (asParameters unit) (asAmounts unit) 10)

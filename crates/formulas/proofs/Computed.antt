@@ -2,7 +2,7 @@
 use Prim.Native.Nat.{ℕ, _+_}
 use Rattle.rules.proofs.Computed.{computed as below}
 use Rattle.formulas.specs.Exact.{quotient, microDollars, cents, plus, sumOver, greaterOf, exact}
-use Rattle.formulas.specs.Levels.{covers, profileOf, profile, adders, maintenance, additions, startMaintenance, thermalEnergy, heatCost, startCost}
+use Rattle.formulas.specs.Levels.{covers, profileOf, profile, adders, retired, maintenance, additions, startMaintenance, thermalEnergy, heatCost, startCost}
 use Rattle.formulas.specs.Levels.{noLoadCost, nuclearEnergy, totalEnergy, chargingSum, chargingCost, shortRunCost, highestSum, opportunityCost}
 use Rattle.formulas.specs.Levels.{storageEnergy, forecastPlace, forecastPrice, hydroEnergy, laminations, oneLamination, single, linesOf, lines, levels}
 use Rattle.formulas.specs.Levels.{fuelled, hourAnswer}
@@ -11,5 +11,5 @@ use Rattle.formulas.specs.Sums.{sumOf, listTo, insert, falling, sumFirst
 
 -- how many definitions there are to open
 unfoldable pub computed : ℕ
-unfolding below quotient microDollars cents plus sumOver greaterOf exact covers profileOf profile adders maintenance additions startMaintenance thermalEnergy heatCost startCost noLoadCost nuclearEnergy totalEnergy chargingSum chargingCost shortRunCost highestSum opportunityCost storageEnergy forecastPlace forecastPrice hydroEnergy laminations oneLamination single linesOf lines levels fuelled hourAnswer sumTo sumOf listTo insert falling sumFirst sumHighest fromTop
-computed = below + 45
+unfolding below quotient microDollars cents plus sumOver greaterOf exact covers profileOf profile adders retired maintenance additions startMaintenance thermalEnergy heatCost startCost noLoadCost nuclearEnergy totalEnergy chargingSum chargingCost shortRunCost highestSum opportunityCost storageEnergy forecastPlace forecastPrice hydroEnergy laminations oneLamination single linesOf lines levels fuelled hourAnswer sumTo sumOf listTo insert falling sumFirst sumHighest fromTop
+computed = below + 46

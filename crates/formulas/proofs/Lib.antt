@@ -11,3 +11,4 @@ pub mod Profile
 pub mod Hours
 pub mod Signed
 pub mod Memo
+pub mod Withdrawn

@@ -4,13 +4,13 @@ use mathlib.Core.Bool.{Bool, cond, _&&_, not}
 use mathlib.Core.List.{List, [], _∷_}
 use Prim.Native.Nat.{ℕ, zero, suc, _+_, _*_, _-_, _/_, _≤_}
 use lib.Dec.{leb, eqb}
-use Rattle.records.specs.Table.{thermal, nuclear, storage, hydro, FU, RQ}
+use Rattle.records.specs.Table.{thermal, nuclear, storage, hydro, FU, AD, RQ}
 use Rattle.records.specs.declared.Answer.{Answer}
 use Rattle.records.specs.Answers.{orElse, refuseIf}
 use Rattle.records.specs.Dossier.{records}
 use Rattle.station.specs.InForce.{inForce}
 use Rattle.station.specs.Parameters.{Parameters, Amounts, parameters, amounts, technology, capacity, factor, startHeat, noLoadHeat, incrementalFuel}
-use Rattle.station.specs.Parameters.{efficiency, window, output, heat, fuel, emission, adder, costC, outputW, intervalT, hoursPerStartS, firstHour, lastHour}
+use Rattle.station.specs.Parameters.{efficiency, window, output, heat, fuel, emission, adderKey, adder, costC, outputW, intervalT, hoursPerStartS, firstHour, lastHour}
 use Rattle.station.specs.Parameters.{requested, hourPrice, chargePrice, chargeEnergy, placePrice, lastCost}
 use Rattle.rules.specs.Fit.{energy, start, noLoad, reserve}
 use Rattle.rules.specs.Curve.{points, rise, fullHours}
@@ -64,9 +64,17 @@ hourAnswer d h = orElse (answer d) (refuseIf (not (fuelled (parametersAt d h) h)
 
 -- ---- the formulas, of a profile p
 
--- "AD amounts join their level": the five costs of level v
+-- "Third-party payments withdrawn": the cost of an AD whose amounts "no longer join any level"
+abbrev pub thirdParty : ℕ
+thirdParty = 4
+
+-- "AD amounts join their level": the five costs of level v, third-party payments aside
 unfoldable pub adders : Amounts → ℕ → ℕ → Sum
-adders m p v = whole (sumTo 5 (λ c. adder m p c v))
+adders m p v = whole (sumTo 5 (λ c. cond (eqb c thirdParty) 0 (adder m p c v)))
+
+-- "the cost-4 records in force at that hour for its profile", of which a level has one at most; amounts of 0 count too
+unfoldable pub retired : Parameters → ℕ → ℕ
+retired s p = sumTo 4 (λ v. cond (s .has AD (adderKey p thirdParty v)) 1 0)
 
 -- "Each MM adds C × 100,000 / (W × T) to energy"
 unfoldable pub maintenance : Parameters → Amounts → ℕ → Sum

@@ -2,12 +2,12 @@
 -- printed.
 use mathlib.Core.Path.{_≡_, refl}
 use mathlib.Core.List.{List, [], _∷_, _++_}
-use Prim.Native.Nat.{ℕ}
+use Prim.Native.Nat.{ℕ, _+_}
 use lib.ListN.{replicate}
 use Rattle.lists.specs.Lists.{joined}
 use Rattle.records.specs.declared.Answer.the-variants.{Accepted, Refused}
 use Rattle.records.specs.Answers.{refuseIf, isAccepted}
-use Rattle.records.specs.Table.{RS, FU, RQ, FV}
+use Rattle.records.specs.Table.{RS, FU, AD, RQ, FV, AV}
 use Rattle.records.specs.Made.{made, madeFrom}
 use Rattle.formulas.specs.Levels.{shownAs}
 use Rattle.layout.specs.Report.{levelLines, shortFor, bufferWith, written, writtenNumbers, reportAnswer, bufferAfter, prints}
@@ -60,12 +60,17 @@ reactor =
     ∷ made RQ 1 (1 ∷ 256 ∷ 999 ∷ 2 ∷ [])
     ∷ [])
 
--- its report at hour 256, of 34 bytes
-abbrev lines : List ℕ
-lines =
+-- its report at hour 256, of 44 bytes, with n payments retired
+abbrev linesWith : ℕ → List ℕ
+linesWith n =
     112 ∷ 114 ∷ 111 ∷ 102 ∷ 105 ∷ 108 ∷ 101 ∷ 32 ∷ 50 ∷ 10  -- profile 2
     ∷ 101 ∷ 110 ∷ 101 ∷ 114 ∷ 103 ∷ 121 ∷ 32 ∷ 49 ∷ 32 ∷ 48 ∷ 46 ∷ 48 ∷ 32 ∷ 49 ∷ 48 ∷ 48 ∷ 46 ∷ 48 ∷ 32 ∷ 50 ∷ 46 ∷ 48 ∷ 48 ∷ 10  -- energy 1 0.0 100.0 2.00
+    ∷ 114 ∷ 101 ∷ 116 ∷ 105 ∷ 114 ∷ 101 ∷ 100 ∷ 32 ∷ (48 + n) ∷ 10  -- retired n
     ∷ []
+
+-- "`retired 0` too"
+abbrev lines : List ℕ
+lines = linesWith 0
 
 -- "a big-endian 4-byte hour, then the dossier"; "16 under four bytes of input" comes first, and "A refusal prints `refused N at P`"
 pub printed : (prints (0 ∷ 0 ∷ 1 ∷ 0 ∷ reactor) ≡ lines)
@@ -75,10 +80,34 @@ pub printed : (prints (0 ∷ 0 ∷ 1 ∷ 0 ∷ reactor) ≡ lines)
 unfolding computed
 printed = (refl, refl, refl, refl)
 
--- it fits a buffer of 34 bytes; 15 comes last, after what the dossier draws
-pub answered : (reportAnswer reactor 256 34 ≡ Accepted) × (reportAnswer reactor 256 33 ≡ Refused 15 0) × (reportAnswer [] 256 0 ≡ Refused 5 0)
+-- it fits a buffer of 44 bytes; 15 comes last, after what the dossier draws
+pub answered : (reportAnswer reactor 256 44 ≡ Accepted) × (reportAnswer reactor 256 43 ≡ Refused 15 0) × (reportAnswer [] 256 0 ≡ Refused 5 0)
 unfolding computed
 answered = (refl, refl, refl)
+
+-- the same station with third-party payments of both profiles, profile 2's in two issues and a third from hour 300 on: one is retired, and no level moves
+abbrev paid : List ℕ
+paid =
+    joined (made RS 1 (2 ∷ 1000 ∷ 1000 ∷ 0 ∷ 0 ∷ 20000 ∷ 0 ∷ 0 ∷ 0 ∷ [])
+    ∷ made FU 1 (1 ∷ 0 ∷ 0 ∷ []) ∷ made FU 1 (2 ∷ 100000000 ∷ 0 ∷ [])
+    ∷ made RQ 1 (1 ∷ 256 ∷ 999 ∷ 2 ∷ [])
+    ∷ made AD 1 (1 ∷ 4 ∷ 1 ∷ 70000 ∷ [])
+    ∷ made AD 1 (2 ∷ 4 ∷ 1 ∷ 80000 ∷ []) ∷ made AD 2 (2 ∷ 4 ∷ 1 ∷ 90000 ∷ []) ∷ madeFrom AV 3 300 (2 ∷ 4 ∷ 1 ∷ 0 ∷ [])
+    ∷ [])
+
+-- the same with that third one alone: none is retired before its hour, and one of amount 0 then
+abbrev later : List ℕ
+later =
+    joined (made RS 1 (2 ∷ 1000 ∷ 1000 ∷ 0 ∷ 0 ∷ 20000 ∷ 0 ∷ 0 ∷ 0 ∷ [])
+    ∷ made FU 1 (1 ∷ 0 ∷ 0 ∷ []) ∷ made FU 1 (2 ∷ 100000000 ∷ 0 ∷ [])
+    ∷ made RQ 1 (1 ∷ 256 ∷ 999 ∷ 2 ∷ [])
+    ∷ madeFrom AV 3 300 (2 ∷ 4 ∷ 1 ∷ 0 ∷ [])
+    ∷ [])
+
+pub retired-printed : (prints (0 ∷ 0 ∷ 1 ∷ 0 ∷ paid) ≡ linesWith 1) × (prints (0 ∷ 0 ∷ 1 ∷ 44 ∷ paid) ≡ linesWith 1)
+    × (prints (0 ∷ 0 ∷ 1 ∷ 43 ∷ later) ≡ linesWith 0) × (prints (0 ∷ 0 ∷ 1 ∷ 44 ∷ later) ≡ linesWith 1)
+unfolding computed
+retired-printed = (refl, refl, refl, refl)
 
 -- the same station with profile 2's fuel from hour 300 on: 20, printed and told, before 15, until then
 abbrev late : List ℕ
@@ -93,15 +122,15 @@ pub late-printed : (prints (0 ∷ 0 ∷ 1 ∷ 0 ∷ late) ≡ 114 ∷ 101 ∷ 10
 unfolding computed
 late-printed = (refl, refl)
 
-pub late-answered : (reportAnswer late 299 0 ≡ Refused 20 0) × (reportAnswer late 300 33 ≡ Refused 15 0) × (reportAnswer late 300 34 ≡ Accepted)
+pub late-answered : (reportAnswer late 299 0 ≡ Refused 20 0) × (reportAnswer late 300 43 ≡ Refused 15 0) × (reportAnswer late 300 44 ≡ Accepted)
 unfolding computed
 late-answered = (refl, refl, refl)
 
-pub late-buffered : (bufferAfter late 299 (replicate 36 7) ≡ replicate 36 7) × (bufferAfter late 300 (replicate 36 7) ≡ lines ++ (7 ∷ 7 ∷ []))
+pub late-buffered : (bufferAfter late 299 (replicate 46 7) ≡ replicate 46 7) × (bufferAfter late 300 (replicate 46 7) ≡ lines ++ (7 ∷ 7 ∷ []))
 unfolding computed
 late-buffered = (refl, refl)
 
--- of 36 bytes two stay, and of 33 all
-pub buffered : (bufferAfter reactor 256 (replicate 36 7) ≡ lines ++ (7 ∷ 7 ∷ [])) × (bufferAfter reactor 256 (replicate 33 7) ≡ replicate 33 7) × (bufferAfter [] 256 (7 ∷ []) ≡ 7 ∷ [])
+-- of 46 bytes two stay, and of 43 all
+pub buffered : (bufferAfter reactor 256 (replicate 46 7) ≡ lines ++ (7 ∷ 7 ∷ [])) × (bufferAfter reactor 256 (replicate 43 7) ≡ replicate 43 7) × (bufferAfter [] 256 (7 ∷ []) ≡ 7 ∷ [])
 unfolding computed
 buffered = (refl, refl, refl)

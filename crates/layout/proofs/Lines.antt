@@ -6,17 +6,17 @@ use Prim.Native.Nat.{ℕ, _+_, _*_, _-_, _/_, _≤_}
 use native.Mathlib.Omega.{arith}
 use lib.Dec.{eqb}
 use lib.ListN.{length, take, drop, length-append}
-use Rattle.text.specs.Text.{decimal, tenths, hundredths, startWord, noLoadWord, reserveWord, newline}
+use Rattle.text.specs.Text.{decimal, tenths, hundredths, profileWord, startWord, noLoadWord, reserveWord, retiredWord, newline}
 use Rattle.text.proofs.Decimal.{decimal-within}
 use Rattle.text.proofs.Lengths.{tenths-length, hundredths-length}
 use Rattle.text.proofs.Over.{Wrote, then}
 use Rattle.rules.specs.Fit.{energy, start, noLoad}
 use Rattle.formulas.specs.Levels.{Shown}
-use Rattle.layout.specs.Report.{profileLine, energyLine, amountLine, levelLine, levelLines, reportText}
+use Rattle.layout.specs.Report.{numberLine, energyLine, amountLine, levelLine, levelLines, reportText}
 
-pub profile-length : (p : ℕ) → length (profileLine p) ≡ length (decimal p) + 9
-unfolding profileLine
-profile-length p = simp length-append (omega arith)
+pub number-length : (word : List ℕ) (n : ℕ) → length (numberLine word n) ≡ length word + length (decimal n) + 1
+unfolding numberLine
+number-length word n = simp length-append (omega arith)
 
 pub energy-length : (i a b x : ℕ) → length (energyLine i a b x) ≡ length (decimal i) + length (tenths a) + length (tenths b) + length (hundredths x) + 11
 unfolding energyLine
@@ -74,6 +74,7 @@ unfolding levelLines
 lines-within [] = omega arith
 lines-within (x ∷ l) = omega (arith, length-append (levelLine x) (levelLines l), level-within x, lines-within l)
 
-pub text-within : (p : ℕ) (l : List Shown) → length (reportText p l) ≤ 29 + 98 * length l
+pub text-within : (p : ℕ) (l : List Shown) (n : ℕ) → length (reportText p l n) ≤ 58 + 98 * length l
 unfolding reportText
-text-within p l = omega (arith, length-append (profileLine p) (levelLines l), profile-length p, decimal-within p, lines-within l)
+text-within p l n =
+    simp length-append (omega (arith, number-length profileWord p, decimal-within p, lines-within l, number-length retiredWord n, decimal-within n))

@@ -9,16 +9,20 @@ use Rattle.records.specs.declared.Answer.{Answer}
 use Rattle.records.specs.declared.Answer.the-variants.{Accepted, Refused as Turned}
 use Rattle.records.specs.Answers.{orElse, refuseIf, isAccepted}
 use Rattle.rules.specs.Fit.{energy, start, noLoad}
-use Rattle.formulas.specs.Levels.{parametersAt, profile, hourAnswer, levels, Shown, shown}
+use Rattle.formulas.specs.Levels.{parametersAt, profile, hourAnswer, levels, Shown, shown, retired}
 use Rattle.layout.specs.declared.Written.{Written}
 use Rattle.layout.specs.declared.Written.the-variants.{Bytes, Refused}
-use Rattle.text.specs.Text.{decimal, tenths, hundredths, refusalLine, profileWord, energyWord, startWord, noLoadWord, reserveWord, space, newline, over}
+use Rattle.text.specs.Text.{decimal, tenths, hundredths, refusalLine, profileWord, energyWord, startWord, noLoadWord, reserveWord, retiredWord, space, newline, over}
 
 -- ---- the lines, "each line ended by byte 10"
 
+-- a line with a word and a whole number
+unfoldable pub numberLine : List ℕ → ℕ → List ℕ
+numberLine word n = word ++ decimal n ++ newline
+
 -- the profile's line
-unfoldable pub profileLine : ℕ → List ℕ
-profileLine p = profileWord ++ decimal p ++ newline
+abbrev pub profileLine : ℕ → List ℕ
+profileLine p = numberLine profileWord p
 
 -- "Energy lines: lamination, from, to, level."
 unfoldable pub energyLine : ℕ → ℕ → ℕ → ℕ → List ℕ
@@ -41,15 +45,23 @@ unfoldable pub levelLines : List Shown → List ℕ
 levelLines [] = []
 levelLines (x ∷ l) = levelLine x ++ levelLines l
 
--- a report of a profile and what its levels show
-unfoldable pub reportText : ℕ → List Shown → List ℕ
-reportText p l = profileLine p ++ levelLines l
+-- the last line: "The report ends with `retired N`", "`retired 0` too"
+abbrev pub retiredLine : ℕ → List ℕ
+retiredLine n = numberLine retiredWord n
+
+-- a report of a profile, what its levels show, and how many payments are retired
+unfoldable pub reportText : ℕ → List Shown → ℕ → List ℕ
+reportText p l n = profileLine p ++ levelLines l ++ retiredLine n
 
 -- the report of a dossier at an hour, "a text report"
 unfoldable pub report : List ℕ → ℕ → List ℕ
-report d h = reportText (profile (parametersAt d h) h) (map shown (levels d h))
+report d h = let s = parametersAt d h in reportText (profile s h) (map shown (levels d h)) (retired s (profile s h))
 
 -- ---- written to a lent buffer
+
+-- a buffer of so many bytes holds every report, and every refusal's line (the laws `report-fits` and `prints-fits`)
+abbrev pub longestReport : ℕ
+longestReport = 2312
 
 -- "15 report buffer too short", of a buffer of n bytes
 unfoldable pub shortFor : List ℕ → ℕ → Answer

@@ -5,3 +5,6 @@ pub enum Written {
     Bytes(usize),
     Refused { number: u8, place: usize },
 }
+
+// A buffer of so many bytes holds every report.
+pub const LONGEST: usize = 2312;
