@@ -1,9 +1,10 @@
 -- A profile without adders or items, told by its empty slots: they add nothing. A dossier without LC: its last charging cost is 0.
 use mathlib.Core.Path.{_≡_, refl, ap, sym, _∙_}
-use mathlib.Core.Bool.{true}
+use mathlib.Core.Bool.{true, cond}
 use mathlib.Core.List.{List}
 use Prim.Native.Nat.{ℕ, suc, _+_, _*_, _≤_}
 use native.Mathlib.Omega.{arith}
+use lib.Dec.{eqb}
 use Rattle.fields.specs.Numbers.{number}
 use Rattle.fields.proofs.Numbers.{number-nil}
 use Rattle.records.specs.Table.{AD, MM, LC}
@@ -20,7 +21,8 @@ use Rattle.lookup.proofs.Held.{held-in-empty}
 use Rattle.lookup.proofs.Rooms.{short-none}
 use Rattle.lists.specs.Sums.{sumTo}
 use Rattle.formulas.specs.Exact.{quotient, microDollars}
-use Rattle.formulas.specs.Levels.{amountsIn, adders, maintenance, startMaintenance}
+use Rattle.formulas.specs.Levels.{amountsIn, thirdParty, adders, maintenance, startMaintenance}
+use Rattle.lists.proofs.Tests.{cond-holds}
 use Rattle.lists.proofs.Sums.{sumTo-zeros}
 use Rattle.formulas.proofs.Rounding.{quotient-of-none}
 
@@ -38,7 +40,9 @@ module _ {d ix : List ℕ} (h : Indexed d ix) (p : ℕ) (a : 1 ≤ p) (b : p ≤
 
     pub no-adders : 0 ≡ microDollars (adders (amountsHeld d ix) p v)
     unfolding microDollars adders sumTo
-    no-adders = sym (sumTo-zeros (λ c. adder (amountsHeld d ix) p c v) 0 5 (λ i z. no-adder (suc (0 + i)) (omega arith) (omega arith)))
+    no-adders =
+        sym (sumTo-zeros (λ c. cond (eqb c thirdParty) 0 (adder (amountsHeld d ix) p c v)) 0 5
+        (λ i z. cond-holds (λ x. x ≡ 0) (eqb (suc (0 + i)) thirdParty) 0 _ refl (no-adder (suc (0 + i)) (omega arith) (omega arith))))
 
   module _ (first : j ≡ slot MM (itemKey p 1)) (empty : slotsEmpty ix j 8 ≡ true) where
     no-item : (i : ℕ) → 1 ≤ i → i ≤ 8 → costC (amountsHeld d ix) p i ≡ 0

@@ -1,10 +1,27 @@
-// Adders and maintenance: what AD and MM add to the levels of a profile.
+// Adders and maintenance: what AD and MM add to the levels of a profile, and the payments that join no level.
 ghost use mathlib.Core.Path.{_≡_};
+ghost use mathlib.Core.Bool.{cond};
 ghost use Prim.Native.Nat.{_*_, _≤_};
-ghost use Rattle.station.specs.Parameters.{costC, outputW, intervalT, hoursPerStartS};
+ghost use lib.Dec.{eqb};
+ghost use Rattle.records.specs.Table.{AD};
+ghost use Rattle.station.specs.Parameters.{adderKey, adder, costC, outputW, intervalT, hoursPerStartS};
 ghost use Rattle.lookup.specs.Parts.{Indexed, parametersHeld, amountsHeld};
 ghost use Rattle.formulas.specs.Exact.{quotient, microDollars};
-ghost use Rattle.formulas.specs.Levels.{adders, maintenance, additions, startMaintenance};
+ghost use Rattle.formulas.specs.Levels.{thirdParty, adders, retired, maintenance, additions, startMaintenance};
+
+// The cost of third-party payments, which owners no longer claim.
+const THIRD_PARTY: usize = 4;
+
+// What cost c adds to a level.
+fn claimed(d: &[u8], index: &[u16], p: usize, c: usize, v: usize) -> u64
+    requires { ⌜ Indexed (now d) (now index) × (1 ≤ p) × (p ≤ 4) × (1 ≤ c) × (c ≤ 5) × (1 ≤ v) × (v ≤ 4) ⌝ }
+    ensures { λ r. ⌜ (r ≡ cond (eqb c thirdParty) 0 (adder (amountsHeld (now (d .entry)) (now (index .entry))) p c v)) × (r ≤ 1000000000000) ⌝ }
+{
+    if c == THIRD_PARTY {
+        return 0;
+    }
+    parameters::adder(d, index, p, c, v)
+}
 
 // The adders of a level. A profile without any is told by its slots at once, as one without items is below.
 pub fn adders(d: &[u8], index: &[u16], p: usize, v: usize) -> u64
@@ -17,10 +34,35 @@ pub fn adders(d: &[u8], index: &[u16], p: usize, v: usize) -> u64
     let mut sum = 0;
     let mut c = 0;
     while c < 5 {
-        sum += parameters::adder(d, index, p, c + 1, v);
+        sum += claimed(d, index, p, c + 1, v);
         c += 1;
     }
     sum
+}
+
+// How many third-party payments of a level are in force, one or none.
+fn payment(d: &[u8], index: &[u16], p: usize, v: usize) -> u64
+    requires { ⌜ Indexed (now d) (now index) × (1 ≤ p) × (p ≤ 4) × (1 ≤ v) × (v ≤ 4) ⌝ }
+    ensures { λ r. ⌜ (r ≡ cond (parametersHeld (now (d .entry)) (now (index .entry)) .has AD (adderKey p thirdParty v)) 1 0) × (r ≤ 1) ⌝ }
+{
+    if lookup::ad(d, index, p, THIRD_PARTY, v).len() == 0 {
+        return 0;
+    }
+    1
+}
+
+// How many of a profile are, at all levels.
+pub fn retired(d: &[u8], index: &[u16], p: usize) -> u64
+    requires { ⌜ Indexed (now d) (now index) × (1 ≤ p) × (p ≤ 4) ⌝ }
+    ensures { λ r. ⌜ r ≡ retired (parametersHeld (now (d .entry)) (now (index .entry))) p ⌝ }
+{
+    let mut count = 0;
+    let mut v = 0;
+    while v < 4 {
+        count += payment(d, index, p, v + 1);
+        v += 1;
+    }
+    count
 }
 
 // What item j adds to energy.

@@ -6,7 +6,7 @@ ghost use mathlib.Core.List.{List};
 ghost use Prim.Native.Nat.{ℕ, _≤_};
 ghost use lib.ListN.{length, take};
 ghost use Rattle.text.specs.Text.{over};
-ghost use Rattle.layout.specs.Report.{prints};
+ghost use Rattle.layout.specs.Report.{longestReport, prints};
 use layout::Written;
 use libc::STDIN_FILENO;
 use libc::STDOUT_FILENO;
@@ -14,8 +14,8 @@ use libc::STDOUT_FILENO;
 // All that is to be printed for an input i, given n bytes that were read of it: an hour, the longest dossier, and one byte more, which tells that a dossier
 // is too long. So what it says holds of the whole input, however long it is.
 fn answer(read: &[u8], n: usize, out: &mut [u8]) -> usize
-    requires { ⌜ (length (now read) ≡ 60005) × (n ≤ 60005) × (2283 ≤ length (now out)) ⌝ }
-    ensures { λ r. ⌜ (r ≤ 2283) × ((i : List ℕ) → take 60005 i ≡ take n (now (read .entry)) → (r ≡ length (prints i))
+    requires { ⌜ (length (now read) ≡ 60005) × (n ≤ 60005) × (longestReport ≤ length (now out)) ⌝ }
+    ensures { λ r. ⌜ (r ≤ longestReport) × ((i : List ℕ) → take 60005 i ≡ take n (now (read .entry)) → (r ≡ length (prints i))
         × (now (out .exit) ≡ over (prints i) (now (out .entry)))) ⌝ }
 {
     match report::print(&read[..n], out) {
@@ -31,7 +31,7 @@ fn answer(read: &[u8], n: usize, out: &mut [u8]) -> usize
 fn main() {
     let mut input = [0u8; 60005];
     let n = io::read_full(STDIN_FILENO, &mut input);
-    let mut out = [0u8; 2283];
+    let mut out = [0u8; layout::LONGEST];
     let len = answer(&input, n, &mut out);
     io::write_all(STDOUT_FILENO, &out[..len]);
 }

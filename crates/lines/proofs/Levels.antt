@@ -7,7 +7,7 @@ use native.Mathlib.Numerals.{add-one}
 use native.Mathlib.Omega.{arith}
 use lib.ListN.{length, take, drop, getD, length-append}
 use Rattle.lists.proofs.Tests.{split}
-use Rattle.text.specs.Text.{startWord, noLoadWord, reserveWord}
+use Rattle.text.specs.Text.{profileWord, startWord, noLoadWord, reserveWord, retiredWord}
 use Rattle.text.proofs.Decimal.{decimal-within}
 use Rattle.text.proofs.Over.{Wrote, then}
 use Rattle.rules.specs.Fit.{start, noLoad, reserve, holds}
@@ -15,8 +15,8 @@ use Rattle.arrays.specs.declared.HourLevels.{HourLevels}
 use Rattle.formulas.specs.Levels.{Shown, shownAs}
 use Rattle.arrays.specs.Packed.{Arrays, arraysOf, laminationAt, laminationsFrom, singleOf, unpacked}
 use Rattle.lines.specs.Parts.{packedReport, laminationLines, heldLine, otherLines}
-use Rattle.layout.specs.Report.{profileLine, energyLine, amountLine, levelLine, levelLines, reportText}
-use Rattle.layout.proofs.Lines.{profile-length, lines-append, lines-within}
+use Rattle.layout.specs.Report.{profileLine, energyLine, amountLine, levelLine, levelLines, retiredLine, reportText, longestReport}
+use Rattle.layout.proofs.Lines.{number-length, lines-append, lines-within}
 
 -- one lamination more, at the end
 laminations-more : (r : Arrays) (j n : ℕ) → laminationsFrom r j (suc n) ≡ laminationsFrom r j n ++ (laminationAt r (j + n) ∷ [])
@@ -103,24 +103,26 @@ pub others-within : (t x y z : ℕ) → length (otherLines t x y z) ≤ 294
 unfolding otherLines
 others-within t x y z = simp length-append (omega (arith, single-within t start x, single-within t noLoad y, single-within t reserve z))
 
--- the report as profile line, energy lines and the others
-pub report-is : (r : HourLevels) → packedReport r ≡ profileLine (r .profile) ++ laminationLines (arraysOf r) (r .count)
-    ++ otherLines (r .technology) (r .start) (r .noload) (r .reserve)
+-- the report as profile line, energy lines, the others and the last
+pub report-is : (r : HourLevels) (k : ℕ) → packedReport r k ≡ profileLine (r .profile) ++ laminationLines (arraysOf r) (r .count)
+    ++ otherLines (r .technology) (r .start) (r .noload) (r .reserve) ++ retiredLine k
 unfolding packedReport reportText unpacked otherLines
-report-is r = simp (lines-append, append-assoc)
+report-is r k = simp (lines-append, append-assoc)
 
-pub report-length : (r : HourLevels) → length (packedReport r) ≡ length (profileLine (r .profile)) + length (laminationLines (arraysOf r) (r .count)) + length
-    (otherLines (r .technology) (r .start) (r .noload) (r .reserve))
-report-length r = rw (report-is r) (simp length-append)
+pub report-length : (r : HourLevels) (k : ℕ) → length (packedReport r k) ≡ length (profileLine (r .profile)) + length
+    (laminationLines (arraysOf r) (r .count)) + length (otherLines (r .technology) (r .start) (r .noload) (r .reserve)) + length (retiredLine k)
+report-length r k = rw (report-is r k) (simp length-append)
 
--- a report of at most 20 laminations has at most 2,283 bytes
-pub report-within : (r : HourLevels) → r .count ≤ 20 → length (packedReport r) ≤ 2283
-report-within r h =
+-- a report of at most 20 laminations fits the bytes that hold every report
+pub report-within : (r : HourLevels) (k : ℕ) → r .count ≤ 20 → length (packedReport r k) ≤ longestReport
+report-within r k h =
     omega (
       arith,
-      report-length r,
-      profile-length (r .profile),
+      report-length r k,
+      number-length profileWord (r .profile),
       decimal-within (r .profile),
       laminations-within (arraysOf r) (r .count),
       others-within (r .technology) (r .start) (r .noload) (r .reserve),
+      number-length retiredWord k,
+      decimal-within k,
     )

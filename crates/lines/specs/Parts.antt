@@ -9,16 +9,16 @@ use Rattle.arrays.specs.Packed.{Arrays, laminationsFrom, singleOf, unpacked}
 use Rattle.layout.specs.declared.Written.{Written}
 use Rattle.layout.specs.Report.{amountLine, levelLines, reportText, shortFor, bufferWith, written}
 
--- the whole
-unfoldable pub packedReport : HourLevels → List ℕ
-packedReport r = reportText (r .profile) (unpacked r)
+-- the whole, with so many payments retired
+unfoldable pub packedReport : HourLevels → ℕ → List ℕ
+packedReport r k = reportText (r .profile) (unpacked r) k
 
 -- what writing it into n bytes tells, and what it leaves of a buffer
-abbrev pub writtenOf : HourLevels → ℕ → Written
-writtenOf r n = written (shortFor (packedReport r) n) (length (packedReport r))
+abbrev pub writtenOf : HourLevels → ℕ → ℕ → Written
+writtenOf r k n = written (shortFor (packedReport r k) n) (length (packedReport r k))
 
-abbrev pub bufferOf : HourLevels → List ℕ → List ℕ
-bufferOf r b = bufferWith (shortFor (packedReport r) (length b)) (packedReport r) b
+abbrev pub bufferOf : HourLevels → ℕ → List ℕ → List ℕ
+bufferOf r k b = bufferWith (shortFor (packedReport r k) (length b)) (packedReport r k) b
 
 -- the first n energy lines
 abbrev pub laminationLines : Arrays → ℕ → List ℕ

@@ -5,28 +5,26 @@ ghost use Prim.Native.Nat.{_≤_};
 ghost use lib.ListN.{length};
 ghost use Rattle.text.specs.Text.{over, tenths, space};
 ghost use Rattle.rules.specs.Fit.{holds};
-ghost use Rattle.layout.specs.Report.{profileLine, energyLine, amountLine};
+ghost use Rattle.layout.specs.Report.{numberLine, energyLine, amountLine};
 ghost use Rattle.arrays.specs.Packed.{hourOf, inArrays};
-ghost use Rattle.lines.specs.Parts.{laminationLines, heldLine, otherLines, writtenOf, bufferOf};
+ghost use Rattle.lines.specs.Parts.{packedReport, laminationLines, heldLine, otherLines, writtenOf, bufferOf};
 use arrays::SingleLevels;
 use layout::Written;
 use rules::level_held;
 
-// No report is longer.
-const LONGEST: usize = 2283;
-
-// The word and the line end are 9 bytes.
-fn profile_line_len(profile: u64) -> usize
-    ensures { λ r. ⌜ r ≡ length (profileLine profile) ⌝ }
+// A line with a word and a whole number; the line end is one byte.
+fn number_line_len(word: &[u8], n: u64) -> usize
+    requires { ⌜ length (now word) ≤ 8 ⌝ }
+    ensures { λ r. ⌜ r ≡ length (numberLine (now (word .entry)) n) ⌝ }
 {
-    text::decimal_len(profile) + 9
+    word.len() + text::decimal_len(n) + 1
 }
 
-fn put_profile_line(buf: &mut [u8], profile: u64) -> usize
-    requires { ⌜ length (profileLine profile) ≤ length (now buf) ⌝ }
-    ensures { λ r. ⌜ (r ≡ length (profileLine profile)) × (now (buf .exit) ≡ over (profileLine profile) (now (buf .entry))) ⌝ }
+fn put_number_line(buf: &mut [u8], word: &[u8], n: u64) -> usize
+    requires { ⌜ length (numberLine (now word) n) ≤ length (now buf) ⌝ }
+    ensures { λ r. ⌜ (r ≡ length (numberLine (now (word .entry)) n)) × (now (buf .exit) ≡ over (numberLine (now (word .entry)) n) (now (buf .entry))) ⌝ }
 {
-    let a = text::put_numbered(buf, b"profile ", profile);
+    let a = text::put_numbered(buf, word, n);
     a + text::put(&mut buf[a..], b"\n")
 }
 
@@ -163,38 +161,53 @@ fn put_others(buf: &mut [u8], technology: u8, start: u64, noload: u64, reserve: 
     b + put_held_line(&mut buf[b..], technology, 4, b"reserve ", reserve)
 }
 
+// All the lines of a report with so many payments retired.
+fn report_len<'a>(
+    lv: SingleLevels,
+    retired: u64,
+    from: &'a [u64; 20],
+    to: &'a [u64; 20],
+    cents: &'a [u64; 20],
+) -> usize
+    requires { ⌜ lv .count ≤ 20 ⌝ }
+    ensures { λ r. ⌜ r ≡ length (packedReport (hourOf lv (now (from .entry)) (now (to .entry)) (now (cents .entry))) retired) ⌝ }
+{
+    let first = number_line_len(b"profile ", lv.profile as u64);
+    let energy = laminations_len(from, to, cents, lv.count);
+    let others = others_len(lv.technology, lv.start, lv.noload, lv.reserve);
+    first + energy + others + number_line_len(b"retired ", retired)
+}
+
 // The whole report. Its length comes first, so that a buffer too short keeps every byte; a buffer that any report fits needs none.
 pub fn put_report<'a>(
     buf: &mut [u8],
     lv: SingleLevels,
+    retired: u64,
     from: &'a [u64; 20],
     to: &'a [u64; 20],
     cents: &'a [u64; 20],
 ) -> Written
     requires { ⌜ lv .count ≤ 20 ⌝ }
-    ensures answer { λ r. ⌜ r ≡ writtenOf (hourOf lv (now (from .entry)) (now (to .entry)) (now (cents .entry))) (length (now (buf .entry))) ⌝ }
-    ensures buffer { λ r. ⌜ now (buf .exit) ≡ bufferOf (hourOf lv (now (from .entry)) (now (to .entry)) (now (cents .entry))) (now (buf .entry)) ⌝ }
+    ensures answer { λ r. ⌜ r ≡ writtenOf (hourOf lv (now (from .entry)) (now (to .entry)) (now (cents .entry))) retired (length (now (buf .entry))) ⌝ }
+    ensures buffer { λ r. ⌜ now (buf .exit) ≡ bufferOf (hourOf lv (now (from .entry)) (now (to .entry)) (now (cents .entry))) retired (now (buf .entry)) ⌝ }
 {
-    if buf.len() < LONGEST {
-        let first = profile_line_len(lv.profile as u64);
-        let energy = laminations_len(from, to, cents, lv.count);
-        if buf.len() < first + energy + others_len(lv.technology, lv.start, lv.noload, lv.reserve) {
+    if buf.len() < layout::LONGEST {
+        if buf.len() < report_len(lv, retired, from, to, cents) {
             return Written::Refused {
                 number: 15,
                 place: 0,
             };
         }
     }
-    let a = put_profile_line(buf, lv.profile as u64);
+    let a = put_number_line(buf, b"profile ", lv.profile as u64);
     let b = a + put_laminations(&mut buf[a..], from, to, cents, lv.count);
-    Written::Bytes(
-        b
-            + put_others(
-                &mut buf[b..],
-                lv.technology,
-                lv.start,
-                lv.noload,
-                lv.reserve,
-            ),
-    )
+    let c = b
+        + put_others(
+            &mut buf[b..],
+            lv.technology,
+            lv.start,
+            lv.noload,
+            lv.reserve,
+        );
+    Written::Bytes(c + put_number_line(&mut buf[c..], b"retired ", retired))
 }

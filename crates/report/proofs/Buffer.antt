@@ -1,12 +1,14 @@
 -- The answer to a report, and the buffer after it.
-use mathlib.Core.Path.{_≡_, refl, ap, _∙_}
+use mathlib.Core.Path.{_≡_, refl, ap, ap₂, _∙_}
 use mathlib.Core.List.{List, map}
 use Prim.Native.Nat.{ℕ}
 use lib.ListN.{length}
 use Rattle.records.specs.declared.Answer.the-variants.{Accepted, Refused as Turned}
 use Rattle.records.specs.Answers.{orElse, isAccepted}
 use Rattle.arrays.specs.declared.HourLevels.{HourLevels}
-use Rattle.formulas.specs.Levels.{hourAnswer, shown}
+use Rattle.lookup.specs.Parts.{parametersHeld}
+use Rattle.lookup.proofs.Held.{parameters-held}
+use Rattle.formulas.specs.Levels.{parametersAt, profile, retired, hourAnswer, shown}
 use Rattle.query.proofs.Asking.{Ready}
 use Rattle.reference.specs.Held.{packedHeld}
 use Rattle.reference.proofs.AtHour.{lines-held}
@@ -17,11 +19,13 @@ use Rattle.lines.specs.Parts.{packedReport}
 use Rattle.lines.proofs.Fits.{Put}
 use Rattle.layout.specs.Report.{report, bufferWith, written, reportAnswer, bufferAfter}
 
--- levels as code hands them over, in the profile of an hour that is answered, give the dossier's report
-pub packed-is : {d : List ℕ} {h p : ℕ} {ix : List ℕ} → Ready d h p ix → {r : HourLevels} → r ≡ packedHeld d ix p → packedReport r ≡ report d h
+-- levels as code hands them over, in the profile of an hour that is answered, and its payments give the dossier's report
+pub packed-is : {d : List ℕ} {h p : ℕ} {ix : List ℕ} → Ready d h p ix → {r : HourLevels} → r ≡ packedHeld d ix p
+    → {k : ℕ} → k ≡ retired (parametersHeld d ix) p → packedReport r k ≡ report d h
 unfolding packedReport report
-packed-is {d} {h} {p} {ix} g {r} e =
-    rw (handed-shown d ix p e ∙ ap (map shown) (lines-held g), handed-profile d ix p e ∙ g .its)
+packed-is {d} {h} {p} {ix} g {r} e {k} n =
+    let paid : k ≡ retired (parametersAt d h) (profile (parametersAt d h) h) = n ∙ ap₂ retired (parameters-held h (g .index)) (g .its) in
+    rw (handed-shown d ix p e ∙ ap (map shown) (lines-held g), handed-profile d ix p e ∙ g .its, paid)
 
 -- what a report of dossier d at hour h tells its caller, and what it leaves of a buffer that held e
 abbrev pub Told : List ℕ → ℕ → List ℕ → Written → List ℕ → Type 0
@@ -29,10 +33,10 @@ Told d h e w b = (w ≡ written (reportAnswer d h (length e)) (length (report d 
 
 module _ (d : List ℕ) (h : ℕ) (e : List ℕ) where
   -- an accepted dossier's levels are in hand: all that is left to refuse is 15
-  pub told-levels : (r : HourLevels) {w : Written} {b : List ℕ} → hourAnswer d h ≡ Accepted → packedReport r ≡ report d h
-      → Put (packedReport r) e w b → Told d h e w b
+  pub told-levels : (r : HourLevels) (k : ℕ) {w : Written} {b : List ℕ} → hourAnswer d h ≡ Accepted → packedReport r k ≡ report d h
+      → Put (packedReport r k) e w b → Told d h e w b
   unfolding reportAnswer bufferAfter orElse
-  told-levels r a q p = rw (a, ← q) p
+  told-levels r k a q p = rw (a, ← q) p
 
   -- a refused dossier's refusal comes first
   pub told-refusal : (k p : ℕ) → hourAnswer d h ≡ Turned k p → Told d h e (Refused k p) e

@@ -21,7 +21,7 @@ use Rattle.index.proofs.Turn.{tail}
 use Rattle.station.specs.Parameters.{Parameters, Amounts, parameters, amounts, technology}
 use Rattle.rules.proofs.Draws.{overlong}
 use Rattle.rules.specs.Curve.{points}
-use Rattle.formulas.specs.Levels.{parametersAt, amountsAt, fuelled, Line, profile, laminations, linesOf, lines, levels, hourAnswer, shown}
+use Rattle.formulas.specs.Levels.{parametersAt, amountsAt, fuelled, Line, profile, retired, laminations, linesOf, lines, levels, hourAnswer, shown}
 use Rattle.formulas.proofs.Hours.{hour-refused}
 use Rattle.text.specs.Text.{refusalLine}
 use Rattle.text.proofs.Decimal.{decimal-within}
@@ -29,7 +29,7 @@ use Rattle.text.proofs.Lengths.{refusal-length}
 use Rattle.text.proofs.Over.{Wrote}
 use Rattle.layout.specs.declared.Written.{Written}
 use Rattle.layout.specs.declared.Written.the-variants.{Bytes, Refused}
-use Rattle.layout.specs.Report.{report, bufferWith, written, reportAnswer, bufferAfter, printed, prints}
+use Rattle.layout.specs.Report.{report, bufferWith, written, reportAnswer, bufferAfter, longestReport, printed, prints}
 use Rattle.lines.proofs.Fits.{long-enough}
 use Rattle.report.specs.Print.{printAnswer, bufferPrinted}
 use Rattle.report.proofs.Buffer.{Told}
@@ -58,25 +58,30 @@ lines-count s m p =
     (either 23 (eqb (technology s) nuclear) _ _ (omega arith)
     (either 23 (eqb (technology s) storage) _ _ (omega arith) (either 23 (eqb (technology s) hydro) _ _ (omega arith) (omega arith))))
 
--- every report has at most 2,283 bytes
 levels-count : (d : List ℕ) (h : ℕ) → length (levels d h) ≤ 23
 unfolding levels lines
 levels-count d h =
     let s = parametersAt d h in
     either 23 (fuelled s h) _ _ (lines-count s (amountsAt d h) (profile s h)) (omega arith)
 
-pub report-fits : (d : List ℕ) (h : ℕ) → length (report d h) ≤ 2283
+-- every report fits the bytes that hold every one
+pub report-fits : (d : List ℕ) (h : ℕ) → length (report d h) ≤ longestReport
 unfolding report
 report-fits d h =
-    omega (arith, text-within (profile (parametersAt d h) h) (map shown (levels d h)), length-map (levels d h) shown, levels-count d h)
+    omega (
+      arith,
+      text-within (profile (parametersAt d h) h) (map shown (levels d h)) (retired (parametersAt d h) (profile (parametersAt d h) h)),
+      length-map (levels d h) shown,
+      levels-count d h,
+    )
 
-printed-fits : (a : Answer) (text : List ℕ) → length text ≤ 2283 → length (printed a text) ≤ 2283
+printed-fits : (a : Answer) (text : List ℕ) → length text ≤ longestReport → length (printed a text) ≤ longestReport
 unfolding printed
 printed-fits Accepted text h = h
 printed-fits (Turned n p) text h = omega (arith, refusal-length n p, decimal-within n, decimal-within p)
 
 -- and so has all that the program prints
-pub prints-fits : (i : List ℕ) → length (prints i) ≤ 2283
+pub prints-fits : (i : List ℕ) → length (prints i) ≤ longestReport
 unfolding prints
 prints-fits i = printed-fits _ _ (report-fits (drop 4 i) (number 0 4 i))
 
@@ -117,7 +122,7 @@ prints-cut i =
 
 -- ---- the function that prints: a report in a buffer where every report fits
 
-with-room : (d : List ℕ) (h : ℕ) (e : List ℕ) → 2283 ≤ length e → reportAnswer d h (length e) ≡ hourAnswer d h
+with-room : (d : List ℕ) (h : ℕ) (e : List ℕ) → longestReport ≤ length e → reportAnswer d h (length e) ≡ hourAnswer d h
 unfolding reportAnswer
 with-room d h e k = rw (long-enough (report d h) (length e) (omega (arith, report-fits d h))) (orElse-none (hourAnswer d h))
 
@@ -128,7 +133,7 @@ after-hour i e {h} {w} {b} q t =
     subst (λ (d : List ℕ). Told d (number 0 4 i) e w b) (tail i 4)
     (subst (λ (h : ℕ). Told (take (length i - 4) (drop 4 i)) h e w b) q t)
 
-module _ (i e : List ℕ) (room : 2283 ≤ length e) (four : 4 ≤ length i) where
+module _ (i e : List ℕ) (room : longestReport ≤ length e) (four : 4 ≤ length i) where
   -- what is told stands on the dossier's answer alone
   told-answer : {w : Written} {b : List ℕ} (a : Answer) → hourAnswer (drop 4 i) (number 0 4 i) ≡ a → Told (drop 4 i) (number 0 4 i) e w b
       → (w ≡ written a (length (report (drop 4 i) (number 0 4 i)))) × (b ≡ bufferWith a (report (drop 4 i) (number 0 4 i)) e)
@@ -159,8 +164,8 @@ module _ (i e : List ℕ) (room : 2283 ≤ length e) (four : 4 ≤ length i) whe
           rw (f, g) (prints-answer i (Turned k′ q′) four p, told-answer (Turned k′ q′) p t .1)
 
 -- what the function tells its caller, with the buffer that it leaves: all is printed where every text fits, and else nothing
-pub told-text : (i e : List ℕ) {n : ℕ} {b : List ℕ} → 2283 ≤ length e → Wrote (prints i) e n b → (Bytes n ≡ printAnswer i e) × (b ≡ bufferPrinted i e)
-told-text i e h w = rw (le-ltb (length e) 2283 h) (ap Bytes (w .0), w .1)
+pub told-text : (i e : List ℕ) {n : ℕ} {b : List ℕ} → longestReport ≤ length e → Wrote (prints i) e n b → (Bytes n ≡ printAnswer i e) × (b ≡ bufferPrinted i e)
+told-text i e h w = rw (le-ltb (length e) longestReport h) (ap Bytes (w .0), w .1)
 
-pub told-scant : (i e : List ℕ) → length e < 2283 → (Refused 15 0 ≡ printAnswer i e) × (e ≡ bufferPrinted i e)
-told-scant i e h = rw (lt-ltb (length e) 2283 h) (refl, refl)
+pub told-scant : (i e : List ℕ) → length e < longestReport → (Refused 15 0 ≡ printAnswer i e) × (e ≡ bufferPrinted i e)
+told-scant i e h = rw (lt-ltb (length e) longestReport h) (refl, refl)

@@ -7,11 +7,11 @@ use lib.ListN.{length}
 use Rattle.text.specs.Text.{over}
 use Rattle.layout.specs.declared.Written.{Written}
 use Rattle.layout.specs.declared.Written.the-variants.{Bytes, Refused}
-use Rattle.layout.specs.Report.{prints}
+use Rattle.layout.specs.Report.{longestReport, prints}
 
 -- a buffer that is too short for some text: 15, whatever the input
 abbrev pub scant : List ℕ → Bool
-scant e = ltb (length e) 2283
+scant e = ltb (length e) longestReport
 
 -- the answer to input i with a buffer that holds e
 abbrev pub printAnswer : List ℕ → List ℕ → Written

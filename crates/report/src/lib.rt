@@ -29,7 +29,8 @@ fn report_in(d: &[u8], index: &mut [u16], hour: u32, buf: &mut [u8]) -> Written
                 &mut to,
                 &mut cents,
             );
-            lines::put_report(buf, lv, &from, &to, &cents)
+            let retired = costs::maintenance::retired(d, index, profile);
+            lines::put_report(buf, lv, retired, &from, &to, &cents)
         }
         Asked::Refused { number, place } => Written::Refused { number, place },
     }
@@ -60,13 +61,13 @@ pub fn report(d: &[u8], hour: u32, buf: &mut [u8]) -> Written
     }
 }
 
-// All that the program prints for its whole input, a 4-byte hour and then the dossier. A buffer of 2,283 bytes is enough for any of it; a shorter one is
-// refused whatever the input, and keeps every byte.
+// All that the program prints for its whole input, a 4-byte hour and then the dossier. A buffer that holds every report is enough for any of it; a shorter
+// one is refused whatever the input, and keeps every byte.
 pub fn print(input: &[u8], out: &mut [u8]) -> Written
     ensures answer { λ r. ⌜ r ≡ printAnswer (now (input .entry)) (now (out .entry)) ⌝ }
     ensures buffer { λ r. ⌜ now (out .exit) ≡ bufferPrinted (now (input .entry)) (now (out .entry)) ⌝ }
 {
-    if out.len() < 2283 {
+    if out.len() < layout::LONGEST {
         return Written::Refused {
             number: 15,
             place: 0,

@@ -8,7 +8,7 @@ use lib.ListN.{length, drop}
 use Rattle.fields.specs.Numbers.{number}
 use Rattle.text.specs.Text.{over, refusalLine}
 use Rattle.layout.specs.declared.Written.{Written}
-use Rattle.layout.specs.Report.{prints}
+use Rattle.layout.specs.Report.{longestReport, prints}
 use Rattle.report.proofs.Buffer.{Told}
 use Rattle.report.proofs.Program.{prints-fits, prints-short, after-hour, print-report, print-refusal, told-text, told-scant}
 use Rattle.report.proofs.print.Statement.{statement}
@@ -22,7 +22,7 @@ abbrev start : tie.After-slice-known3 → tie.Start
 start c = c .before .before .before .before .before .before .before .before .before .before
 
 -- the buffer is long enough for all that is printed, and the input has an hour
-roomy : (c : tie.After-slice-known3) → 2283 ≤ length (start c .args .out .now)
+roomy : (c : tie.After-slice-known3) → longestReport ≤ length (start c .args .out .now)
 roomy c = c .before .before .before .before .before .before .before .if1 .left
 
 hour-there : (c : tie.After-slice-known3) → 4 ≤ length (input (start c))

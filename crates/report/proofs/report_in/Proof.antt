@@ -13,16 +13,25 @@ profile-levels-requires c κs =
     let g = ready _ _ (j .ensures .0) (j .ensures .1) (c .before .before .before .before .before .before .profile .given .1) in
     (g .accepted, g .indexed, g .low, g .high, search needs, j .ensures .1 (g .drawn) .1, refl, refl, refl)
 
+retired-requires : tie.Need-retired-requires
+retired-requires c κs =
+    let l = c .before .before .before .before in
+    let j = l .before .before .before .before .before .before .before .before .before .before .before .before .judge-at in
+    let g = ready _ _ (j .ensures .0) (j .ensures .1) (l .before .before .before .before .before .before .before .profile .given .1) in
+    (g .indexed, g .low, g .high)
+
 put-report-requires : tie.Need-put-report-requires
-put-report-requires c κs = handed-count _ _ _ (c .before .before .before .before .before .before .before .profile-levels .ensures)
+put-report-requires c κs = handed-count _ _ _ (c .before .before .before .before .before .before .before .before .before .profile-levels .ensures)
 
 returns : tie.Need-returns
 returns c =
-    let l = c .before .before .before .before .before .before .before .before .before .before in
+    let n = c .before .before .before .before .before .before .before in
+    let l = n .before .before .before .before .before in
     let j = l .before .before .before .before .before .before .before .before .before .before .before .before in
     let args = j .before .before .before .before .before .before .args in
     let g = ready _ _ (j .judge-at .ensures .0) (j .judge-at .ensures .1) (l .before .before .before .before .before .before .before .profile .given .1) in
-    told-levels (args .d .now) (args .hour) (args .buf .now) _ (g .drawn) (packed-is g (l .profile-levels .ensures)) (c .before .before .put-report .ensures)
+    told-levels (args .d .now) (args .hour) (args .buf .now) _ _ (g .drawn) (packed-is g (l .profile-levels .ensures) (n .retired .ensures))
+    (c .before .before .put-report .ensures)
 
 returns-2 : tie.Need-returns-2
 returns-2 c =
@@ -42,6 +51,7 @@ report-in-spec =
     (λ c. search needs)
     (λ c. search needs)
     profile-levels-requires
+    retired-requires
     put-report-requires
     (λ c. search needs)
     (λ c. search needs)

@@ -1,20 +1,22 @@
 use borrow.Author.Needs.{needs}
 use mathlib.Core.Path.{_≡_, sym, _∙_}
+use mathlib.Core.Bool.{cond}
 use Prim.Native.Nat.{_≤_, _*_, _-_}
 use native.Mathlib.Omega.{arith}
+use lib.Dec.{eqb}
 use Rattle.lookup.specs.Parts.{held}
 use Rattle.station.specs.Parameters.{amounts, adder}
 use Rattle.index.proofs.Slots.{adder-slot}
 use Rattle.lists.specs.Sums.{sumTo}
 use Rattle.formulas.specs.Exact.{microDollars}
-use Rattle.formulas.specs.Levels.{adders}
+use Rattle.formulas.specs.Levels.{thirdParty, adders}
 use Rattle.lists.proofs.Sums.{sum-more, sum-ends}
 use Rattle.costs.proofs.Absent.{no-adders}
 use Rattle.costs.proofs.maintenance.adders.Statement.{statement}
 use Rattle.costs.proofs.maintenance.adders.Tie as tie
 
 abbrev Inv-loop : tie.InvT-loop
-Inv-loop d index p v sum₀ c₀ sum c = (c ≤ 5) × (sum ≤ c * 1000000000000) × (sum ≡ sumTo c (λ k. adder (amounts (held d index)) p k v))
+Inv-loop d index p v sum₀ c₀ sum c = (c ≤ 5) × (sum ≤ c * 1000000000000) × (sum ≡ sumTo c (λ k. cond (eqb k thirdParty) 0 (adder (amounts (held d index)) p k v)))
 
 abbrev μ-loop : tie.MeasureT-loop
 μ-loop d index p v sum₀ c₀ sum c = 5 - c
@@ -42,7 +44,7 @@ unfolding sumTo
 loop-holds c = (search needs, search needs, search needs)
 
 loop-again : tie.Need-loop-again Inv-loop μ-loop
-loop-again c = (omega arith, omega arith, sum-more _ _ _ _ (c .before .before .loop .inv .2) (c .adder .ensures .0))
+loop-again c = (omega arith, omega arith, sum-more _ _ _ _ (c .before .before .loop .inv .2) (c .claimed .ensures .0))
 
 returns-2 : tie.Need-returns-2 Inv-loop μ-loop
 unfolding microDollars adders
