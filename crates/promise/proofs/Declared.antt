@@ -2,7 +2,7 @@
 use mathlib.Core.Path.{_≡_, refl, ap, sym, _∙_}
 use mathlib.Core.Bool.{true, false, true≢false}
 use mathlib.Core.List.{List, [], _∷_}
-use Prim.Native.Nat.{ℕ, _≤_, _<_}
+use Prim.Native.Nat.{ℕ, suc, _≤_, _<_}
 use native.Mathlib.Omega.{arith}
 use lib.Dec.{leb}
 use lib.ListN.{length, getD}
@@ -39,9 +39,9 @@ counting-declared = record { some = counts-some; own = λ all r e. e; only = cou
 -- ---- fuel at an hour
 
 -- no record is empty
-marked-present : (r : List ℕ) → kind r ≡ FU → present r ≡ true
+pub marked-present : (r : List ℕ) {k : ℕ} → kind r ≡ suc k → present r ≡ true
 unfolding kind kindOf isDated mark markIn table rowOf present
-marked-present [] e = absurd (let z : _≡_ {A = ℕ} 0 3 = e in omega arith)
+marked-present [] {k} e = absurd (let z : 0 ≡ suc k = e in omega (arith, z))
 marked-present (b ∷ r) e = lt-ltb 0 (length (b ∷ r)) (omega arith)
 
 module _ (h n : ℕ) (l : List (List ℕ)) where

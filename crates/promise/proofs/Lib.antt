@@ -3,7 +3,10 @@ pub mod Meaning
 pub mod Order
 pub mod Dated
 pub mod Week
+pub mod AlikeBut
+pub mod Withdrawn
 pub mod Declared
 pub mod Marked
 pub mod Examples
 pub mod DatedExamples
+pub mod WithdrawnExamples

@@ -12,7 +12,7 @@ use Rattle.records.specs.Dossier.{records}
 use Rattle.station.specs.Current.{current}
 use Rattle.station.specs.InForce.{inForce, counts}
 use Rattle.rules.specs.Answer.{answer, IsAccepted}
-use Rattle.formulas.specs.Levels.{parametersIn, amountsIn, hourAnswer, profile, lines, levels, shown}
+use Rattle.formulas.specs.Levels.{parametersIn, amountsIn, hourAnswer, profile, lines, levels, shown, retired}
 use Rattle.verdicts.specs.Verdict.{offerVerdict, priceVerdict, onOffer, onPrice}
 use Rattle.layout.specs.Report.{reportText, report}
 use Rattle.promise.specs.Order.{SameAt}
@@ -41,7 +41,8 @@ pub record AsBefore (d : List ℕ) : Type 0 where
   pub offers : (h c : ℕ) (o : List ℕ) → onOffer d h c o ≡ offerVerdict (parametersIn d) c (lines (parametersIn d) (amountsIn d) h) o
   pub prices : (h v c : ℕ) (price : ℤ)
       → onPrice d h v c price ≡ priceVerdict (parametersIn d) v c (lines (parametersIn d) (amountsIn d) h) (biasedOf price)
-  pub report : (h : ℕ) → report d h ≡ reportText (profile (parametersIn d) h) (map shown (lines (parametersIn d) (amountsIn d) h))
+  pub report : (h : ℕ) → let s = parametersIn d in
+      report d h ≡ reportText (profile s h) (map shown (lines s (amountsIn d) h)) (retired s (profile s h))
 
 -- an accepted dossier of old marks means that, and draws 20 at no hour
 abbrev pub OldMarks : Type 0

@@ -38,7 +38,7 @@ inCents f l = let r = records (joined l) in cents (microDollars (f (parameters r
 -- M1 to M9. "M1 R1's five lines. M2 sums 42,304,999 and 42,305,000 give 42.30 and 42.31. M3 level 42.30, percent 50, margin 25.00, floor 0: 63.45 passes,
 -- 63.46 fails. M4 level 10.00, same, floor 25.00: 24.99 passes, 25.00 fails. M5 charge 300.0, capacity 80.0: X is 3. M6 205.50, 106.40, 302.50 give 204.80
 -- (002). M7 315.20, 205.50, 106.40 give 209.03 (002). M8 charging 1,000 kWh at 20.00 and 3,000 at -5.00: 1.25; with fuel 750,000 and efficiency 800, 2.50. M9
--- issue 7 before issue 6: 7 counts."
+-- issue 7 before issue 6: 7 counts." Document 02 adds a sixth line to M1, `retired 0`.
 unfoldable pub marked : List Case
 marked =
     case (report (joined r1) 0) r1Lines  -- M1

@@ -1,8 +1,8 @@
--- The stations and offers of the marked cases, a station on a river, an idle battery, one that charged and R1 with dated fuel, in the papers' numbers and,
--- through the table, as bytes.
+-- The stations and offers of the marked cases, a station on a river, an idle battery, one that charged, and R1 with dated fuel and with third-party payments, in
+-- the papers' numbers and, through the table, as bytes.
 use mathlib.Core.List.{List, [], _∷_, _++_}
 use Prim.Native.Nat.{ℕ, zero, suc, _+_, _*_}
-use Rattle.records.specs.Table.{RS, HP, FU, AD, MM, HR, CH, TH, FP, LC, FV}
+use Rattle.records.specs.Table.{RS, HP, FU, AD, MM, RQ, HR, CH, TH, FP, LC, FV, AV}
 use Rattle.records.specs.Made.{minus, made, madeFrom}
 
 -- ---- "Case R1 (thermal, hour 0, profile 1, all issues 1)"
@@ -36,14 +36,22 @@ abbrev pub r1Tested : List (List ℕ)
 r1Tested = r1 ++ (made TH 1 (1 ∷ 1 ∷ 50 ∷ 2500 ∷ 0 ∷ []) ∷ [])
 
 -- "profile 1 energy 1 0.0 100.0 42.30 start 3300.00 no-load 500.00 reserve 0.25", a line each
-abbrev pub r1Lines : List ℕ
-r1Lines =
+abbrev pub r1Five : List ℕ
+r1Five =
     112 ∷ 114 ∷ 111 ∷ 102 ∷ 105 ∷ 108 ∷ 101 ∷ 32 ∷ 49 ∷ 10  -- profile 1
     ∷ 101 ∷ 110 ∷ 101 ∷ 114 ∷ 103 ∷ 121 ∷ 32 ∷ 49 ∷ 32 ∷ 48 ∷ 46 ∷ 48 ∷ 32 ∷ 49 ∷ 48 ∷ 48 ∷ 46 ∷ 48 ∷ 32 ∷ 52 ∷ 50 ∷ 46 ∷ 51 ∷ 48 ∷ 10  -- energy 1 0.0 100.0 42.30
     ∷ 115 ∷ 116 ∷ 97 ∷ 114 ∷ 116 ∷ 32 ∷ 51 ∷ 51 ∷ 48 ∷ 48 ∷ 46 ∷ 48 ∷ 48 ∷ 10  -- start 3300.00
     ∷ 110 ∷ 111 ∷ 45 ∷ 108 ∷ 111 ∷ 97 ∷ 100 ∷ 32 ∷ 53 ∷ 48 ∷ 48 ∷ 46 ∷ 48 ∷ 48 ∷ 10  -- no-load 500.00
     ∷ 114 ∷ 101 ∷ 115 ∷ 101 ∷ 114 ∷ 118 ∷ 101 ∷ 32 ∷ 48 ∷ 46 ∷ 50 ∷ 53 ∷ 10  -- reserve 0.25
     ∷ []
+
+-- these, and a last line with a digit: "The report ends with `retired N`"
+abbrev pub r1Retired : ℕ → List ℕ
+r1Retired digit = r1Five ++ (114 ∷ 101 ∷ 116 ∷ 105 ∷ 114 ∷ 101 ∷ 100 ∷ 32 ∷ digit ∷ 10 ∷ [])
+
+-- R1's report: "Report comparisons include the new line from then on, `retired 0` too."
+abbrev pub r1Lines : List ℕ
+r1Lines = r1Retired 48
 
 -- ---- the battery of M5 to M9: charge 300.0, capacity 80.0, efficiency 800, window 3, fuel 750,000
 
@@ -167,3 +175,24 @@ unfitUntil hour =
     ∷ madeFrom FV 2 hour (1 ∷ 0 ∷ 0 ∷ [])
     ∷ made HR 1 (1 ∷ 0 ∷ [])
     ∷ []
+
+-- ---- document 02, request 10: R1 with third-party payments, which is cost 4
+
+-- for energy and for start in two issues each, with amounts of energy's second and start's first; for no-load from hour 50 on; and for reserve in profile 2,
+-- which is requested for hour 60
+abbrev pub paidWith : ℕ → ℕ → List (List ℕ)
+paidWith second first =
+    r1
+    ++ (made AD 2 (1 ∷ 4 ∷ 1 ∷ second ∷ [])
+    ∷ made AD 1 (1 ∷ 4 ∷ 1 ∷ 7000000 ∷ [])
+    ∷ made AD 1 (1 ∷ 4 ∷ 2 ∷ first ∷ [])
+    ∷ madeFrom AV 2 0 (1 ∷ 4 ∷ 2 ∷ 9000000 ∷ [])
+    ∷ madeFrom AV 1 50 (1 ∷ 4 ∷ 3 ∷ 8000000 ∷ [])
+    ∷ made AD 1 (2 ∷ 4 ∷ 4 ∷ 6000000 ∷ [])
+    ∷ made FU 1 (2 ∷ 4000000 ∷ 1000000 ∷ [])
+    ∷ made RQ 1 (1 ∷ 60 ∷ 60 ∷ 2 ∷ [])
+    ∷ [])
+
+-- 5.00 and 3.00
+abbrev pub paid : List (List ℕ)
+paid = paidWith 5000000 3000000
