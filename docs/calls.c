@@ -1,5 +1,5 @@
-/* Every call of the library from C, on case R1 of README.md with two thresholds, with prices that come in later and one that is known early, and the
- * charging week of a battery. docs/calls.py is the same from Python; both print docs/calls.out.
+/* Every call of the library from C, on case R1 of README.md with two thresholds, with prices that come in later and one that is known early, with
+ * a payment that is withdrawn, and the charging week of a battery. docs/calls.py is the same from Python; both print docs/calls.out.
  * With the library built (rt staticlib bench), at the root of the repository:
  *
  *   cc -std=c99 -Iinclude -o target/calls docs/calls.c target/staticlib/libbench.a && target/calls
@@ -58,11 +58,11 @@ static void put_fuel(struct bytes *dossier, uint32_t issue, uint32_t fuel) {
     put(dossier, 4, 1000000);
 }
 
-/* Consumables (cost 3) of profile 1 for a level, in micro-dollars. */
-static void put_adder(struct bytes *dossier, int level, uint64_t amount) {
+/* A cost of profile 1 for a level, in micro-dollars: consumables (3), or payments to third parties (4). */
+static void put_adder(struct bytes *dossier, int cost, int level, uint64_t amount) {
     begin(dossier, "AD", 1);
     put(dossier, 1, 1);
-    put(dossier, 1, 3);
+    put(dossier, 1, cost);
     put(dossier, 1, level);
     put(dossier, 8, amount);
 }
@@ -93,8 +93,8 @@ static struct bytes r1(void) {
     put_point(&dossier, 1, 500, 500000);
     put_point(&dossier, 2, 1000, 900000);
     put_fuel(&dossier, 1, 4000000);
-    put_adder(&dossier, 1, 1500000);
-    put_adder(&dossier, RESERVE, 250000);
+    put_adder(&dossier, 3, 1, 1500000);
+    put_adder(&dossier, 3, RESERVE, 250000);
     put_maintenance(&dossier);
     put_threshold(&dossier, 1, 50, 2500);
     put_threshold(&dossier, RESERVE, 100, UINT32_MAX);
@@ -193,6 +193,14 @@ static void show_first_hours(const struct bytes *dossier) {
     for (uint32_t hour = 23; hour <= 29; hour += 2) show_energy(&later, hour);
 }
 
+/* A payment to a third party, 2.00 for energy: it is withdrawn, so that no level has it, and the report counts it in its last line. */
+static void show_payment(const struct bytes *dossier) {
+    struct bytes paid = *dossier;
+    put_adder(&paid, 4, 1, 2000000);
+    say("third-party payment", bench_accept(paid.at, paid.length), "accepted");
+    show_report(&paid);
+}
+
 /* A battery of 80.0 MW with one full hour of charge and one hour in its window. */
 static struct bytes battery(void) {
     struct bytes dossier = {{0}, 0};
@@ -253,6 +261,7 @@ int main(void) {
     say("reserve at 0.51", reserve_test(&dossier, 51), "passes");
     show_fuel(&dossier);
     show_first_hours(&dossier);
+    show_payment(&dossier);
     show_week();
     return 0;
 }

@@ -1,5 +1,5 @@
-"""Every call of the library from Python, on case R1 of README.md with two thresholds, with prices that come in later and one that is known early, and
-the charging week of a battery. docs/calls.c is the same from C; both print docs/calls.out.
+"""Every call of the library from Python, on case R1 of README.md with two thresholds, with prices that come in later and one that is known early, with
+a payment that is withdrawn, and the charging week of a battery. docs/calls.c is the same from C; both print docs/calls.out.
 With the library built (rt staticlib bench), at the root of the repository:
 
     cc -shared -o target/libbench.so -Wl,--whole-archive target/staticlib/libbench.a -Wl,--no-whole-archive
@@ -11,7 +11,7 @@ import sys
 
 NARROW, RESERVE, HOUR = 1, 4, 0
 WORDS = 66  # that the levels take
-REPORT_BYTES = 2283  # hold every report
+REPORT_BYTES = 2312  # hold every report
 INTERVALS = 2016  # of five minutes over seven days
 
 U8, U16, U32, U64, I32, SIZE = ctypes.c_uint8, ctypes.c_uint16, ctypes.c_uint32, ctypes.c_uint64, ctypes.c_int32, ctypes.c_size_t
@@ -184,6 +184,13 @@ def show_first_hours(bench, dossier):
         show_energy(bench, later, hour)
 
 
+def show_payment(bench, dossier):
+    """A payment to a third party, 2.00 for energy: it is withdrawn, so that no level has it, and the report counts it in its last line."""
+    paid = dossier + record(b"AD", 1, (1, 1), (1, 4), (1, 1), (8, 2_000_000))
+    say("third-party payment", bench.bench_accept(paid, len(paid)), "accepted")
+    show_report(bench, paid)
+
+
 def charging(issue, interval, price, energy):
     """What was charged in an interval of five minutes: its price in cents per MWh, its energy in kWh."""
     return record(b"CH", issue, (2, interval), (4, price & 0xFFFFFFFF), (4, energy))
@@ -217,6 +224,7 @@ def main():
     say("reserve at 0.51", reserve_test(bench, R1, 51), "passes")
     show_fuel(bench, R1)
     show_first_hours(bench, R1)
+    show_payment(bench, R1)
     show_week(bench)
 
 

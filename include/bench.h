@@ -39,7 +39,7 @@ extern "C" {
 #define BENCH_WORDS 66
 
 /* A buffer of this many bytes holds every report. */
-#define BENCH_REPORT_BYTES 2283
+#define BENCH_REPORT_BYTES 2312
 
 /* How many prices and how many energies bench_week writes: one for each interval of five minutes over seven days. */
 #define BENCH_INTERVALS 2016
@@ -59,8 +59,8 @@ uint64_t bench_accept(const uint8_t *dossier, size_t length);
  *   key   its bytes as one number, the first high; 0 for RS and LC, which have none */
 uint64_t bench_current(const uint8_t *dossier, size_t length, uint16_t mark, uint32_t key);
 
-/* The levels at an hour, into a list of words: of each key the highest issue counts whose first hour has come. The value is 66, and words past these
- * stay. A list of fewer (count) is refused with 15 at 0.
+/* The levels at an hour, into a list of words: of each key the highest issue counts whose first hour has come, and third-party payments (cost 4), which
+ * are withdrawn, join no level. The value is 66, and words past these stay. A list of fewer (count) is refused with 15 at 0.
  *   words[0]         the profile, 1 to 4
  *   words[1]         the number n of laminations, 1 to 20
  *   words[2 + 3 * i] and the two behind it: from and to (0.1 MW) and level (cents) of lamination i + 1; 0 where i is n to 19
@@ -79,8 +79,9 @@ uint64_t bench_energy_test(const uint8_t *dossier, size_t length, uint32_t hour,
  * technology doesn't hold the level, or it is energy; 14 if the dossier has no threshold for the condition and the level. */
 uint64_t bench_price_test(const uint8_t *dossier, size_t length, uint32_t hour, uint8_t level, uint8_t condition, int32_t price);
 
-/* The report at an hour, into a buffer: lines of ASCII, each with a newline behind it and no null byte, levels in dollars and quantities in MW. The
- * value is the length written, and bytes past it stay. A buffer that the report doesn't fit is refused with 15 at 0. */
+/* The report at an hour, into a buffer: lines of ASCII, each with a newline behind it and no null byte, levels in dollars and quantities in MW. The last
+ * line is `retired N`: N third-party payments (cost 4) are in force at the hour in its profile, and no level has them. The value is the length written,
+ * and bytes past it stay. A buffer that the report doesn't fit is refused with 15 at 0. */
 uint64_t bench_report(const uint8_t *dossier, size_t length, uint32_t hour, uint8_t *buffer, size_t buffer_length);
 
 /* The charging week, into a list of prices and a list of energies; the value is 2,016, and places past these stay. A list of fewer (price_count,

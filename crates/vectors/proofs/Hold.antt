@@ -3,161 +3,169 @@ use mathlib.Core.Path.{refl}
 use Rattle.layout.proofs.Computed.{computed}
 use Rattle.vectors.specs.Cases as cases
 
-line60 : cases.Line60
+line77 : cases.Line77
 unfolding computed
-line60 = refl
+line77 = refl
 
-line67 : cases.Line67
+line81 : cases.Line81
 unfolding computed
-line67 = refl
+line81 = refl
 
-line96 : cases.Line96
+line162 : cases.Line162
 unfolding computed
-line96 = refl
+line162 = refl
 
-line179 : cases.Line179
+line263 : cases.Line263
 unfolding computed
-line179 = refl
-
-line272 : cases.Line272
-unfolding computed
-line272 = refl
+line263 = refl
 
 line308 : cases.Line308
 unfolding computed
 line308 = refl
 
-line377 : cases.Line377
+line363 : cases.Line363
 unfolding computed
-line377 = refl
+line363 = refl
 
-line384 : cases.Line384
+line364 : cases.Line364
 unfolding computed
-line384 = refl
+line364 = refl
 
-line467 : cases.Line467
+line418 : cases.Line418
 unfolding computed
-line467 = refl
+line418 = refl
 
-line483 : cases.Line483
+line453 : cases.Line453
 unfolding computed
-line483 = refl
+line453 = refl
 
-line551 : cases.Line551
+line475 : cases.Line475
 unfolding computed
-line551 = refl
+line475 = refl
 
-line557 : cases.Line557
+line484 : cases.Line484
 unfolding computed
-line557 = refl
+line484 = refl
 
-line582 : cases.Line582
+line486 : cases.Line486
 unfolding computed
-line582 = refl
+line486 = refl
 
-line593 : cases.Line593
+line511 : cases.Line511
 unfolding computed
-line593 = refl
+line511 = refl
 
-line614 : cases.Line614
+line512 : cases.Line512
 unfolding computed
-line614 = refl
+line512 = refl
 
-line625 : cases.Line625
+line521 : cases.Line521
 unfolding computed
-line625 = refl
+line521 = refl
 
-line655 : cases.Line655
+line556 : cases.Line556
 unfolding computed
-line655 = refl
+line556 = refl
 
-line719 : cases.Line719
+line586 : cases.Line586
 unfolding computed
-line719 = refl
+line586 = refl
 
-line721 : cases.Line721
+line592 : cases.Line592
 unfolding computed
-line721 = refl
+line592 = refl
+
+line603 : cases.Line603
+unfolding computed
+line603 = refl
+
+line604 : cases.Line604
+unfolding computed
+line604 = refl
+
+line605 : cases.Line605
+unfolding computed
+line605 = refl
+
+line608 : cases.Line608
+unfolding computed
+line608 = refl
+
+line617 : cases.Line617
+unfolding computed
+line617 = refl
+
+line644 : cases.Line644
+unfolding computed
+line644 = refl
+
+line682 : cases.Line682
+unfolding computed
+line682 = refl
+
+line753 : cases.Line753
+unfolding computed
+line753 = refl
+
+line764 : cases.Line764
+unfolding computed
+line764 = refl
 
 line767 : cases.Line767
 unfolding computed
 line767 = refl
 
-line836 : cases.Line836
+line769 : cases.Line769
 unfolding computed
-line836 = refl
+line769 = refl
 
-line837 : cases.Line837
+line813 : cases.Line813
 unfolding computed
-line837 = refl
+line813 = refl
 
-line838 : cases.Line838
+line862 : cases.Line862
 unfolding computed
-line838 = refl
+line862 = refl
 
-line839 : cases.Line839
+line873 : cases.Line873
 unfolding computed
-line839 = refl
+line873 = refl
 
-line872 : cases.Line872
+line939 : cases.Line939
 unfolding computed
-line872 = refl
+line939 = refl
+
+line961 : cases.Line961
+unfolding computed
+line961 = refl
 
 line967 : cases.Line967
 unfolding computed
 line967 = refl
 
-line993 : cases.Line993
+line969 : cases.Line969
 unfolding computed
-line993 = refl
+line969 = refl
 
-line995 : cases.Line995
+line970 : cases.Line970
 unfolding computed
-line995 = refl
+line970 = refl
 
-line1023 : cases.Line1023
+line990 : cases.Line990
 unfolding computed
-line1023 = refl
+line990 = refl
 
-line1060 : cases.Line1060
+line1049 : cases.Line1049
 unfolding computed
-line1060 = refl
+line1049 = refl
 
-line1066 : cases.Line1066
+line1160 : cases.Line1160
 unfolding computed
-line1066 = refl
+line1160 = refl
 
-line1067 : cases.Line1067
+line1180 : cases.Line1180
 unfolding computed
-line1067 = refl
-
-line1103 : cases.Line1103
-unfolding computed
-line1103 = refl
-
-line1107 : cases.Line1107
-unfolding computed
-line1107 = refl
-
-line1146 : cases.Line1146
-unfolding computed
-line1146 = refl
-
-line1149 : cases.Line1149
-unfolding computed
-line1149 = refl
-
-line1153 : cases.Line1153
-unfolding computed
-line1153 = refl
-
-line1190 : cases.Line1190
-unfolding computed
-line1190 = refl
-
-line1192 : cases.Line1192
-unfolding computed
-line1192 = refl
+line1180 = refl
 
 week2 : cases.Week2
 unfolding computed

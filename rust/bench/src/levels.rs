@@ -42,8 +42,10 @@ pub struct Lamination {
     pub level: u64,
 }
 
-/// The levels at an hour: of each key the highest issue whose first hour has come counts. A refusal
-/// is the one of [`accept`](crate::accept), or 20 where the profile of the hour has no fuel in force.
+/// The levels at an hour: of each key the highest issue whose first hour has come counts. Payments to
+/// third parties (cost 4) are withdrawn, and no level has them; [`report`](crate::report()) tells how
+/// many there are. A refusal is the one of [`accept`](crate::accept), or 20 where the profile of the
+/// hour has no fuel in force.
 ///
 /// ```
 /// # mod r1 { include!(concat!(env!("CARGO_MANIFEST_DIR"), "/doc/r1.rs")); }

@@ -36,7 +36,7 @@
 //! - [`accept`]: whether the dossier is one that levels can be worked out from.
 //! - [`levels`] and [`levels_into`]: the levels at an hour, as a struct or as words.
 //! - [`energy_test`] and [`price_test`]: whether an offer passes the conduct test at an hour.
-//! - [`report`]: the levels at an hour as lines of text.
+//! - [`report`]: the levels at an hour as lines of text, and how many withdrawn payments there are.
 //! - [`week`] and [`week_into`]: a battery's charging week, as a struct or in two lists.
 //! - [`current`]: where the current record of a mark and key lies.
 //!

@@ -3,10 +3,11 @@
 use crate::{raw, Refusal, Word};
 
 /// A buffer of this many bytes holds every report.
-pub const REPORT_BYTES: usize = 2_283;
+pub const REPORT_BYTES: usize = 2_312;
 
 /// Writes the report at an hour to the first bytes of a lent buffer and gives its length; bytes past
-/// it stay. The report is ASCII, levels in dollars and ends of laminations in MW.
+/// it stay. The report is ASCII, levels in dollars and ends of laminations in MW. Its last line counts
+/// the third-party payments (cost 4) in force at the hour in its profile, which no level has.
 ///
 /// Beside what [`levels`](crate::levels()) refuses, it refuses a buffer that the report doesn't fit
 /// (15), which one of [`REPORT_BYTES`] never is. A refused call leaves every byte.
@@ -23,8 +24,24 @@ pub const REPORT_BYTES: usize = 2_283;
 ///      energy 1 0.0 100.0 42.30\n\
 ///      start 3300.00\n\
 ///      no-load 500.00\n\
-///      reserve 0.25\n"
+///      reserve 0.25\n\
+///      retired 0\n"
 /// );
+/// # Ok::<(), bench::Refusal>(())
+/// ```
+///
+/// A payment that an old dossier holds is accepted, and counted:
+///
+/// ```
+/// # mod r1 { include!(concat!(env!("CARGO_MANIFEST_DIR"), "/doc/r1.rs")); }
+/// # use r1::{dossier, record};
+/// let paid = record(b"AD", 1, &[(1, 1), (1, 4), (1, 1), (8, 2_000_000)]);
+/// let longer = [dossier(), paid].concat();
+/// assert_eq!(bench::levels(&longer, 0), bench::levels(&dossier(), 0));
+///
+/// let mut buffer = [0; bench::REPORT_BYTES];
+/// let length = bench::report(&longer, 0, &mut buffer)?;
+/// assert!(buffer[..length].ends_with(b"\nreserve 0.25\nretired 1\n"));
 /// # Ok::<(), bench::Refusal>(())
 /// ```
 pub fn report(dossier: &[u8], hour: u32, buffer: &mut [u8]) -> Result<usize, Refusal> {

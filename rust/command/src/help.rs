@@ -68,8 +68,9 @@ pub const LEVELS: &str = "\
 bench levels [FILE...] --hour H [--together] [--json | --csv]
 
 Prints the report of an hour, 0 to 4294967295: the profile, each lamination of energy with its ends in
-MW and its level, and the other levels that the station holds, in dollars. Of many files each gets a
-line; with --together they are one station. --csv writes a table with a row for each level.
+MW and its level, and the other levels that the station holds, in dollars; last, how many third-party
+payments are in force, which are withdrawn (retired N). Of many files each gets a line; with --together
+they are one station. --csv writes a table with a row for each level.
 ";
 
 pub const EXPLAIN: &str = "\
@@ -79,7 +80,8 @@ Shows each level of an hour term by term: fuel, emission, each adder and mainten
 charging and opportunity side, a river station's place in the forecast, each with its records; then the
 sum in micro-dollars and the level in cents. L is energy, start, no-load or reserve. The terms are held
 against the library's level; where they don't add up to it, the answer says so and the status is 2.
-A cost that doesn't count at every hour has the hours in which it does; costs that lie ahead stand last.
+A third-party payment is withdrawn: it is there with 0, and with what was claimed. A cost that doesn't
+count at every hour has the hours in which it does; costs that lie ahead stand last.
 ";
 
 pub const TEST: &str = "\

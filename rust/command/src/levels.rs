@@ -23,9 +23,9 @@ fn levels(input: &Input, hour: u32) -> Said {
         Ok((levels, report)) => Said {
             status: Status::Done,
             counts_as: "with levels",
-            line: line(&levels),
+            line: format!("{}; retired {}", line(&levels), retired(&report)),
+            json: json(hour, &levels).with("retired", Json::whole(retired(&report))),
             words: report,
-            json: json(hour, &levels),
         },
         Err(refusal) => refused(&of_hour(refusal, dossier, lines, hour)).with(at(hour)),
     }
@@ -41,6 +41,13 @@ fn report(dossier: &[u8], hour: u32) -> Result<String, Refusal> {
     let mut buffer = [0; bench::REPORT_BYTES];
     let length = bench::report(dossier, hour, &mut buffer)?;
     Ok(String::from_utf8_lossy(&buffer[..length]).into_owned())
+}
+
+/// What the last line of a report counts: third-party payments in force, which no level has.
+fn retired(report: &str) -> usize {
+    let last = report.lines().last();
+    let count = last.and_then(|line| line.strip_prefix("retired ")?.parse().ok());
+    count.expect("a report of the library ends with what is retired")
 }
 
 /// A level in dollars.

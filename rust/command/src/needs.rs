@@ -85,7 +85,9 @@ const REQUESTS: Need = may(
 
 const FUEL: &str =
     "one for profile 1 and one for each profile that a request names; an FV does as well";
-const ADDERS: &str = "one for each profile, cost and level that has such an amount";
+const ADDERS: &str =
+    "one for each profile, cost and level that has such an amount; third-party ones are withdrawn \
+    and join no level";
 const ITEMS: &str = "up to 8 for each profile";
 const DATED_FUEL: &str =
     "one for each change of a profile's fuel that is known ahead; hours before the first fuel of \

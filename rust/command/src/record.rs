@@ -88,6 +88,11 @@ impl Record<'_> {
         }
     }
 
+    /// Whether it is a payment to a third party: these are withdrawn, and join no level.
+    pub fn is_withdrawn(&self) -> bool {
+        self.mark.of == "AD" && self.value("cost") == "third-party"
+    }
+
     /// Mark, key and issue: what no two records may share, under either mark of a key.
     pub fn claim(&self) -> ((&'static str, u32), i128) {
         (self.of_key(), self.get("issue"))
@@ -134,6 +139,17 @@ mod tests {
         let text = "AV issue=3 first=7320 profile=2 cost=consumables level=reserve amount=0.000005";
         assert_eq!(record.text(), text);
         assert_eq!(records(LINE).next().expect("a record").first_hour(), 0);
+    }
+
+    #[test]
+    fn payments_to_third_parties_are_withdrawn() {
+        for (cost, withdrawn) in [(3, false), (4, true), (5, false)] {
+            let mut dated = DATED.to_vec();
+            dated[11] = cost;
+            let record = records(&dated).next().expect("a record");
+            assert_eq!(record.is_withdrawn(), withdrawn);
+        }
+        assert!(!records(LINE).next().expect("a record").is_withdrawn());
     }
 
     #[test]

@@ -104,6 +104,8 @@ pub struct Ahead {
     pub first: u32,
     /// The levels that it joins.
     pub levels: Vec<u8>,
+    /// Whether it joins them with nothing.
+    pub withdrawn: bool,
     pub record: Standing,
 }
 
@@ -219,6 +221,7 @@ impl Ahead {
         Ahead {
             first: record.first_hour(),
             levels: costs::joined(record),
+            withdrawn: record.is_withdrawn(),
             record: standing(record, &input.lines),
         }
     }

@@ -34,12 +34,24 @@ impl<'s, 'a> Costs<'s, 'a> {
         })
     }
 
-    /// The AD amounts of one level.
-    pub fn additions<M: Money>(&self, level: u8) -> M {
-        let (profile, level) = (i128::from(self.profile), i128::from(level));
+    /// The profile's AD records: third-party payments, which are withdrawn, or the others.
+    fn adders(&self, withdrawn: bool) -> impl Iterator<Item = &Record<'a>> {
+        let profile = i128::from(self.profile);
         let records = self.in_force.of_mark(b"AD");
-        let mine = records.filter(|r| r.get(ad::PROFILE) == profile && r.get(ad::LEVEL) == level);
+        let mine = records.filter(move |r| r.get(ad::PROFILE) == profile);
+        mine.filter(move |r| (r.get(ad::COST) == ad::THIRD_PARTY) == withdrawn)
+    }
+
+    /// The AD amounts that join one level.
+    pub fn additions<M: Money>(&self, level: u8) -> M {
+        let adders = self.adders(false);
+        let mine = adders.filter(|r| r.get(ad::LEVEL) == i128::from(level));
         total(mine.map(|r| M::quotient(r.amount(ad::AMOUNT), 1)))
+    }
+
+    /// How many third-party payments are in force, whatever their level and amount.
+    pub fn retired(&self) -> usize {
+        self.adders(true).count()
     }
 
     /// The profile's MM records, each with its own division.

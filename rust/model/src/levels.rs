@@ -133,6 +133,11 @@ pub fn levels_of(station: &Station, hour: u32) -> Result<Levels<u64>, Refusal> {
     Ok(reckon(station, hour)?.map(Micro::cents))
 }
 
+/// How many third-party payments are in force at an hour in its profile: no level has them.
+pub fn retired(station: &Station, hour: u32) -> Result<usize, Refusal> {
+    Costs::at(station, hour).map(|costs| costs.retired())
+}
+
 /// The levels of an accepted dossier, each a finished sum, or 20.
 pub fn reckon<M: Money>(station: &Station, hour: u32) -> Result<Levels<M>, Refusal> {
     let costs = Costs::at(station, hour)?;

@@ -1,5 +1,5 @@
-//! Document 01 with requests 1 to 3, 6 and 8 of document 02 in plain Rust: a dossier's acceptance, its
-//! levels, the conduct test, the report and the charging week.
+//! Document 01 with requests 1 to 3, 6, 8 and 10 of document 02 in plain Rust: a dossier's
+//! acceptance, its levels, the conduct test, the report and the charging week.
 //!
 //! Bench is run against this crate. It is written to be read beside the papers, goes over a dossier
 //! once for each question, and shares no code with Bench. The functions named at the end of this

@@ -1,8 +1,9 @@
 //! A seeded maker of test dossiers, hours, offers and prices.
 //!
 //! Sound dossiers (`sound`) are accepted; damaged ones (`damage`) draw the number they aim at; some
-//! are written out (`written`, `forecast`, `idle`, `nearest`, `dated`) or made to a length (`sized`).
-//! The offers and prices (`offers`) crowd around the floors and limits of the dossier they are put to.
+//! are written out (`written`, `forecast`, `idle`, `nearest`, `dated`, `withdrawn`) or made to a
+//! length (`sized`). The offers and prices (`offers`) crowd around the floors and limits of the
+//! dossier they are put to.
 
 pub mod damage;
 pub mod dated;
@@ -16,6 +17,7 @@ pub mod small;
 pub mod sound;
 mod stations;
 mod unfit;
+pub mod withdrawn;
 pub mod written;
 
 use crate::random::Random;
@@ -150,13 +152,15 @@ fn reconcile(record: &mut [u8]) {
     }
 }
 
-/// Written dossiers at the edges of forecasts, of idle weeks, of divisions and of first hours.
+/// Written dossiers at the edges of forecasts, of idle weeks, of divisions, of first hours and of
+/// payments that are withdrawn.
 pub fn edges() -> Vec<Vec<u8>> {
     [
         forecast::edges(),
         idle::edges(),
         nearest::edges(),
         dated::edges(),
+        withdrawn::edges(),
     ]
     .concat()
 }

@@ -1,10 +1,19 @@
 //! "Report": the lines, the lent buffer, and what the program `levels` prints.
 
-use crate::levels::{levels, Levels};
+use crate::accept::accepted;
+use crate::levels::{levels_of, retired, Levels};
 use crate::{refuse, Refusal};
 
 /// The report's bytes, every line ended by byte 10.
-pub fn text(levels: &Levels<u64>) -> Vec<u8> {
+pub fn text(dossier: &[u8], hour: u32) -> Result<Vec<u8>, Refusal> {
+    let station = accepted(dossier)?;
+    let lines = level_lines(&levels_of(&station, hour)?);
+    let retired = retired(&station, hour)?;
+    Ok(format!("{lines}retired {retired}\n").into_bytes())
+}
+
+/// The lines of the profile and its levels, which the last line of a report follows.
+pub fn level_lines(levels: &Levels<u64>) -> String {
     let mut lines = format!("profile {}\n", levels.profile);
     for (number, step) in (1..).zip(&levels.energy) {
         let (from, to) = (megawatts(step.from), megawatts(step.to));
@@ -15,7 +24,7 @@ pub fn text(levels: &Levels<u64>) -> Vec<u8> {
         let name = ["start", "no-load", "reserve"][usize::from(number) - 2];
         lines += &format!("{name} {}\n", dollars(*level));
     }
-    lines.into_bytes()
+    lines
 }
 
 fn megawatts(tenths: u16) -> String {
@@ -29,7 +38,7 @@ fn dollars(cents: u64) -> String {
 /// Writes the report to the buffer's first bytes and gives its length. A refused call, 15 for a
 /// short buffer among them, leaves every byte.
 pub fn report(dossier: &[u8], hour: u32, buffer: &mut [u8]) -> Result<usize, Refusal> {
-    let text = text(&levels(dossier, hour)?);
+    let text = text(dossier, hour)?;
     match buffer.get_mut(..text.len()) {
         Some(head) => head.copy_from_slice(&text),
         None => return refuse(15, 0),
@@ -51,8 +60,5 @@ pub fn program(input: &[u8]) -> Vec<u8> {
         });
     };
     let hour = u32::from_be_bytes(*hour);
-    match levels(dossier, hour) {
-        Ok(levels) => text(&levels),
-        Err(refusal) => refusal_line(refusal),
-    }
+    text(dossier, hour).unwrap_or_else(refusal_line)
 }

@@ -46,6 +46,8 @@ pub mod ad {
     pub const COST: Field = PROFILE.next(1, 1, 5).key();
     pub const LEVEL: Field = COST.next(1, 1, 4).key();
     pub const AMOUNT: Field = LEVEL.next(8, 0, 1_000_000_000_000).money();
+    /// Payments to third parties, which are withdrawn: their amounts join no level.
+    pub const THIRD_PARTY: i128 = 4;
     /// The prorated start-up cost.
     pub const PRORATED: i128 = 5;
 }

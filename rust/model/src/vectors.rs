@@ -88,7 +88,7 @@ pub fn read() -> Vec<Vector> {
         let path = format!("{folder}/{name}");
         std::fs::read_to_string(&path).expect(&path)
     };
-    let texts = ["request-8.txt", "week.txt"].map(text);
+    let texts = ["request-10.txt", "week.txt"].map(text);
     let vectors = texts.iter().flat_map(|t| t.lines()).map(vector);
     vectors.filter(|vector| !vector.is_overtaken()).collect()
 }

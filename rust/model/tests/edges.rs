@@ -92,12 +92,12 @@ fn the_largest_levels() {
     records.extend((1..=8).map(|i| record(b"MM", 1, &[1, i, ten_to_11, 1, 1, 10_000])));
     let dossier = records.concat();
     let levels = levels(&dossier, 0).unwrap();
-    // 1.6×10^14 fuel + 8×10^13 emission + 8×10^16 MM + 4×10^12 AD, in micro-dollars
-    assert_eq!(levels.energy[0].level, 8_024_400_000_000);
-    // 1.6×10^13 + 8×10^12 + 8×10^18 + 4×10^12
-    assert_eq!(levels.start, Some(800_002_800_000_000));
-    assert_eq!(levels.no_load, Some(2_800_000_000));
-    assert_eq!(levels.reserve, Some(400_000_000));
+    // 1.6×10^14 fuel + 8×10^13 emission + 8×10^16 MM + 3×10^12 AD, in micro-dollars; cost 4 joins none
+    assert_eq!(levels.energy[0].level, 8_024_300_000_000);
+    // 1.6×10^13 + 8×10^12 + 8×10^18 + 3×10^12
+    assert_eq!(levels.start, Some(800_002_700_000_000));
+    assert_eq!(levels.no_load, Some(2_700_000_000));
+    assert_eq!(levels.reserve, Some(300_000_000));
     assert!(all_near(&levels, &exact_levels(&dossier, 0).unwrap()));
 }
 

@@ -92,12 +92,12 @@ fn additions_maintenance_and_reserve() {
         record(b"MM", 1, &[1, 1, 200_000_000, 1_000, 25_000, 0]),
     ];
     // 10.00 + 1.50 + 0.80
-    let lines = b"profile 1\nenergy 1 0.0 100.0 12.30\nreserve 0.25\n";
+    let lines = b"profile 1\nenergy 1 0.0 100.0 12.30\nreserve 0.25\nretired 0\n";
     assert_eq!(
         program(&with(vec![0; 4], &[plain(), costs.concat()])),
         lines
     );
-    let bare = b"profile 1\nenergy 1 0.0 100.0 10.00\nreserve 0.00\n";
+    let bare = b"profile 1\nenergy 1 0.0 100.0 10.00\nreserve 0.00\nretired 0\n";
     assert_eq!(program(&with(vec![0; 4], &[plain()])), bare);
 }
 

@@ -15,6 +15,7 @@ const fn fails(pair: usize, lamination: usize) -> Verdict {
     Verdict::Fails(Failing { pair, lamination })
 }
 
+/// The line behind them is that of request 10.
 #[test]
 fn m1_five_lines() {
     let mut buffer = [b'x'; 100];

@@ -2,6 +2,7 @@
 
 use crate::refusal;
 use model::cases::{run, same, seed, Check};
+use model::dossier::{records, Record};
 use model::exact::{all_near, exact_levels};
 use model::levels::{Lamination, Levels};
 use model::make::nearest::terms;
@@ -10,8 +11,8 @@ use model::make::{self, sound};
 use model::memo::{examples, made_weeks, told, written_weeks};
 use model::raise::{none_lower, raised};
 use model::random::Random;
-use model::report::text;
-use model::table::Technology;
+use model::report::level_lines;
+use model::table::{ad, Technology};
 use model::vectors::{read, Vector};
 use model::{refuse, Refusal};
 
@@ -181,6 +182,29 @@ fn a_raise_lowers_no_level() {
     });
 }
 
+/// A station has the levels that it has without its payments, whatever these come to: raised they move
+/// no level.
+#[test]
+fn payments_join_no_level() {
+    let is_payment = |r: &Record| r.kind.of == *b"AD" && r.get(ad::COST) == ad::THIRD_PARTY;
+    let make = |random: &mut Random| sound::sound(random).bytes();
+    run("payments", 20_000, make, |random, dossier| {
+        let hour = make::hour(random, dossier);
+        let (mut without, mut raised) = (Vec::new(), dossier.to_vec());
+        for record in records(dossier).expect("a sound dossier") {
+            if is_payment(&record) {
+                let amount = record.kind.fields.last().expect("an amount");
+                amount.write(&mut raised[record.start..], amount.highest);
+            } else {
+                without.extend(record.bytes);
+            }
+        }
+        let levels = model_levels(dossier, hour);
+        same("without them", model_levels(&without, hour), levels.clone())?;
+        same("with more", model_levels(&raised, hour), levels)
+    });
+}
+
 #[test]
 fn edges() {
     for points in 2..=22 {
@@ -207,7 +231,9 @@ fn every_vector() {
         if output.starts_with(b"profile") {
             let (hour, dossier) = input.split_first_chunk().expect("an hour");
             let levels = model_levels(dossier, u32::from_be_bytes(*hour));
-            assert_eq!(text(&levels.unwrap()), *output, "{vector:?}");
+            // the last line counts what no level has
+            let lines = level_lines(&levels.unwrap()) + "retired ";
+            assert!(output.starts_with(lines.as_bytes()), "{vector:?}");
         }
     }
 }

@@ -2,6 +2,7 @@
 
 use crate::refusal;
 use model::cases::{run, same, Check};
+use model::make::withdrawn::{payment, stations};
 use model::make::written::{r1, R1_LINES};
 use model::make::{self, sound};
 use model::random::Random;
@@ -22,7 +23,7 @@ fn check_buffer(random: &mut Random, dossier: &[u8], hour: u32, length: usize) -
 /// Buffers just too short, just long enough, and far from either.
 fn check(random: &mut Random, dossier: &[u8]) -> Check {
     let hour = make::hour(random, dossier);
-    let length = model::levels(dossier, hour).map_or(3, |levels| text(&levels).len());
+    let length = text(dossier, hour).map_or(3, |text| text.len());
     let far = random.spread(0, 2_000) as usize;
     for length in [length - 1, length, length + 1, far] {
         check_buffer(random, dossier, hour, length)?;
@@ -41,8 +42,9 @@ fn every_length_of_a_buffer() {
     for n in 0..20 {
         let technology = TECHNOLOGIES[n % TECHNOLOGIES.len()];
         let dossier = sound::with_levels_at(&mut random, technology, 0).bytes();
-        let length = text(&model::levels(&dossier, 0).unwrap()).len();
-        for length in 0..length + 20 {
+        let length = text(&dossier, 0).unwrap().len();
+        let enough = bench::REPORT_BYTES;
+        for length in (0..length + 20).chain(enough - 1..enough + 2) {
             check_buffer(&mut random, &dossier, 0, length).unwrap();
         }
     }
@@ -54,6 +56,21 @@ fn r1_byte_for_byte() {
     assert_eq!(bench::report(&r1(), 0, &mut buffer), Ok(R1_LINES.len()));
     assert!(buffer.starts_with(R1_LINES));
     assert!(buffer[R1_LINES.len()..].iter().all(|byte| *byte == b'x'));
+}
+
+/// The last line: one payment for each level that has one.
+#[test]
+fn retired_payments() {
+    for (technology, mut dossier) in stations() {
+        for (count, level) in (1..).zip(technology.levels()) {
+            dossier.extend(payment(1, 1, *level, 1_000_000_000_000));
+            let mut buffer = [b'x'; bench::REPORT_BYTES];
+            let length = bench::report(&dossier, 0, &mut buffer).unwrap();
+            let line = format!("\nretired {count}\n");
+            assert!(buffer[..length].ends_with(line.as_bytes()));
+            check(&mut Random::new(0), &dossier).unwrap();
+        }
+    }
 }
 
 #[test]

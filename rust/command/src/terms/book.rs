@@ -79,8 +79,8 @@ impl<'a> Book<'a> {
         all
     }
 
-    /// The amounts that join a level. Where some no longer join any, or an owner has its own, this
-    /// is where they are told apart.
+    /// The adders of a level, among them those that are withdrawn. Where an owner has its own, this is
+    /// where they are told apart.
     pub fn adders(&self, level: u8) -> Vec<Record<'a>> {
         let mut adders = self.of_profile("AD");
         adders.retain(|r| r.get("level") == i128::from(level));
@@ -96,11 +96,12 @@ impl<'a> Book<'a> {
         prices
     }
 
-    /// The records of the hour's profile that count for the first time at this hour.
+    /// The records of the hour's profile that join a level for the first time at this hour.
     pub fn begun(&self) -> Vec<Record<'a>> {
         let costs = ["FU", "AD", "MM"].map(|letters| self.of_profile(letters));
         let begins = |r: &Record| r.mark.is_dated() && r.first_hour() == self.hour;
-        costs.concat().into_iter().filter(begins).collect()
+        let joins = |r: &Record| begins(r) && !r.is_withdrawn();
+        costs.concat().into_iter().filter(joins).collect()
     }
 
     /// The records of the hour's profile that will count, by their first hours.

@@ -1,5 +1,6 @@
-//! The formulas of document 01, "From records to levels", with those of requests 1 to 3 of document
-//! 02, in micro-dollars: every division to the nearest, half up.
+//! The formulas of document 01, "From records to levels", with those of requests 1 to 3 and 10 of
+//! document 02, in micro-dollars: every division to the nearest, half up, and no payment to a third
+//! party.
 
 use super::book::Book;
 use super::charging::Charged;
@@ -44,8 +45,8 @@ pub fn levels(book: &Book) -> Vec<Level> {
     }
 }
 
-/// The levels that a dated cost may join: fuel all but reserve, an adder its own, an item energy and
-/// starts.
+/// The levels that a dated cost may join: fuel all but reserve, an adder its own, though it joins with
+/// nothing where it is withdrawn, an item energy and starts.
 pub fn joined(record: &Record) -> Vec<u8> {
     match record.mark.of {
         "FU" => vec![ENERGY, START, NO_LOAD],
@@ -82,9 +83,15 @@ impl Costs<'_, '_> {
         }
     }
 
-    /// The adders of a level.
+    /// The adders of a level; one that is withdrawn joins with nothing.
     fn added(&self, level: u8) -> Vec<Term> {
-        let term = |r: &Record| self.term(&r.value("cost"), r.get("amount"), String::new(), &[*r]);
+        let term = |r: &Record| {
+            let (amount, working) = match r.is_withdrawn() {
+                true => (0, format!("withdrawn: {} was claimed", r.value("amount"))),
+                false => (r.get("amount"), String::new()),
+            };
+            self.term(&r.value("cost"), amount, working, &[*r])
+        };
         self.book.adders(level).iter().map(term).collect()
     }
 

@@ -87,7 +87,8 @@ impl Explanation {
         let told = self.ahead.iter().take(MOST);
         let told = told.map(|ahead| {
             let (first, record) = (ahead.first, ahead.record.short());
-            format!("  from hour {first} on: {record}\n")
+            let withdrawn = if ahead.withdrawn { ", withdrawn" } else { "" };
+            format!("  from hour {first} on: {record}{withdrawn}\n")
         });
         let more = match self.ahead.len().saturating_sub(MOST) {
             0 => String::new(),

@@ -102,7 +102,7 @@ pub fn at_half_cent(random: &mut Random) -> Vec<u8> {
     let mut draft = with_levels_at(random, technology, 0);
     let level = random.pick(draft.technology.levels());
     let profile = profile_at(&accepted(&draft.bytes()).expect("sound"), 0);
-    let cost = random.between(1, 4);
+    let cost = random.between(1, ad::THIRD_PARTY - 1);
     draft.remove(b"AD", &[profile, cost as u8, level]);
     let amount = random.spread(0, 300_000_000);
     let fields = [profile.into(), cost, level.into(), amount];

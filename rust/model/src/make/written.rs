@@ -40,7 +40,8 @@ pub const R1_LINES: &[u8] = b"profile 1\n\
     energy 1 0.0 100.0 42.30\n\
     start 3300.00\n\
     no-load 500.00\n\
-    reserve 0.25\n";
+    reserve 0.25\n\
+    retired 0\n";
 
 /// A thermal station whose heat rises by `step` from each of its points to the next.
 pub fn evenly_rising(points: i128, step: i128) -> Vec<u8> {
