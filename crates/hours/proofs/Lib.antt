@@ -1,5 +1,6 @@
 pub mod Emptied
 pub mod Marks
+pub mod Turn
 pub mod Filled
 pub mod Undated
 pub mod Loop

@@ -1,6 +1,6 @@
 -- What code reads of a record by its mark: where its fields begin, the hour from which it counts, and its slot.
 use mathlib.Core.Path.{_≡_, refl, sym, _∙_}
-use mathlib.Core.Bool.{Bool, true, false, cond}
+use mathlib.Core.Bool.{Bool, true, false}
 use mathlib.Core.List.{List}
 use Prim.Native.Nat.{ℕ, _+_, _*_, _≤_, _<_}
 use native.Mathlib.Omega.{arith}
@@ -26,13 +26,6 @@ high-dated k l h =
     (λ w. absurd (omega arith)) (λ w. absurd (omega arith)) (λ w. absurd (omega arith)) (λ w. absurd (omega arith)) (λ w. absurd (omega arith))
     (λ w. absurd (omega arith)) (λ w. absurd (omega arith)) (λ w. refl) (λ w. refl) (λ w. refl) k (λ z. absurd (omega arith)) l refl
 
--- the hour from which a record counts, x being read where a first hour lies
-pub low-since : (k x : ℕ) → k < marks → k ≤ LC → 0 ≡ cond (isDated k) x 0
-low-since k x l h = rw (low-undated k l h) refl
-
-pub high-since : (k : ℕ) {x y : ℕ} → k < marks → LC < k → y ≡ x → y ≡ cond (isDated k) x 0
-high-since k l h e = e ∙ rw (high-dated k l h) refl
-
 pub fields-most : (k : ℕ) → fieldsAt k ≤ 10
 fields-most k = go (isDated k) refl
   where
@@ -47,7 +40,7 @@ width-kind : (m k : ℕ) → kindOf m ≡ k → keyWidth m ≡ keyWidth k
 unfolding keyWidth
 width-kind m k e = rw (kind-fields m, e) refl
 
-not-datable : (k : ℕ) → 1 ≤ k → k < kinds → (k ≡ FU → ⊥) → (k ≡ AD → ⊥) → (k ≡ MM → ⊥) → datable k ≡ false
+pub not-datable : (k : ℕ) → 1 ≤ k → k < kinds → (k ≡ FU → ⊥) → (k ≡ AD → ⊥) → (k ≡ MM → ⊥) → datable k ≡ false
 unfolding datable among table
 not-datable k p q x y z =
     by-kind (λ j. k ≡ j → datable j ≡ false) (λ w. refl) (λ w. refl) (λ w. absurd (x w)) (λ w. absurd (y w)) (λ w. absurd (z w)) (λ w. refl) (λ w. refl)

@@ -28,8 +28,9 @@ use Rattle.index.specs.Holding.{heldRecord, IndexOf}
 use Rattle.index.proofs.KeyBounds.{InKey, key-test, test-key}
 use Rattle.index.proofs.Slots.{early}
 use Rattle.index.proofs.Holds.{Good, good-records}
-use Rattle.lookup.specs.Parts.{partAt, bodyAt, Whole, AtHour, Indexed, stands, held, parametersHeld, amountsHeld}
-use Rattle.lookup.proofs.Parts.{fits, none-current, unmatched, index-part, index-body, index-tells, index-in-empty, whole-index}
+use Rattle.lookup.specs.Parts.{partAt, bodyAt, RecordIn, BodyIn, Whole, AtHour, Indexed, stands, held, parametersHeld, amountsHeld}
+use Rattle.lookup.proofs.Parts.{fits, none-current, unmatched, index-part, index-inside, index-body, index-body-inside, index-tells, index-in-empty}
+use Rattle.lookup.proofs.Parts.{whole-index}
 use Rattle.lookup.proofs.Those.{all-those, Tells, found, nothing}
 
 -- a kind that may have first hours has slots in every index
@@ -127,12 +128,22 @@ module _ {d ix : List ℕ} (h : Indexed d ix) where
     pub part-is : InKey k n → slot k n < length ix → datable k ≡ false → {j len : ℕ} → j ≡ slot k n → len ≡ size k → partAt d ix j len ≡ current k n (records d)
     part-is i fit u p q = index-part (h .index) some-good k n i fit u p q ∙ always u (h .keep) (h .others)
 
+    -- and it lies in the dossier
+    pub record-in : InKey k n → slot k n < length ix → datable k ≡ false → {j len : ℕ} → j ≡ slot k n → len ≡ size k → RecordIn d (getD ix j 0) len
+    record-in i fit u p q = index-inside (h .index) some-good k n i fit u p q
+
     module _ (b : early k ≡ true) (i : InKey k n) where
       pub slot-fits : {j : ℕ} → j ≡ slot k n → j < length ix
       slot-fits a = rw a (fits ix (h .index .roomy) k n i b)
 
       pub part-found : datable k ≡ false → {j len : ℕ} → j ≡ slot k n → len ≡ size k → partAt d ix j len ≡ current k n (records d)
       part-found = part-is i (slot-fits refl)
+
+      pub record-inside : datable k ≡ false → {j len : ℕ} → j ≡ slot k n → len ≡ size k → RecordIn d (getD ix j 0) len
+      record-inside = record-in i (slot-fits refl)
+
+      pub body-inside : {j len : ℕ} → j ≡ slot k n → len ≡ size k → BodyIn d (getD ix j 0) len
+      body-inside p q = index-body-inside (h .index) some-good k n i (slot-fits refl) p q
 
       pub body-found : {j len : ℕ} → j ≡ slot k n → len ≡ size k → bodyAt d ix j len ≡ body (current k n (held d ix))
       body-found p q = index-body (h .index) some-good k n i (slot-fits refl) p q ∙ ap body (sym current-some)

@@ -24,7 +24,8 @@ use Rattle.index.specs.declared.Passed.{Passed}
 use Rattle.index.specs.declared.Passed.the-variants.{Ended, Stopped}
 use Rattle.index.specs.Slots.{short, wide, Kept, kept, fresh, keepStep, passOf, slotsOf}
 use Rattle.index.proofs.Holds.{rising-twins, top-slots, folded-length}
-use Rattle.lookup.specs.Parts.{scanned, indexOf, Whole, Complete, UpTo, Undated}
+use Rattle.lookup.specs.Parts.{scanned, indexOf, Whole, Complete, UpTo}
+use Rattle.station.specs.InForce.{Undated}
 
 after : (d : List ℕ) → length d ≤ 60000 → readable d ≡ orElse (scan 0 (records d)) (twins 0 [] (records d))
 unfolding readable refuseIf orElse

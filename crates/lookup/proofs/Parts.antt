@@ -31,8 +31,8 @@ use Rattle.index.proofs.KeyBounds.{Spans, InKey, at-kind, in-key, key-test, tes
 use Rattle.index.proofs.Slots.{slot-lt, early, slot-short, slot-narrow, in-empty}
 use Rattle.index.proofs.Holds.{Holds, absent, there, Good, good-records, index-holds}
 use Rattle.lookup.specs.declared.Part.{Part}
-use Rattle.lookup.specs.Parts.{part, partBytes, currentPart, indexOf, placeIn, placeAt, partAt, bodyIn, bodyAt, recordPart, Whole, Complete}
-use Rattle.lookup.specs.Parts.{UpTo, slotsFor}
+use Rattle.lookup.specs.Parts.{part, partBytes, currentPart, indexOf, placeIn, placeAt, partAt, bodyStart, bodyOf, bodyAt, recordPart, Whole, Complete}
+use Rattle.lookup.specs.Parts.{RecordIn, BodyIn, UpTo, slotsFor}
 
 -- ---- how many slots a kind asks for
 
@@ -74,47 +74,30 @@ place-ends e ix j n q = rw q (go (eqb (getD ix j 0) 0 || ltb e (getD ix j 0 - 1 
     go true x = omega arith
     go false x = ltb-false e (getD ix j 0 - 1 + n) (or-false-right (eqb (getD ix j 0) 0) (ltb e (getD ix j 0 - 1 + n)) x)
 
--- behind a first hour or not
-module _ (d : List ℕ) (v n : ℕ) where
-  pub body-none : v ≡ 0 → part 0 0 ≡ bodyIn d v n
-  unfolding bodyIn
-  body-none e = rw e refl
-
-  module _ (some : v ≡ 0 → ⊥) {x s : ℕ} (ex : x ≡ cond (eqb (getD d v 0) 86) 4 0) (es : s ≡ v - 1 + x) where
-    at-body : v + cond (eqb (getD d v 0) 86) 4 0 - 1 ≡ s
-    at-body = omega (arith, ex, es, some)
-
-    pub body-beyond : length d < s + n → part 0 0 ≡ bodyIn d v n
-    unfolding bodyIn
-    body-beyond h =
-        rw (ne-eqb v 0 some, ne-eqb (v + cond (eqb (getD d v 0) 86) 4 0) 0 (λ z. omega (arith, z, some)), at-body, lt-ltb (length d) (s + n) h) refl
-
-    pub body-there : s + n ≤ length d → part s n ≡ bodyIn d v n
-    unfolding bodyIn
-    body-there h =
-        rw (ne-eqb v 0 some, ne-eqb (v + cond (eqb (getD d v 0) 86) 4 0) 0 (λ z. omega (arith, z, some)), at-body, le-ltb (length d) (s + n) h) refl
-
-  pub body-ends : {p : Part} → p ≡ bodyIn d v n → p .start + p .length ≤ length d
-  unfolding bodyIn
-  body-ends q = rw q (go (eqb v 0))
-    where
-      w : ℕ
-      w = v + cond (eqb (getD d v 0) 86) 4 0
-
-      inner : (b : Bool) → eqb w 0 || ltb (length d) (w - 1 + n) ≡ b → cond b (part 0 0) (part (w - 1) n) .start + cond b (part 0 0) (part (w - 1) n) .length
-          ≤ length d
-      inner true x = omega arith
-      inner false x = ltb-false (length d) (w - 1 + n) (or-false-right (eqb w 0) (ltb (length d) (w - 1 + n)) x)
-
-      go : (b : Bool) → cond b (part 0 0) (placeIn (length d) w n) .start + cond b (part 0 0) (placeIn (length d) w n) .length ≤ length d
-      go true = omega arith
-      go false = inner (eqb w 0 || ltb (length d) (w - 1 + n)) refl
+-- ---- what a slot holds
 
 pub first-most : (b : Bool) → cond b 4 0 ≤ 4
 first-most true = omega arith
 first-most false = omega arith
 
--- ---- what a slot holds
+-- none, or the bytes from place s on
+module _ (d : List ℕ) (v n : ℕ) where
+  pub record-none : v ≡ 0 → [] ≡ partBytes d (placeIn (length d) v n)
+  unfolding partBytes
+  record-none e = rw e refl
+
+  pub body-none : v ≡ 0 → [] ≡ bodyOf d v n
+  unfolding bodyOf
+  body-none e = rw e refl
+
+  module _ (some : v ≡ 0 → ⊥) {s : ℕ} where
+    pub record-there : s ≡ v - 1 → s + n ≤ length d → take (s + n - s) (drop s d) ≡ partBytes d (placeIn (length d) v n)
+    unfolding partBytes
+    record-there e h = rw (ne-eqb v 0 some, ← e, le-ltb (length d) (s + n) h, add-sub-cancel-left s n) refl
+
+    pub body-there : s ≡ bodyStart d v → take (s + n - s) (drop s d) ≡ bodyOf d v n
+    unfolding bodyOf
+    body-there e = rw (ne-eqb v 0 some, ← e, add-sub-cancel-left s n) refl
 
 -- an empty slot has no part
 pub part-none : (d ix : List ℕ) (j n : ℕ) → getD ix j 0 ≡ 0 → partAt d ix j n ≡ []
@@ -155,39 +138,57 @@ module _ (k : ℕ) (d : List ℕ) (v : ℕ) (c : List ℕ) (q : ℕ) where
   unfolding partAt
   held-found u ix j i h = ap (partBytes d) (held-place u ix j i h) ∙ held-bytes h
 
+  held-inside : datable k ≡ false → Holds k d (length d) v c q → RecordIn d v (size k)
+  held-inside u (absent e z y) some = absurd (some e)
+  held-inside u (there e w l m g) some = omega (arith, e, w, ap size (other-mark c u m), l)
+
   -- of any kind, without its first hour, its body is
-  held-body : 1 ≤ k → (ix : List ℕ) (j : ℕ) → getD ix j 0 ≡ v → Holds k d (length d) v c q → bodyAt d ix j (size k) ≡ body c
-  unfolding bodyAt bodyIn partBytes
-  held-body z ix j i (absent e f y) = rw (i, e, f, body-nil) refl
-  held-body z ix j i (there e w l m g) = rw (i, ne-eqb v 0 (λ x. omega (arith, e, x)), letter) (go (isDated (mark c)) refl)
-    where
-      s : List ℕ
-      s = drop q d
+  module _ (z : 1 ≤ k) (e : v ≡ q + 1) (w : q + length c ≤ length d) (l : length c ≡ size (mark c)) (m : kind c ≡ k) (g : take (length c) (drop q d) ≡ c) where
+    known : mark c ≡ 0 → ⊥
+    known x = omega (arith, z, m, none-kind c x)
 
-      known : mark c ≡ 0 → ⊥
-      known x = omega (arith, z, m, none-kind c x)
+    long : 6 ≤ length c
+    long = omega (arith, l, size-ge (mark c))
 
-      long : 6 ≤ length c
-      long = omega (arith, l, size-ge (mark c))
+    letter : eqb (getD d v 0) 86 ≡ isDated (mark c)
+    letter =
+        ap (λ (x : ℕ). eqb x 86) (ap (λ (x : ℕ). getD d x 0) e ∙ sym (getD-drop q d 1 0) ∙ sym (getD-take (length c) (drop q d) 1 0 (omega (arith, long)))
+        ∙ ap (λ (r : List ℕ). getD r 1 0) g)
+        ∙ sym (dated-letter c known)
 
-      letter : eqb (getD d v 0) 86 ≡ isDated (mark c)
-      letter =
-          ap (λ (x : ℕ). eqb x 86) (ap (λ (x : ℕ). getD d x 0) e ∙ sym (getD-drop q d 1 0) ∙ sym (getD-take (length c) s 1 0 (omega (arith, long)))
-          ∙ ap (λ (r : List ℕ). getD r 1 0) g)
-          ∙ sym (dated-letter c known)
+    start-is : bodyStart d v ≡ q + cond (isDated (mark c)) 4 0
+    start-is = rw letter (omega (arith, e))
 
-      go : (b : Bool) → isDated (mark c) ≡ b → partBytes d (placeIn (length d) (v + cond b 4 0) (size k)) ≡ body c
-      go true x =
-          let n : size k + 4 ≡ length c = omega (arith, body-length c l, ap size m, ap length (body-dated c x), length-drop 4 c, long) in
-          let at : v + 4 - 1 ≡ q + 4 = omega (arith, e) in
-          let whole : length c ≡ 4 + size k = omega (arith, n) in
-          let cut-off : drop 4 c ≡ take (size k) (drop (q + 4) d) = ap (drop 4) (sym g) ∙ ap (λ (m : ℕ). drop 4 (take m s)) whole
-          ∙ drop-taken 4 (size k) s (omega (arith, w, long, length-drop q d)) ∙ ap (take (size k)) (drop-drop 4 q d) in
-          rw (ne-eqb (v + 4) 0 (λ y. omega (arith, y)), at, le-ltb (length d) (q + 4 + size k) (omega (arith, w, n))) (sym cut-off ∙ sym (body-dated c x))
-      go false x =
-          let n : size k ≡ length c = ap size (sym m ∙ sym (plain-mark c x)) ∙ sym l in
-          let at : v + 0 - 1 ≡ q = omega (arith, e) in
-          rw (ne-eqb (v + 0) 0 (λ y. omega (arith, e, y)), at, n, le-ltb (length d) (q + length c) w) (g ∙ sym (body-plain c x))
+    -- with its first hour it is as long as the record
+    whole-is : (b : Bool) → isDated (mark c) ≡ b → cond b 4 0 + size k ≡ length c
+    whole-is true x = omega (arith, body-length c l, ap size m, ap length (body-dated c x), length-drop 4 c, long)
+    whole-is false x = omega (arith, ap size (sym m ∙ sym (plain-mark c x)), l)
+
+    body-inside : (v < length d) × (bodyStart d v + size k ≤ length d)
+    body-inside = (omega (arith, e, w, long), omega (arith, start-is, whole-is (isDated (mark c)) refl, w))
+
+    body-bytes : take (size k) (drop (bodyStart d v) d) ≡ body c
+    body-bytes = rw start-is (go (isDated (mark c)) refl)
+      where
+        go : (b : Bool) → isDated (mark c) ≡ b → take (size k) (drop (q + cond b 4 0) d) ≡ body c
+        go true x =
+            let whole : length c ≡ 4 + size k = sym (whole-is true x) in
+            let cut-off : drop 4 c ≡ take (size k) (drop (q + 4) d) = ap (drop 4) (sym g) ∙ ap (λ (n : ℕ). drop 4 (take n (drop q d))) whole
+            ∙ drop-taken 4 (size k) (drop q d) (omega (arith, w, long, length-drop q d)) ∙ ap (take (size k)) (drop-drop 4 q d) in
+            sym cut-off ∙ sym (body-dated c x)
+        go false x =
+            let at : q + 0 ≡ q = omega arith in
+            let n : size k ≡ length c = omega (arith, whole-is false x) in
+            rw (at, n) (g ∙ sym (body-plain c x))
+
+  held-body : 1 ≤ k → Holds k d (length d) v c q → bodyOf d v (size k) ≡ body c
+  unfolding bodyOf
+  held-body z (absent e f y) = rw (e, f, body-nil) refl
+  held-body z (there e w l m g) = rw (ne-eqb v 0 (λ x. omega (arith, e, x))) (body-bytes z e w l m g)
+
+  held-body-inside : 1 ≤ k → Holds k d (length d) v c q → BodyIn d v (size k)
+  held-body-inside z (absent e f y) some = absurd (some e)
+  held-body-inside z (there e w l m g) some = body-inside z e w l m g
 
   -- a slot that is not empty tells that there is one
   held-tells : Holds k d (length d) v c q → ltb 0 (length c) ≡ not (eqb v 0)
@@ -215,8 +216,15 @@ module _ {l : List (List ℕ)} {d ix : List ℕ} (h : IndexOf l d ix) (good : Ea
   pub index-part : datable k ≡ false → {j len : ℕ} → j ≡ slot k n → len ≡ size k → partAt d ix j len ≡ current k n l
   index-part u a b = rw (a, b) (held-found k d _ _ _ u ix (slot k n) refl index-at)
 
+  pub index-inside : datable k ≡ false → {j len : ℕ} → j ≡ slot k n → len ≡ size k → RecordIn d (getD ix j 0) len
+  index-inside u a b = rw (a, b) (held-inside k d _ _ _ u index-at)
+
+  pub index-body-inside : {j len : ℕ} → j ≡ slot k n → len ≡ size k → BodyIn d (getD ix j 0) len
+  index-body-inside a b = rw (a, b) (held-body-inside k d _ _ _ (i .known) index-at)
+
   pub index-body : {j len : ℕ} → j ≡ slot k n → len ≡ size k → bodyAt d ix j len ≡ body (current k n l)
-  index-body a b = rw (a, b) (held-body k d _ _ _ (i .known) ix (slot k n) refl index-at)
+  unfolding bodyAt
+  index-body a b = rw (a, b) (held-body k d _ _ _ (i .known) index-at)
 
   -- a slot that is not empty tells that there is one
   pub index-tells : ltb 0 (length (current k n l)) ≡ not (eqb (getD ix (slot k n) 0) 0)

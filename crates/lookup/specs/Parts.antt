@@ -1,6 +1,6 @@
 -- The current records through the index, and where they lie in the dossier.
 use mathlib.Core.Bool.{Bool, true, false, cond, _||_, not}
-use mathlib.Core.List.{List}
+use mathlib.Core.List.{List, []}
 use mathlib.Core.Path.{_≡_}
 use Prim.Native.Nat.{ℕ, _+_, _-_, _≤_, _<_}
 use lib.Dec.{ltb, eqb}
@@ -9,7 +9,7 @@ use Rattle.lists.specs.Lists.{Each, those}
 use Rattle.lists.specs.Tests.{everyOf, same}
 use Rattle.records.specs.declared.Answer.the-variants.{Accepted}
 use Rattle.records.specs.Table.{CH, FP, LC}
-use Rattle.records.specs.Record.{mark, isDated, kind, datable, size, keyOf}
+use Rattle.records.specs.Record.{mark, kind, datable, size, keyOf}
 use Rattle.records.specs.Answers.{isAccepted}
 use Rattle.records.specs.Dossier.{records, scan}
 use Rattle.records.specs.Walk.{folded, walk}
@@ -78,12 +78,24 @@ unfoldable pub partAt : List ℕ → List ℕ → ℕ → ℕ → List ℕ
 partAt d ix j n = partBytes d (placeAt (length d) ix j n)
 
 -- where the fields of the record of a slot of value v lie as its kind's do: behind a first hour, which V as second letter tells
-unfoldable pub bodyIn : List ℕ → ℕ → ℕ → Part
-bodyIn d v n = cond (eqb v 0) (part 0 0) (placeIn (length d) (v + cond (eqb (getD d v 0) 86) 4 0) n)
+abbrev pub bodyStart : List ℕ → ℕ → ℕ
+bodyStart d v = v - 1 + cond (eqb (getD d v 0) 86) 4 0
 
--- the part of the dossier where they lie
+-- what the record of a slot of value v says there, n being the length of its kind's records; nothing if there is none
+unfoldable pub bodyOf : List ℕ → ℕ → ℕ → List ℕ
+bodyOf d v n = cond (eqb v 0) [] (take n (drop (bodyStart d v) d))
+
+-- the same of slot j
 unfoldable pub bodyAt : List ℕ → List ℕ → ℕ → ℕ → List ℕ
-bodyAt d ix j n = partBytes d (bodyIn d (getD ix j 0) n)
+bodyAt d ix j n = bodyOf d (getD ix j 0) n
+
+-- the record of a slot of value v, if there is one, lies in the dossier
+abbrev pub RecordIn : List ℕ → ℕ → ℕ → Type 0
+RecordIn d v n = (v ≡ 0 → ⊥) → v - 1 + n ≤ length d
+
+-- and so do its fields
+abbrev pub BodyIn : List ℕ → ℕ → ℕ → Type 0
+BodyIn d v n = (v ≡ 0 → ⊥) → (v < length d) × (bodyStart d v + n ≤ length d)
 
 -- the whole record of a slot of value v, as long as its own mark says
 unfoldable pub recordPart : List ℕ → ℕ → Part
@@ -121,10 +133,6 @@ parametersHeld d ix = parameters (held d ix)
 -- the money
 abbrev pub amountsHeld : List ℕ → List ℕ → Amounts
 amountsHeld d ix = amounts (held d ix)
-
--- no record has a first hour
-abbrev pub Undated : List ℕ → Type 0
-Undated d = Each (λ r. isDated (mark r) ≡ false) (records d)
 
 -- every record of the dossier has a slot in the index
 abbrev pub Complete : List ℕ → List ℕ → Type 0

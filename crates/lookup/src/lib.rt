@@ -4,7 +4,7 @@ ghost use mathlib.Core.Bool.{Bool, false};
 ghost use mathlib.Core.List.{[], _∷_};
 ghost use Prim.Native.Nat.{ℕ, _+_, _*_, _/_, _%_, _<_, _≤_};
 ghost use lib.Dec.{ltb};
-ghost use lib.ListN.{length};
+ghost use lib.ListN.{length, getD};
 ghost use Rattle.fields.specs.Numbers.{number};
 ghost use Rattle.records.specs.declared.Answer.the-variants.{Accepted};
 ghost use Rattle.records.specs.Table.{RS, HP, FU, AD, MM, RQ, HR, TH, FP, LC, kinds};
@@ -15,8 +15,9 @@ ghost use Rattle.station.specs.Current.{longest, current, readable, lookupBytes
 ghost use Rattle.index.specs.declared.Passed.the-variants.{Ended};
 ghost use Rattle.index.specs.Slots.{slot, narrow};
 ghost use Rattle.index.specs.Intervals.{HeldIn};
-ghost use Rattle.lookup.specs.Parts.{isTooLong, fitsShort, slotsFor, held, scanned, placeIn, placeAt, partBytes, partAt, bodyIn, bodyAt};
-ghost use Rattle.lookup.specs.Parts.{recordPart, currentPart, lookupPart, Empty, Whole, Indexed, Complete, UpTo, Undated};
+ghost use Rattle.lookup.specs.Parts.{isTooLong, fitsShort, slotsFor, held, scanned, placeIn, placeAt, partBytes, partAt, bodyOf, bodyAt};
+ghost use Rattle.lookup.specs.Parts.{RecordIn, BodyIn, recordPart, currentPart, lookupPart, Empty, Whole, Indexed, Complete, UpTo};
+ghost use Rattle.station.specs.InForce.{Undated};
 use index::Passed;
 use records::Answer;
 
@@ -191,33 +192,45 @@ pub fn part_at<'a>(d: &'a [u8], index: &[u16], j: usize, len: usize) -> &'a [u8]
     bytes_of(d, place_at(d.len(), index, j, len))
 }
 
-// Where the fields of the record of a slot of value v lie as its kind's do.
-fn body_in(d: &[u8], v: u16, len: usize) -> Part
-    requires { ⌜ len < 65536 ⌝ }
-    ensures { λ r. ⌜ r ≡ bodyIn (now (d .entry)) v len ⌝ }
+// The record of a slot of value v, empty if there is none. It is known to lie in the dossier, which then isn't asked.
+fn record_of(d: &[u8], v: u16, len: usize) -> &[u8]
+    requires { ⌜ (len < 65536) × RecordIn (now d) v len ⌝ }
+    ensures { λ r. ⌜ now r ≡ partBytes (now (d .entry)) (placeIn (length (now (d .entry))) v len) ⌝ }
 {
-    let q = v as usize;
-    let none = Part {
-        start: 0,
-        length: 0,
-    };
-    if q == 0 {
-        return none;
+    if v == 0 {
+        return &d[..0];
     }
-    let dated = fields::byte_at(d, q) == 86;
-    let start = q - 1 + lists::choose(dated, 4, 0);
-    if d.len() < start + len {
-        return none;
-    }
-    Part { start, length: len }
+    let at = (v as usize) - 1;
+    &d[at..at + len]
 }
 
-// The part of the dossier where they lie, empty if the slot holds no record.
+// The same of slot j.
+fn record_at<'a>(d: &'a [u8], index: &[u16], j: usize, len: usize) -> &'a [u8]
+    requires { ⌜ (j < length (now index)) × (len < 65536) × RecordIn (now d) (getD (now index) j 0) len ⌝ }
+    ensures { λ r. ⌜ now r ≡ partAt (now (d .entry)) (now (index .entry)) j len ⌝ }
+{
+    record_of(d, index[j], len)
+}
+
+// What the record of a slot of value v says, where its fields lie as its kind's do.
+fn body_of(d: &[u8], v: u16, len: usize) -> &[u8]
+    requires { ⌜ (len < 65536) × BodyIn (now d) v len ⌝ }
+    ensures { λ r. ⌜ now r ≡ bodyOf (now (d .entry)) v len ⌝ }
+{
+    let q = v as usize;
+    if q == 0 {
+        return &d[..0];
+    }
+    let start = q - 1 + lists::choose(d[q] == 86, 4, 0);
+    &d[start..start + len]
+}
+
+// The same of slot j.
 fn body_at<'a>(d: &'a [u8], index: &[u16], j: usize, len: usize) -> &'a [u8]
-    requires { ⌜ (j < length (now index)) × (len < 65536) ⌝ }
+    requires { ⌜ (j < length (now index)) × (len < 65536) × BodyIn (now d) (getD (now index) j 0) len ⌝ }
     ensures { λ r. ⌜ now r ≡ bodyAt (now (d .entry)) (now (index .entry)) j len ⌝ }
 {
-    bytes_of(d, body_in(d, index[j], len))
+    body_of(d, index[j], len)
 }
 
 // The current RS.
@@ -225,7 +238,7 @@ pub fn rs<'a>(d: &'a [u8], index: &[u16]) -> &'a [u8]
     requires { ⌜ Indexed (now d) (now index) ⌝ }
     ensures { λ r. ⌜ now r ≡ current RS 0 (records (now (d .entry))) ⌝ }
 {
-    part_at(d, index, 0, records::RS.length)
+    record_at(d, index, 0, records::RS.length)
 }
 
 // The current HP of a point.
@@ -233,7 +246,7 @@ pub fn hp<'a>(d: &'a [u8], index: &[u16], n: usize) -> &'a [u8]
     requires { ⌜ Indexed (now d) (now index) × (1 ≤ n) × (n ≤ 21) ⌝ }
     ensures { λ r. ⌜ now r ≡ current HP n (records (now (d .entry))) ⌝ }
 {
-    part_at(d, index, index::keys::slot_hp(n), records::HP.length)
+    record_at(d, index, index::keys::slot_hp(n), records::HP.length)
 }
 
 // What the current FU of a profile says, as an FU has it: a first hour lies before it.
@@ -265,7 +278,7 @@ pub fn rq<'a>(d: &'a [u8], index: &[u16], n: usize) -> &'a [u8]
     requires { ⌜ Indexed (now d) (now index) × (1 ≤ n) × (n ≤ 16) ⌝ }
     ensures { λ r. ⌜ now r ≡ current RQ n (records (now (d .entry))) ⌝ }
 {
-    part_at(d, index, index::keys::slot_rq(n), records::RQ.length)
+    record_at(d, index, index::keys::slot_rq(n), records::RQ.length)
 }
 
 // The current HR of an hour of the window.
@@ -273,7 +286,7 @@ pub fn hr<'a>(d: &'a [u8], index: &[u16], n: usize) -> &'a [u8]
     requires { ⌜ Indexed (now d) (now index) × (1 ≤ n) × (n ≤ 168) ⌝ }
     ensures { λ r. ⌜ now r ≡ current HR n (records (now (d .entry))) ⌝ }
 {
-    part_at(d, index, index::keys::slot_hr(n), records::HR.length)
+    record_at(d, index, index::keys::slot_hr(n), records::HR.length)
 }
 
 // The current TH of a condition and level.
@@ -281,7 +294,7 @@ pub fn th<'a>(d: &'a [u8], index: &[u16], c: usize, v: usize) -> &'a [u8]
     requires { ⌜ Indexed (now d) (now index) × (1 ≤ c) × (c ≤ 3) × (1 ≤ v) × (v ≤ 4) ⌝ }
     ensures { λ r. ⌜ now r ≡ current TH (c * 256 + v) (records (now (d .entry))) ⌝ }
 {
-    part_at(d, index, index::keys::slot_th(c, v), records::TH.length)
+    record_at(d, index, index::keys::slot_th(c, v), records::TH.length)
 }
 
 // The current LC.
@@ -289,7 +302,7 @@ pub fn lc<'a>(d: &'a [u8], index: &[u16]) -> &'a [u8]
     requires { ⌜ Indexed (now d) (now index) × (narrow ≤ length (now index)) ⌝ }
     ensures { λ r. ⌜ now r ≡ current LC 0 (records (now (d .entry))) ⌝ }
 {
-    part_at(d, index, index::keys::slot_lc(), records::LC.length)
+    record_at(d, index, index::keys::slot_lc(), records::LC.length)
 }
 
 // The current FP of a place, through an index of every record; a place without a slot there has none.
@@ -301,7 +314,7 @@ pub fn fp<'a>(d: &'a [u8], index: &[u16], n: usize) -> &'a [u8]
     if index.len() <= j {
         return &d[..0];
     }
-    part_at(d, index, j, records::FP.length)
+    record_at(d, index, j, records::FP.length)
 }
 
 // The slot of a kind and key.

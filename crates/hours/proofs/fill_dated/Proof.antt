@@ -2,13 +2,9 @@
 use borrow.Author.Needs.{needs}
 use native.Mathlib.Omega.{arith}
 use mathlib.Core.Path.{_≡_, refl}
-use mathlib.Core.Logic.{inl, inr}
-use mathlib.Core.List.{List}
-use Prim.Native.Nat.{ℕ, _≤_, _<_, _-_}
-use lib.ListN.{length, length-set}
-use Rattle.records.specs.Table.{marks}
-use Rattle.records.specs.Record.{size}
-use Rattle.hours.proofs.Loop.{Left, begin, finish, known, its-size, slot-below, puts, passes}
+use Prim.Native.Nat.{_≤_, _-_}
+use lib.ListN.{length}
+use Rattle.hours.proofs.Loop.{Left, begin, finish, known, its-size, its-least, slot-in, turns}
 use Rattle.hours.proofs.fill_dated.Statement.{statement}
 use Rattle.hours.proofs.fill_dated.Tie as tie
 
@@ -18,112 +14,52 @@ Inv-loop d index₀ hour at₀ index at = (at ≤ length d) × (length index ≡
 abbrev μ-loop : tie.MeasureT-loop
 μ-loop d index₀ hour at₀ index at = length d - at
 
--- a turn: its mark is read
-abbrev Turn : Type 0
-Turn = tie.After-mark-at Inv-loop μ-loop
-
-abbrev At : Turn → tie.At-loop Inv-loop μ-loop
-At c = c .before .before .before
-
-abbrev St : Turn → tie.Start Inv-loop μ-loop
-St c = At c .before .before .before
-
-abbrev d-of : Turn → List ℕ
-d-of c = St c .args .d .now
-
-abbrev ix-of : Turn → List ℕ
-ix-of c = St c .args .index .now
-
-its-mark : (c : Turn) → (1 ≤ c .mark-at .result) × (c .mark-at .result < marks)
-its-mark c =
-    known (St c .args .hour) (d-of c) (ix-of c) (At c .loop .index) (At c .loop .at) (c .before .before .loop-test .taken) (At c .loop .inv .2)
-    (c .mark-at .ensures)
-
-its-length : (c : Turn) → (1 ≤ size (c .mark-at .result)) × (size (c .mark-at .result) ≤ length (d-of c) - At c .loop .at)
-its-length c =
-    its-size (St c .args .hour) (d-of c) (ix-of c) (At c .loop .index) (At c .loop .at) (c .before .before .loop-test .taken) (At c .loop .inv .2)
-    (c .mark-at .ensures)
-
 loop-holds : tie.Need-loop-holds Inv-loop μ-loop
 loop-holds c = let a = c .before .before in (omega arith, refl, begin _ _ _ (a .pre .2))
 
-slot-of-dated-requires : tie.Need-slot-of-dated-requires Inv-loop μ-loop
-slot-of-dated-requires c κs = its-mark c
+returns : tie.Need-returns Inv-loop μ-loop
+returns c =
+    let l = c .before .before .before in
+    absurd (its-least _ _ _ _ _ (c .before .before .loop-test .taken) (l .loop .inv .2) (c .if1 .taken))
 
-since-at-requires : tie.Need-since-at-requires Inv-loop μ-loop
-since-at-requires c κs = its-mark (c .before) .1
-
--- ---- a record that has come
-
-abbrev Came : Type 0
-Came = tie.Then1 Inv-loop μ-loop
-
-abbrev turn : Came → Turn
-turn c = c .before .before .before
-
-its-slot : (c : Came) → c .before .before .slot-of-dated .result < length (At (turn c) .loop .index)
-its-slot c =
-    let u = turn c in
-    omega (
-      arith,
-      slot-below (St u .args .hour) (d-of u) (ix-of u) (At u .loop .index) (At u .loop .at) (u .before .before .loop-test .taken) (At u .loop .inv .2)
-          (u .mark-at .ensures) (c .before .before .slot-of-dated .ensures) (c .before .since-at .ensures) (c .if1 .taken),
-      At u .loop .inv .1,
-      St u .pre .0,
+put-record-requires : tie.Need-put-record-requires Inv-loop μ-loop
+put-record-requires c κs =
+    let l = c .before .before .before .before in
+    let t = c .before .before .before .loop-test .taken in
+    let a = l .before .before .before in (
+      known _ _ _ _ _ t (l .loop .inv .2),
+      omega (arith, slot-in _ _ _ _ _ t (l .loop .inv .2), l .loop .inv .1, a .pre .0),
+      a .pre .1,
+      omega (arith, t, a .pre .1),
     )
 
-mul-v : tie.Need-mul-v Inv-loop μ-loop
-mul-v c = omega (arith, its-slot (c .before))
+-- how long the record is
+abbrev Turn : Type 0
+Turn = tie.After-slice-known2 Inv-loop μ-loop
 
-slice-read-v : tie.Need-slice-read-v Inv-loop μ-loop
-slice-read-v c = its-slot (c .before .before)
-
-issue-held-requires : tie.Need-issue-held-requires Inv-loop μ-loop
-issue-held-requires c κs = St (turn (c .before .before)) .pre .1
-
-cast-newer-of : tie.Need-cast-newer-of Inv-loop μ-loop
-cast-newer-of c = let u = turn (c .before .before .before) in omega (arith, u .before .before .loop-test .taken, St u .pre .1)
-
-add-newer-of : tie.Need-add-newer-of Inv-loop μ-loop
-add-newer-of c = let u = turn (c .before .before .before) in omega (arith, u .before .before .loop-test .taken, St u .pre .1)
-
-mul-index : tie.Need-mul-index Inv-loop μ-loop
-mul-index c = omega (arith, its-slot (c .before .before .before .before))
-
-slice-write-index : tie.Need-slice-write-index Inv-loop μ-loop
-slice-write-index c = its-slot (c .before .before .before .before)
-
-length-of-requires : tie.Need-length-of-requires Inv-loop μ-loop
-length-of-requires c κs = its-mark (c .before .before .before) .1
+its-length : (c : Turn) → let l = c .before .before .before .before .before .before .before in
+    (1 ≤ c .before .before .put-record .result) × (c .before .before .put-record .result ≤ length (l .before .before .before .args .d .now) - l .loop .at)
+its-length c =
+    let t = c .before .before .before .before .before .before in
+    rw (c .before .before .put-record .ensures .0) (its-size _ _ _ _ _ (t .loop-test .taken) (t .before .loop .inv .2))
 
 add-at : tie.Need-add-at Inv-loop μ-loop
-add-at c = omega (arith, its-length (c .before .before .before .before), c .length-of .ensures)
+add-at c = omega (arith, its-length c)
 
 loop-less : tie.Need-loop-less Inv-loop μ-loop
-loop-less c = omega (arith, its-length (c .before .before .before .before), c .length-of .ensures)
+loop-less c = omega (arith, its-length c)
 
 loop-again : tie.Need-loop-again Inv-loop μ-loop
 loop-again c =
-    let t = c .before .before in
-    let u = t .before .before in
-    let l = At u .loop in
-    elim (c .before .if1 .came) [
-      | inl x ↦ (
-        omega (arith, its-length u, c .length-of .ensures),
-        rw (x .5) (simp length-set (l .inv .1)),
-        rw (x .5) (puts (St u .args .hour) (d-of u) (ix-of u) (l .index) (l .at) (u .before .before .loop-test .taken) (l .inv .2) (u .mark-at .ensures)
-            (t .before .slot-of-dated .ensures) (t .since-at .ensures) (x .0 .taken) (x .1 .ensures) (x .3 .ensures) (x .4 .ensures) (c .length-of .ensures)),
-      )
-      | inr x ↦ (
-        omega (arith, its-length u, c .length-of .ensures),
-        rw (x .1) (l .inv .1),
-        rw (x .1) (passes (St u .args .hour) (d-of u) (ix-of u) (l .index) (l .at) (u .before .before .loop-test .taken) (l .inv .2) (u .mark-at .ensures)
-            (t .before .slot-of-dated .ensures) (t .since-at .ensures) (x .0 .left) (c .length-of .ensures)),
-      )
-    ]
+    let t = c .before .before .before .before .before .before in
+    let p = c .before .before .put-record in (
+      omega (arith, its-length c),
+      omega (arith, p .kept, t .before .loop .inv .1),
+      turns _ _ _ _ _ (t .loop-test .taken) (t .before .loop .inv .2) (p .ensures .0) (p .ensures .1),
+    )
 
-returns : tie.Need-returns Inv-loop μ-loop
-returns c =
+returns-2 : tie.Need-returns-2 Inv-loop μ-loop
+returns-2 c =
     let a = c .before .before .before .before .args in
     finish (a .hour) (a .d .now) (a .index .now) (c .before .loop .index) (c .before .loop .at) (c .loop-test .left) (c .before .loop .inv .2)
 
@@ -137,23 +73,11 @@ fill-dated-spec =
     (λ c. search needs)
     (λ c. search needs)
     (λ c. search needs)
-    (λ c κs. search needs)
-    slot-of-dated-requires
-    since-at-requires
-    (λ c κs. search needs)
     (λ c. search needs)
-    (λ c. search needs)
-    mul-v
-    slice-read-v
-    issue-held-requires
-    cast-newer-of
-    add-newer-of
-    (λ c κs. search needs)
-    mul-index
-    slice-write-index
-    length-of-requires
+    returns
+    put-record-requires
     add-at
     loop-less
     loop-again
     (λ c. search needs)
-    returns)
+    returns-2)

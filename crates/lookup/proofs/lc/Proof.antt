@@ -5,16 +5,18 @@ use Rattle.records.specs.Table.{table, LC}
 use Rattle.records.proofs.Record.{lc-size}
 use Rattle.lookup.proofs.Keys.{last-cost-key}
 use Rattle.lookup.proofs.Parts.{narrow-fits}
-use Rattle.lookup.proofs.Held.{part-is}
+use Rattle.lookup.proofs.Held.{part-is, record-in}
 use borrow.Author.Needs.{needs}
 use Rattle.lookup.proofs.lc.Statement.{statement}
 use Rattle.lookup.proofs.lc.Tie as tie
 
-part-at-requires : tie.Need-part-at-requires
-part-at-requires c κs =
+record-at-requires : tie.Need-record-at-requires
+unfolding datable among table
+record-at-requires c κs =
     let a = c .before .before .before in
     let p = a .pre in
-    (rw (c .slot-lc .ensures) (narrow-fits (a .args .index .now) (p .0 .index .roomy) (p .1) LC _ last-cost-key refl), search needs)
+    let fits = narrow-fits (a .args .index .now) (p .0 .index .roomy) (p .1) LC _ last-cost-key refl in
+    (rw (c .slot-lc .ensures) fits, search needs, record-in (p .0) LC _ last-cost-key fits refl (c .slot-lc .ensures) (sym lc-size))
 
 returns : tie.Need-returns
 unfolding datable among table
@@ -22,7 +24,7 @@ returns c =
     let a = c .before .before .before .before in
     let p = a .pre in
     let fits = narrow-fits (a .args .index .now) (p .0 .index .roomy) (p .1) LC _ last-cost-key refl in
-    c .part-at .ensures ∙ part-is (p .0) LC _ last-cost-key fits refl (c .before .slot-lc .ensures) (sym lc-size)
+    c .record-at .ensures ∙ part-is (p .0) LC _ last-cost-key fits refl (c .before .slot-lc .ensures) (sym lc-size)
 
 pub lc-spec : {M : Type 1} → statement M
-lc-spec = tie.close (tie.spec (λ c κs. search needs) part-at-requires returns)
+lc-spec = tie.close (tie.spec (λ c κs. search needs) record-at-requires returns)

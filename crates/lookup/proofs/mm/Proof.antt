@@ -2,7 +2,7 @@ use mathlib.Core.Path.{refl, sym, _∙_}
 use Rattle.records.specs.Table.{MM}
 use Rattle.records.proofs.Record.{mm-size}
 use Rattle.lookup.proofs.Keys.{item-key}
-use Rattle.lookup.proofs.Held.{slot-fits, body-found}
+use Rattle.lookup.proofs.Held.{slot-fits, body-inside, body-found}
 use borrow.Author.Needs.{needs}
 use Rattle.lookup.proofs.mm.Statement.{statement}
 use Rattle.lookup.proofs.mm.Tie as tie
@@ -10,7 +10,9 @@ use Rattle.lookup.proofs.mm.Tie as tie
 body-at-requires : tie.Need-body-at-requires
 body-at-requires c κs =
     let a = c .before .before .before in
-    (slot-fits (a .pre .0) MM _ refl (item-key _ _ (a .pre .1) (a .pre .2) (a .pre .3) (a .pre .4)) (c .slot-mm .ensures), search needs)
+    let key = item-key _ _ (a .pre .1) (a .pre .2) (a .pre .3) (a .pre .4) in
+    let e = c .slot-mm .ensures in
+    (slot-fits (a .pre .0) MM _ refl key e, search needs, body-inside (a .pre .0) MM _ refl key e (sym mm-size))
 
 returns : tie.Need-returns
 returns c =
