@@ -1,29 +1,28 @@
 -- The sums over what the intervals' slots hold: how high they reach, and how they move with a slot.
 use mathlib.Core.Path.{_≡_, refl, ap, sym, subst, _∙_}
+use mathlib.Core.Bool.{Bool}
 use mathlib.Core.List.{List, [], _∷_}
 use Prim.Native.Nat.{ℕ, suc, _+_, _*_, _≤_, _<_}
 use native.Mathlib.Nat.{mul-le-mul}
 use native.Mathlib.Decide.{ℕ-discrete}
 use native.Mathlib.Omega.{arith}
 use lib.Dec.{ltb, lit≤, lit<}
-use lib.ListN.{length, getD, set, take, replicate, length-set, length-replicate, getD-replicate, List·getD-eq-default}
+use lib.ListN.{length, getD, set, replicate, length-set, length-replicate, getD-replicate, List·getD-eq-default}
 use lib.Seq.{getD-set-same, getD-set-other}
 use borrow.Author.Tests.{ltb-true, ltb-false}
 use Rattle.lists.specs.Sums.{sumTo}
 use Rattle.lists.proofs.Sums.{sumTo-same, sumTo-within, sumTo-part, sumTo-replaced, sumTo-zeros}
 use Rattle.lists.proofs.Tests.{split}
 use Rattle.records.specs.Table.{table, rowOf, CH}
-use Rattle.records.specs.Record.{mark, kind, datable, keyOf}
+use Rattle.records.specs.Record.{mark, kind, datable, keyOf, fault}
 use Rattle.lists.specs.Tests.{among}
 use Rattle.records.proofs.Dated.{other-mark}
 use Rattle.records.specs.MarkShapes.{shape, shapeOf}
-use Rattle.records.specs.Walk.{Record, found}
 use Rattle.station.specs.Week.{intervals}
-use Rattle.index.specs.Slots.{slot, slotAt}
+use Rattle.index.specs.Slots.{slot, kept, keepStep, put}
 use Rattle.index.specs.Intervals.{heldPrice, heldEnergy, slotPrice, slotEnergy, HeldSums, HeldIn}
 use Rattle.index.proofs.KeyBounds.{Spans, InKey, in-key}
 use Rattle.index.proofs.Slots.{slot-apart}
-use Rattle.index.proofs.Turn.{its-mark, its-fault, its-slot}
 use Rattle.index.proofs.Intervals.{price-none, energy-none}
 
 -- two intervals have two slots
@@ -40,12 +39,10 @@ of-kind : (r : List ℕ) → kind r ≡ CH → mark r ≡ CH
 unfolding datable among table
 of-kind r e = other-mark r refl e
 
--- and no other record has one of them
-pub slot-elsewhere : (s : List ℕ) (k n : ℕ) → found s ≡ Record k n → (k ≡ CH → ⊥) → {j : ℕ} → j ≡ slotAt k s → (m : ℕ) → 1 ≤ m → m ≤ 2016 → slot CH m ≡ j → ⊥
-slot-elsewhere s k n e other ej m a b z =
-    let r = take n s in
-    let same : CH ≡ kind r = slot-apart CH m (kind r) (keyOf r) (interval-key m a b) (in-key r (its-fault s k n e)) (z ∙ ej ∙ sym (its-slot s k n e)) .0 in
-    other (sym (its-mark s k n e) ∙ of-kind r (sym same))
+-- and no other record without fault has one of them
+elsewhere : (r : List ℕ) → fault r ≡ 0 → (mark r ≡ CH → ⊥) → (m : ℕ) → 1 ≤ m → m ≤ 2016 → slot CH m ≡ slot (kind r) (keyOf r) → ⊥
+elsewhere r e other m a b z =
+    other (of-kind r (sym (slot-apart CH m (kind r) (keyOf r) (interval-key m a b) (in-key r e) z .0)))
 
 -- the price and energy of a slot's value, and how high they reach
 pub record Held (d : List ℕ) (v : ℕ) : Type 0 where
@@ -80,7 +77,7 @@ module _ {d ix : List ℕ} {c e : ℕ} (h : HeldSums d ix c e) where
     stays : (n : ℕ) → 1 ≤ n → n ≤ 2016 → getD ix (slot CH n) 0 ≡ getD (set ix j v) (slot CH n) 0
     stays n a b = sym (getD-set-other ix j (slot CH n) v 0 (apart n a b))
 
-    pub sums-other : HeldSums d (set ix j v) c e
+    sums-other : HeldSums d (set ix j v) c e
     sums-other =
         record {
           cost-sum = h .cost-sum ∙ sumTo-same intervals cost (λ n. slotPrice d (set ix j v) n * slotEnergy d (set ix j v) n)
@@ -90,6 +87,12 @@ module _ {d ix : List ℕ} {c e : ℕ} (h : HeldSums d ix c e) where
           energy-high = λ n a b. rw (← stays n a b) (h .energy-high n a b);
           within = λ n a b. rw (← stays n a b) (h .within n a b);
         }
+
+  -- nor does a record without fault that is none
+  pub sums-beside : (b : Bool) (t : ℕ) (f : Bool) (p : ℕ) (r : List ℕ) → fault r ≡ 0 → (mark r ≡ CH → ⊥)
+      → HeldSums d (keepStep d (kept ix b t f) p r .slots) c e
+  unfolding keepStep put
+  sums-beside b t f p r z other = sums-other (slot (kind r) (keyOf r)) _ (elsewhere r z other)
 
   -- the slot of interval m with another value takes what it held off and adds what it holds
   module _ (m : ℕ) (a₀ : 1 ≤ m) (b₀ : m ≤ 2016) (fit : slot CH m < length ix) (v : ℕ) (new : Held d v) where

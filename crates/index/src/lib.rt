@@ -4,10 +4,13 @@ pub mod keys;
 pub mod reader;
 
 ghost use mathlib.Core.Path.{_≡_};
-ghost use mathlib.Core.Bool.{true, false};
+ghost use mathlib.Core.Bool.{Bool, true, false, _||_};
 ghost use Prim.Native.Nat.{_+_, _<_, _≤_};
-ghost use lib.ListN.{length};
+ghost use lib.ListN.{length, drop};
+ghost use Rattle.records.specs.Record.{mark, fault, isDated};
+ghost use Rattle.records.specs.Dossier.{firstOf};
 ghost use Rattle.records.specs.Walk.{walk};
+ghost use Rattle.index.specs.Entries.{entryAs};
 ghost use Rattle.index.specs.Intervals.{HeldIn};
 ghost use Rattle.index.specs.Slots.{heldIssue, newer, higher, kept, keepStep, passOf, slotsOf, slotsEmpty, slotsFull};
 use crate::charging::Run;
@@ -19,6 +22,13 @@ pub const SHORT: usize = 334;
 pub const NARROW: usize = 2351;
 
 pub const WIDE: usize = 6351;
+
+// Before the first record.
+const START: Run = Run {
+    end: 0,
+    rising: true,
+    top: 0,
+};
 
 // A record's length, and the slot of its kind and key.
 pub struct Entry {
@@ -73,7 +83,38 @@ fn higher_of(a: usize, b: usize) -> usize
     if a < b { b } else { a }
 }
 
-// A slot holds the place of its record plus 1, 0 for none: two bytes, so that an empty index is soon made. The issue is read where the record lies.
+// A record without fault, whose entry was read, goes into its slot. A slot holds the place of its record plus 1, 0 for none: two bytes, so that an empty
+// index is soon made. The issue is read where the record lies.
+fn keep(d: &[u8], before: Run, entry: Entry, index: &mut [u16]) -> Run
+    requires { ⌜ (length (now d) ≤ 60000) × (fault (firstOf (drop (before .end) (now d))) ≡ 0)
+        × (entry ≡ entryAs (mark (drop (before .end) (now d))) (drop (before .end) (now d))) ⌝ }
+    ensures { λ r. ⌜ (r .end ≡ before .end + entry .len)
+        × ((f : Bool) → kept (now (index .exit)) (r .rising) (r .top) (f || isDated (mark (drop (before .end) (now (d .entry)))))
+        ≡ keepStep (now (d .entry)) (kept (now (index .entry)) (before .rising) (before .top) f) (before .end)
+        (firstOf (drop (before .end) (now (d .entry))))) ⌝ }
+{
+    let at = before.end;
+    let rest = &d[at..];
+    // never so: it tells the compiler that the issue's bytes are there
+    if rest.len() < 6 {
+        return before;
+    }
+    let j = entry.slot;
+    let mut rising = before.rising;
+    if j < index.len() {
+        let issue = (fields::u32_at(rest, 2) as u64) + 1;
+        let v = index[j];
+        let held = issue_held(d, v);
+        rising = rising & (held < issue);
+        index[j] = newer_of(held, issue, v, (at as u16) + 1);
+    }
+    Run {
+        end: at + entry.len,
+        rising,
+        top: higher_of(before.top, j),
+    }
+}
+
 // Few dossiers have the marks whose slots come last, so an index may end before them; a record without a slot is passed over, as the highest slot tells.
 // The records of charging intervals are read in runs, which keep the week's sums; those of an empty index are 0.
 pub fn pass(d: &[u8], index: &mut [u16], sums: &mut [u64]) -> Passed
@@ -82,28 +123,18 @@ pub fn pass(d: &[u8], index: &mut [u16], sums: &mut [u64]) -> Passed
         × (now (index .exit) ≡ slotsOf (now (index .exit)) (walk (keepStep (now (d .entry))) (kept (now (index .entry)) true 0 false) (now (d .entry))))
         × HeldIn (now (d .entry)) (now (index .exit)) (now (sums .exit)) ⌝ }
 {
-    let mut at = 0;
-    let mut rising = true;
-    let mut top = 0;
+    let mut run = START;
     let mut dated = false;
-    while at < d.len() {
+    while run.end < d.len() {
+        let at = run.end;
         let rest = &d[at..];
         if reader::begins_interval(rest) {
-            let before = Run {
-                end: at,
-                rising,
-                top,
-            };
-            let run = charging::intervals_from(d, before, index, sums);
-            if run.end == at {
-                return Passed::Stopped {
-                    number: reader::interval_fault(rest),
-                    place: at,
-                };
+            let next = charging::intervals_from(d, run, index, sums);
+            if next.end == at {
+                let number = reader::interval_fault(rest);
+                return Passed::Stopped { number, place: at };
             }
-            at = run.end;
-            rising = run.rising;
-            top = run.top;
+            run = next;
         } else {
             let entry = match read(rest) {
                 Reading::Whole(entry) => entry,
@@ -111,30 +142,19 @@ pub fn pass(d: &[u8], index: &mut [u16], sums: &mut [u64]) -> Passed
                     dated = true;
                     entry
                 }
-                Reading::Fault(number) => {
+                Reading::Fault(_) => {
+                    let number = reader::fault_of(rest);
                     return Passed::Stopped { number, place: at };
                 }
             };
-            // never so: it tells the compiler that the issue's bytes are there
-            if rest.len() < 6 {
-                return Passed::Stopped {
-                    number: 2,
-                    place: at,
-                };
-            }
-            let j = entry.slot;
-            top = higher_of(top, j);
-            if j < index.len() {
-                let issue = (fields::u32_at(rest, 2) as u64) + 1;
-                let v = index[j];
-                let held = issue_held(d, v);
-                rising = rising & (held < issue);
-                index[j] = newer_of(held, issue, v, (at as u16) + 1);
-            }
-            at += entry.len;
+            run = keep(d, run, entry, index);
         }
     }
-    Passed::Ended { rising, top, dated }
+    Passed::Ended {
+        rising: run.rising,
+        top: run.top,
+        dated,
+    }
 }
 
 // Whether n slots from slot j on are empty.

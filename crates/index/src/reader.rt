@@ -1,7 +1,7 @@
 // The record reader: one record at the front of the rest of a dossier, with its length and slot.
 ghost use mathlib.Core.Path.{_≡_};
 ghost use mathlib.Core.Bool.{true, false, cond, _&&_};
-ghost use Prim.Native.Nat.{_≤_};
+ghost use Prim.Native.Nat.{ℕ, _≤_};
 ghost use lib.Dec.{leb};
 ghost use lib.ListN.{length, getD};
 ghost use Rattle.records.specs.Table.{RS, HP, FU, AD, MM, RQ, HR, CH, TH, FP, LC, FV, AV, MV};
@@ -391,6 +391,23 @@ pub fn interval_fault(rest: &[u8]) -> u8
     ensures { λ r. ⌜ readingOf (now (rest .entry)) ≡ Fault r ⌝ }
 {
     if rest.len() < records::CH.length {
+        return 2;
+    }
+    3
+}
+
+// The number of the fault that a rest has. It is worked out a second time, for the pass, which then carries no number past the records without fault.
+pub fn fault_of(rest: &[u8]) -> u8
+    ensures { λ r. ⌜ ((m : ℕ) → readingOf (now (rest .entry)) ≡ Fault m → r ≡ m) ⌝ }
+{
+    if rest.len() < 2 {
+        return 2;
+    }
+    let k = records::mark_at(rest);
+    if k == 0 {
+        return 1;
+    }
+    if rest.len() < records::length_of(k) {
         return 2;
     }
     3

@@ -1,17 +1,14 @@
 use borrow.Author.Needs.{needs}
 use mathlib.Core.Path.{_≡_, ap, sym, subst, _∙_}
-use mathlib.Core.Bool.{true}
 use mathlib.Core.List.{List}
 use Prim.Native.Nat.{ℕ, _+_, _-_}
 use native.Mathlib.Omega.{arith}
 use lib.ListN.{drop}
-use Rattle.fields.specs.Numbers.{number, biased}
 use Rattle.records.specs.Record.{mark, size}
 use Rattle.records.proofs.EveryMark.{mark-lt}
 use Rattle.index.specs.declared.charging.Interval.{Interval}
-use Rattle.index.specs.Intervals.{isInterval, intervalAs}
-use Rattle.index.proofs.Intervals.{fair, ch-size, interval-none, interval-there}
-use Rattle.index.proofs.Runs.{says}
+use Rattle.index.proofs.Intervals.{fair, ch-size, interval-none}
+use Rattle.index.proofs.Runs.{Says, says}
 use Rattle.index.proofs.Turn.{tail}
 use Rattle.lookup.proofs.Rooms.{size-le}
 use Rattle.rules.proofs.Week.{accepted-readable}
@@ -60,37 +57,20 @@ start-of c = c .before .before .before .before .before .before
 abbrev rest-of : tie.Else1 → List ℕ
 rest-of c = drop (start-of c .args .at) (start-of c .args .d .now)
 
-there : (c : tie.Else1) → isInterval (rest-of c) ≡ true
-there c =
-    interval-there (start-of c .args .d .now) (start-of c .args .at)
-    (λ z. c .if1 .left (ap (λ (x : Interval). x .n) (c .before .before .interval-at .ensures) ∙ z))
-
-its : (c : tie.Else1) → c .before .before .interval-at .result ≡ intervalAs (rest-of c)
-its c = c .before .before .interval-at .ensures ∙ says (start-of c .args .d .now) (start-of c .args .at) (there c)
-
-its-n : (c : tie.Else1) → c .before .before .interval-at .result .n ≡ number 6 2 (rest-of c)
-unfolding intervalAs
-its-n c = ap (λ (x : Interval). x .n) (its c)
-
-its-price : (c : tie.Else1) → c .before .before .interval-at .result .price ≡ biased (number 8 4 (rest-of c))
-unfolding intervalAs
-its-price c = ap (λ (x : Interval). x .price) (its c)
-
-its-energy : (c : tie.Else1) → c .before .before .interval-at .result .energy ≡ number 12 4 (rest-of c)
-unfolding intervalAs
-its-energy c = ap (λ (x : Interval). x .energy) (its c)
+its : (c : tie.Else1) → Says (c .before .before .interval-at .result) (rest-of c)
+its c = says (start-of c .args .d .now) (start-of c .args .at) (c .before .before .interval-at .ensures) (c .if1 .left)
 
 put-interval-requires : tie.Need-put-interval-requires
 put-interval-requires c κs =
     let e = c .before .before in
     let a = start-of e in
-    let f = fair (rest-of e) (there e) in (
+    let f = fair (rest-of e) (its e .there) in (
       a .pre .2,
       omega (arith, a .pre .1 .short, a .pre .3),
-      omega (arith, its-n e, f .first),
-      omega (arith, its-n e, f .last),
-      omega (arith, its-price e, f .price-high),
-      omega (arith, its-energy e, f .energy-high),
+      omega (arith, its e .n-is, f .first),
+      omega (arith, its e .n-is, f .last),
+      omega (arith, its e .price-is, f .price-high),
+      omega (arith, its e .energy-is, f .energy-high),
       a .pre .4,
       a .pre .5,
     )
@@ -100,11 +80,11 @@ returns-2 c =
     let t = c .before .before .before .before .before .before .before in
     let a = start-of t in
     let w = c .before .before .before .before .put-interval .ensures in (
-      ap (λ (k : ℕ). a .args .at + k) (sym (ap size (fair (rest-of t) (there t) .marked) ∙ ch-size)),
+      ap (λ (k : ℕ). a .args .at + k) (sym (ap size (fair (rest-of t) (its t .there) .marked) ∙ ch-size)),
       λ p e f.
-          reading-interval (accepted-readable (a .pre .0)) (a .pre .1) (a .pre .2) f (a .pre .3) (there t)
+          reading-interval (accepted-readable (a .pre .0)) (a .pre .1) (a .pre .2) f (a .pre .3) (its t .there)
           (omega (arith, a .pre .4, f .priced .long)) (omega (arith, a .pre .5, f .charged .long))
-          (its-n t) (its-price t) (its-energy t) (w .0) (w .1),
+          (its t .n-is) (its t .price-is) (its t .energy-is) (w .0) (w .1),
     )
 
 pub put-record-spec : {M : Type 1} → statement M

@@ -12,7 +12,7 @@ returns : tie.Need-returns
 unfolding slotAt size widths keyWidth keyIn rowOf table fieldsAt kindOf isDated
 returns c =
     ap (entry _) (c .slot-ad .ensures ∙ ap (slot AD) (rw
-    (c .before .before .before .u8-at .ensures, c .before .before .u8-at2 .ensures, c .before .u8-at3 .ensures) (three-fields _)))
+    (c .before .before .before .u8-at .ensures, c .before .before .u8-at2 .ensures, c .before .u8-at3 .ensures) (three-fields 6 _)))
 
 pub entry-ad-spec : {M : Type 1} → statement M
 entry-ad-spec =

@@ -3,7 +3,7 @@ use Rattle.records.specs.Table.{table, rowOf, AD}
 use Rattle.records.specs.Record.{widths, size, keyIn, keyWidth, fieldsAt, kindOf, isDated}
 use Rattle.index.specs.Slots.{slot, slotAt}
 use Rattle.index.specs.Entries.{entry}
-use Rattle.index.proofs.Entries.{three-fields-dated}
+use Rattle.index.proofs.Entries.{three-fields}
 use borrow.Author.Needs.{needs}
 use Rattle.index.proofs.reader.entry_av.Statement.{statement}
 use Rattle.index.proofs.reader.entry_av.Tie as tie
@@ -12,7 +12,7 @@ returns : tie.Need-returns
 unfolding slotAt size widths keyWidth keyIn rowOf table fieldsAt kindOf isDated
 returns c =
     ap (entry _) (c .slot-ad .ensures ∙ ap (slot AD) (rw
-    (c .before .before .before .u8-at .ensures, c .before .before .u8-at2 .ensures, c .before .u8-at3 .ensures) (three-fields-dated _)))
+    (c .before .before .before .u8-at .ensures, c .before .before .u8-at2 .ensures, c .before .u8-at3 .ensures) (three-fields 10 _)))
 
 pub entry-av-spec : {M : Type 1} → statement M
 entry-av-spec =

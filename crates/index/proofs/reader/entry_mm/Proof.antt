@@ -10,7 +10,7 @@ use Rattle.index.proofs.reader.entry_mm.Tie as tie
 
 returns : tie.Need-returns
 unfolding slotAt size widths keyWidth keyIn rowOf table fieldsAt kindOf isDated
-returns c = ap (entry _) (c .slot-mm .ensures ∙ ap (slot MM) (rw (c .before .before .u8-at .ensures, c .before .u8-at2 .ensures) (two-fields _)))
+returns c = ap (entry _) (c .slot-mm .ensures ∙ ap (slot MM) (rw (c .before .before .u8-at .ensures, c .before .u8-at2 .ensures) (two-fields 6 _)))
 
 pub entry-mm-spec : {M : Type 1} → statement M
 entry-mm-spec =

@@ -3,14 +3,14 @@ use Rattle.records.specs.Table.{table, rowOf, MM}
 use Rattle.records.specs.Record.{widths, size, keyIn, keyWidth, fieldsAt, kindOf, isDated}
 use Rattle.index.specs.Slots.{slot, slotAt}
 use Rattle.index.specs.Entries.{entry}
-use Rattle.index.proofs.Entries.{two-fields-dated}
+use Rattle.index.proofs.Entries.{two-fields}
 use borrow.Author.Needs.{needs}
 use Rattle.index.proofs.reader.entry_mv.Statement.{statement}
 use Rattle.index.proofs.reader.entry_mv.Tie as tie
 
 returns : tie.Need-returns
 unfolding slotAt size widths keyWidth keyIn rowOf table fieldsAt kindOf isDated
-returns c = ap (entry _) (c .slot-mm .ensures ∙ ap (slot MM) (rw (c .before .before .u8-at .ensures, c .before .u8-at2 .ensures) (two-fields-dated _)))
+returns c = ap (entry _) (c .slot-mm .ensures ∙ ap (slot MM) (rw (c .before .before .u8-at .ensures, c .before .u8-at2 .ensures) (two-fields 10 _)))
 
 pub entry-mv-spec : {M : Type 1} → statement M
 entry-mv-spec =
