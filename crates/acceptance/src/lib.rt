@@ -6,12 +6,13 @@ ghost use Prim.Native.Nat.{_<_};
 ghost use lib.ListN.{length};
 ghost use Rattle.records.specs.declared.Answer.the-variants.{Accepted};
 ghost use Rattle.records.specs.Dossier.{records, scan};
-ghost use Rattle.station.specs.Current.{current, readable};
+ghost use Rattle.station.specs.Current.{current, twins, readable};
 ghost use Rattle.station.specs.Week.{WeekIn};
-ghost use Rattle.lookup.specs.Parts.{Empty, Whole, Complete, UpTo, Undated};
+ghost use Rattle.lookup.specs.Parts.{Empty, Whole, Complete, UpTo};
+ghost use Rattle.station.specs.InForce.{Undated};
 ghost use Rattle.rules.specs.Fit.{Known, unfit};
+ghost use Rattle.trials.specs.Trials.{KeysFit};
 ghost use Rattle.records.specs.Table.{RS};
-ghost use Rattle.station.specs.Parameters.{parameters, technology};
 ghost use Rattle.rules.specs.Answer.{answer};
 use index::Passed;
 use lookup::Room;
@@ -24,16 +25,34 @@ pub struct Judged {
     pub dated: bool,
 }
 
-// 6: where no record has a first hour the index tells it, and else what counts at some hour.
-fn unfit_in(d: &[u8], index: &[u16], rs: &[u8], t: u8, top: usize, dated: bool) -> Answer
-    requires { ⌜ Whole (now d) (now index) × Complete (now d) (now index) × (dated ≡ false → Undated (now d)) × (readable (now d) ≡ Accepted) × Known t
-        × (t ≡ technology (parameters (records (now d)))) × (now rs ≡ current RS 0 (records (now d))) × UpTo (now d) top ⌝ }
+// 6 where a record may have a first hour: told by what FU and MM say if it is known that others fit, else by what counts at some hour. That search is
+// called twice, so that the compiler keeps its arrays out of the frames of its callers.
+fn unfit_dated(d: &[u8], index: &[u16], t: u8, slots: bool) -> Answer
+    requires { ⌜ Whole (now d) (now index) × Complete (now d) (now index) × (twins 0 [] (records (now d)) ≡ Accepted) × Known t
+        × (slots ≡ true → KeysFit t (records (now d))) ⌝ }
     ensures { λ r. ⌜ r ≡ unfit t (records (now (d .entry))) ⌝ }
 {
-    if dated {
-        return counting::first_unfit(d, t);
+    if !slots {
+        return counting::first_unfit(d, index, t, true);
     }
-    fit::unfit_of(d, index, rs, t, top)
+    if fit::values_fit(d, t) {
+        return Answer::Accepted;
+    }
+    counting::first_unfit(d, index, t, false)
+}
+
+// 6: the slots of the index tell most of it. But for a thermal station, a short dossier without first hours is gone through sooner than the index.
+fn unfit_in(d: &[u8], index: &[u16], rs: &[u8], t: u8, top: usize, dated: bool) -> Answer
+    requires { ⌜ Whole (now d) (now index) × Complete (now d) (now index) × (dated ≡ false → Undated (now d)) × (readable (now d) ≡ Accepted) × Known t
+        × (now rs ≡ current RS 0 (records (now d))) × UpTo (now d) top ⌝ }
+    ensures { λ r. ⌜ r ≡ unfit t (records (now (d .entry))) ⌝ }
+{
+    let worth = dated | (t == 1) | (200 < d.len());
+    let slots = fit::slots_tell(index, rs, t, top, worth);
+    if dated {
+        return unfit_dated(d, index, t, slots);
+    }
+    fit::unfit_of(d, index, t, slots)
 }
 
 // 5 to 9 and 17, of a dossier that draws none before them, given the highest slot of a record and whether one has a first hour.

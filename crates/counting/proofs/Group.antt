@@ -17,6 +17,8 @@ use Rattle.records.specs.Record.{inRange, rangesHold, fault, since}
 use Rattle.records.proofs.Record.{faultless, field-in, key-ends}
 use Rattle.records.proofs.EveryMark.{mark-lt, by-mark}
 use Rattle.records.proofs.Read.{number-take}
+use Rattle.index.specs.Slots.{slot, slotAt}
+use Rattle.trials.specs.Trials.{valued}
 use Rattle.counting.specs.Sweep.{group, groupAt}
 
 -- ---- no two kinds and keys share a number
@@ -206,6 +208,20 @@ module _ (k : ℕ) (s : List ℕ) (h : k < marks) {j o : ℕ} (ej : j ≡ kindOf
   grouped : {w : ℕ} → keyWidth k ≡ w → group j (number o w s) ≡ groupAt k s
   unfolding groupAt
   grouped e = rw (ej, eo, e) refl
+
+  slotted : {w : ℕ} → keyWidth k ≡ w → slot j (number o w s) ≡ slotAt k s
+  unfolding slotAt
+  slotted e = rw (ej, eo, e) refl
+
+  -- the slot of an FU or MM
+  pub slot-fuel : {a x : ℕ} → j ≡ FU → a ≡ number o 1 s → x ≡ slot FU a → x ≡ slotAt k s
+  slot-fuel z p q = q ∙ ap (slot FU) p ∙ ap (λ (y : ℕ). slot y (number o 1 s)) (sym z) ∙ slotted (its-width ∙ rw z refl)
+
+  pub slot-item : valued k ≡ true → (j ≡ FU → ⊥) → {a b x : ℕ} → a ≡ number o 1 s → b ≡ number (o + 1) 1 s → x ≡ slot MM (a * 256 + b) → x ≡ slotAt k s
+  unfolding valued
+  slot-item v y p q e =
+      let z : j ≡ MM = eqb-true j MM (rw (← ej, ne-eqb j FU y) at v) in
+      e ∙ ap (slot MM) (rw (p, q) (sym (number-join o 1 1 s))) ∙ ap (λ (y : ℕ). slot y (number o 2 s)) (sym z) ∙ slotted (its-width ∙ rw z refl)
 
   pub from-low : o + 1 < 65536
   from-low = rw (eo, fields-by k h) (go (leb k 11))

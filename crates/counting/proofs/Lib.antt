@@ -2,4 +2,8 @@ pub mod Group
 pub mod Loops
 pub mod Least
 pub mod Places
+pub mod Hidden
+pub mod Held
+pub mod Filling
+pub mod Fewer
 pub mod Searched

@@ -1,37 +1,26 @@
 -- The turns of the loops.
 use mathlib.Core.Path.{_≡_, refl, ap, sym, _∙_}
 use mathlib.Core.Bool.{Bool, true, false, cond, _&&_, not}
-use mathlib.Core.List.{List, [], _∷_, _++_, append-nil}
-use Prim.Native.Nat.{ℕ, zero, suc, _+_, _-_, _≤_, _<_, min}
-use native.Mathlib.Numerals.{add-one}
+use mathlib.Core.List.{List, _∷_}
+use Prim.Native.Nat.{ℕ, zero, suc, _-_, _≤_, _<_, min}
 use native.Mathlib.Omega.{arith}
 use lib.Dec.{ltb}
-use lib.ListN.{length, getD, take, drop, set}
-use lib.Seq.{append-snoc, drop-cons, drop-length, take-suc-set}
+use lib.ListN.{length, getD, take, drop}
+use lib.Seq.{drop-cons, drop-length}
 use borrow.Author.Tests.{lt-ltb, le-ltb}
 use Rattle.lists.specs.Lists.{Each, done, also}
-use Rattle.lists.specs.Tests.{everyOf}
 use Rattle.fields.specs.Numbers.{number}
-use Rattle.records.specs.declared.Answer.the-variants.{Accepted}
-use Rattle.records.specs.Record.{mark, isDated, kind, keyOf, size, issue, since, fault}
-use Rattle.records.specs.MarkShapes.{shortest}
-use Rattle.records.specs.Dossier.{firstOf, records, scan}
-use Rattle.records.proofs.Record.{faultless, size-ge, key-ends, mark-take}
-use Rattle.records.proofs.EveryMark.{mark-lt, size-least}
+use Rattle.records.specs.Record.{mark, isDated, size, since}
+use Rattle.records.specs.Dossier.{firstOf}
+use Rattle.records.proofs.Record.{size-ge, key-ends, mark-take}
 use Rattle.records.proofs.Read.{number-take}
 use Rattle.records.proofs.Dated.{dated-at}
-use Rattle.records.proofs.Dossier.{scan-each}
-use Rattle.records.proofs.Over.{tail, Over, begins, ends, its-fault, its-mark, its-length, within, answers, goes-on}
+use Rattle.records.proofs.Over.{tail}
 use Rattle.rules.specs.Fit.{fits}
 use Rattle.trials.proofs.Laws.{fits-take}
 use Rattle.counting.specs.declared.Swept.{Swept}
-use Rattle.counting.specs.Sweep.{allFit, group, groupAt, packed, idsFrom, groupIn, placeIn, recordAt, Numbered}
+use Rattle.counting.specs.Sweep.{groupIn, placeIn}
 use Rattle.counting.specs.Sweep.{never, nowhere, state, leastOf, sweptBy, stepped, sweptIn}
-use Rattle.counting.proofs.Least.{each-append}
-use Rattle.counting.proofs.Group.{its-group, its-bound, group-lt}
-
-abbrev Sane : List ℕ → Type 0
-Sane r = fault r ≡ 0
 
 -- ---- a record cut from the rest
 
@@ -46,120 +35,6 @@ since-first s = rw (mark-take (size (mark s)) s (omega (arith, size-ge (mark s))
 pub fits-first : (t : ℕ) (s : List ℕ) → fits t (mark (firstOf s)) (firstOf s) ≡ fits t (mark s) s
 unfolding firstOf
 fits-first t s = rw (mark-take (size (mark s)) s (omega (arith, size-ge (mark s)))) (fits-take t (mark s) s)
-
--- ---- whether all fit
-
-abbrev fitting : ℕ → ℕ → ℕ → List (List ℕ) → Bool
-fitting t _ p l = allFit t l
-
-abbrev pub Trying : ℕ → List ℕ → ℕ → Type 0
-Trying t d p = Over Sane (fitting t) 0 d p 0
-
-pub try-first : (t : ℕ) (d : List ℕ) → scan 0 (records d) ≡ Accepted → Trying t d 0
-try-first t d h = begins (scan-each 0 (records d) h)
-
-pub try-last : (t : ℕ) (d : List ℕ) (p : ℕ) → length d ≤ p → Trying t d p → true ≡ allFit t (records d)
-unfolding allFit everyOf
-try-last t d p h o = ends h o
-
-module _ (t : ℕ) (d : List ℕ) (p : ℕ) (h : p < length d) (o : Trying t d p) {n : ℕ} (en : n ≡ size (mark (take (length d - p) (drop p d)))) where
-  pub try-within : (1 ≤ n) × (n ≤ length d - p)
-  try-within = within (λ r e. e) h o en
-
-  module _ {b : Bool} (eb : b ≡ fits t (mark (take (length d - p) (drop p d))) (take (length d - p) (drop p d))) where
-    its-fit : fits t (mark (take n (drop p d))) (take n (drop p d)) ≡ b
-    its-fit =
-        rw (en, tail d p) (fits-first-as (drop p d)) ∙ sym (eb ∙ ap (λ (x : List ℕ). fits t (mark x) x) (tail d p))
-      where
-        fits-first-as : (s : List ℕ) → fits t (mark (take (size (mark s)) s)) (take (size (mark s)) s) ≡ fits t (mark s) s
-        fits-first-as s = unfold firstOf in fits-first t s
-
-    pub try-stops : b ≡ false → false ≡ allFit t (records d)
-    unfolding allFit everyOf
-    try-stops e = answers (λ r z. z) h o en (rw (its-fit ∙ e) refl)
-
-    pub try-next : b ≡ true → Trying t d (p + n)
-    unfolding allFit everyOf
-    try-next e = goes-on (λ r z. z) h o en (rw (its-fit ∙ e) refl)
-
--- ---- the numbers
-
-abbrev numbered : List ℕ → ℕ → List (List ℕ) → List ℕ
-numbered seen p l = seen ++ idsFrom p l
-
--- the numbers of the records before place p
-abbrev pub Filling : List ℕ → List ℕ → ℕ → Type 0
-Filling d seen p = Over Sane numbered [] d p seen × Each (Numbered d) seen
-
-pub fill-first : (d : List ℕ) → scan 0 (records d) ≡ Accepted → Filling d [] 0
-fill-first d h = (begins (scan-each 0 (records d) h), done)
-
-pub fill-last : (d seen : List ℕ) (p : ℕ) → length d ≤ p → Filling d seen p → seen ≡ idsFrom 0 (records d)
-unfolding idsFrom
-fill-last d seen p h o = sym (append-nil seen) ∙ ends h (o .0)
-
-module _ (d seen : List ℕ) (p : ℕ) (h : p < length d) (o : Filling d seen p) {k n : ℕ} (ek : k ≡ mark (take (length d - p) (drop p d))) (en : n ≡ size k) where
-  n-is : n ≡ size (mark (take (length d - p) (drop p d)))
-  n-is = en ∙ ap size ek
-
-  abbrev r : List ℕ
-  r = take n (drop p d)
-
-  clean : fault r ≡ 0
-  clean = its-fault (λ r e. e) h (o .0) n-is
-
-  same : mark r ≡ mark (drop p d)
-  same = its-mark (λ r e. e) h (o .0) n-is
-
-  size-is : n ≡ size (mark (drop p d))
-  size-is = n-is ∙ ap (λ (x : List ℕ). size (mark x)) (tail d p)
-
-  pub fill-within : (shortest ≤ n) × (n ≤ length d - p)
-  fill-within =
-      let f = faultless r clean in
-      (rw (size-is, ← same) (size-least (mark r) (f .known) (mark-lt r)), within (λ r e. e) h (o .0) n-is .1)
-
-  module _ {g : ℕ} (eg : g ≡ groupAt k (take (length d - p) (drop p d))) where
-    group-is : g ≡ group (kind r) (keyOf r)
-    group-is =
-        eg ∙ ap (λ (j : ℕ). groupAt j (take (length d - p) (drop p d))) ek ∙ ap (λ (x : List ℕ). groupAt (mark x) x) (tail d p)
-        ∙ sym (its-group (drop p d) n size-is same)
-
-    pub fill-low : g < 65536
-    fill-low = rw group-is (group-lt (kind r) (keyOf r) (its-bound r clean))
-
-    module _ {i : ℕ} (ei : i ≡ number 2 4 (take (length d - p) (drop p d))) (li : i < 4294967296) where
-      issue-is : i ≡ issue r
-      unfolding issue
-      issue-is = ei ∙ ap (number 2 4) (tail d p) ∙ sym (number-take n 2 4 (drop p d) (omega (arith, size-is, size-ge (mark (drop p d)))))
-
-      pub fill-next : length d ≤ 60000 → Filling d (seen ++ (packed g i p ∷ [])) (p + n)
-      fill-next short = (
-        goes-on (λ r e. e) h (o .0) n-is (turn (its-length (λ r e. e) h (o .0) n-is) _),
-        each-append (o .1) (also numbers done),
-      )
-        where
-          place : placeIn (packed g i p) ≡ p
-          place = omega arith
-
-          there : recordAt d (packed g i p) ≡ r
-          there = unfold recordAt firstOf in rw (place, size-is) refl
-
-          numbers : Numbered d (packed g i p)
-          numbers =
-              record {
-                clean = rw there clean;
-                inside = omega arith;
-                narrow = rw (there, ← issue-is) li;
-                number = rw (there, place, ← group-is, ← issue-is) refl;
-              }
-
-          turn : length r ≡ n → (l : List (List ℕ)) → seen ++ idsFrom p (r ∷ l) ≡ seen ++ (packed g i p ∷ []) ++ idsFrom (p + n) l
-          turn e l = unfold idsFrom in rw (group-is, issue-is, e) (sym (append-snoc seen _ (idsFrom (p + n) l)))
-
--- one number more in the list
-pub one-more : (d a : List ℕ) (count p x : ℕ) → count < length a → Filling d (take count a ++ (x ∷ [])) p → Filling d (take (count + 1) (set a count x)) p
-one-more d a count p x h f = rw (add-one count, take-suc-set a count x h) f
 
 -- ---- from the last to the first
 

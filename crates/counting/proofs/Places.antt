@@ -8,7 +8,8 @@ use lib.Dec.{ltb}
 use lib.ListN.{length, drop, List·getD-append, length-append, length-drop}
 use lib.Seq.{take-at, drop-append-seam, drop-drop}
 use borrow.Author.Tests.{lt-ltb}
-use Rattle.lists.specs.Lists.{Each, done, also, Permutation, empty, keep, swap, then, joined}
+use Rattle.lists.specs.Lists.{Each, done, also, Permutation, empty, keep, swap, then, those, joined}
+use Rattle.lists.proofs.Tests.{split}
 use Rattle.records.specs.declared.Answer.{Answer}
 use Rattle.records.specs.declared.Answer.the-variants.{Accepted, Refused}
 use Rattle.records.specs.Record.{mark, size, fault}
@@ -49,14 +50,17 @@ stands d e = standing d 0 (records-whole d e) (omega arith) (sym (joined-records
 pub place-in : (g i p : ℕ) → p ≤ 60000 → placeIn (packed g i p) ≡ p
 place-in g i p h = omega arith
 
-module _ (d : List ℕ) (short : length d ≤ 60000) where
+module _ (d : List ℕ) (short : length d ≤ 60000) (f : List ℕ → Bool) where
   -- so the numbers tell the records
-  pub told : (p : ℕ) (l : List (List ℕ)) → Stands d p l → map (recordAt d) (idsFrom p l) ≡ l
-  unfolding idsFrom recordAt
+  pub told : (p : ℕ) (l : List (List ℕ)) → Stands d p l → map (recordAt d) (idsFrom f p l) ≡ those f l
+  unfolding idsFrom recordAt those
   told p [] s = refl
-  told p (r ∷ l) s =
-      let q : p ≤ 60000 = omega (arith, s .1) in
-      ap₂ (λ (a : List ℕ) (b : List (List ℕ)). a ∷ b) (ap (λ (i : ℕ). firstOf (drop i d)) (place-in _ _ p q) ∙ s .0) (told (p + length r) l (s .2))
+  told p (r ∷ l) s = go (f r) _ _ (ap (λ (i : ℕ). firstOf (drop i d)) (place-in _ _ p (omega (arith, s .1))) ∙ s .0) (told (p + length r) l (s .2))
+    where
+      go : (b : Bool) (x : ℕ) (m : List ℕ) → recordAt d x ≡ r → map (recordAt d) m ≡ those f l
+          → map (recordAt d) (cond b (x ∷ m) m) ≡ cond b (r ∷ those f l) (those f l)
+      go true x m e h = ap₂ (λ (a : List ℕ) (b : List (List ℕ)). a ∷ b) e h
+      go false x m e h = h
 
 -- ---- the least place of those that a test holds of
 
@@ -64,10 +68,16 @@ unfoldable pub lowest : (ℕ → Bool) → List ℕ → ℕ
 lowest f [] = nowhere
 lowest f (x ∷ l) = cond (f x) (min (placeIn x) (lowest f l)) (lowest f l)
 
-pub lowest-same : (f g : ℕ → Bool) → ((x : ℕ) → f x ≡ g x) → (l : List ℕ) → lowest f l ≡ lowest g l
+pub lowest-same : (f g : ℕ → Bool) {l : List ℕ} → Each (λ x. f x ≡ g x) l → lowest f l ≡ lowest g l
 unfolding lowest
-lowest-same f g h [] = refl
-lowest-same f g h (x ∷ l) = rw (h x, lowest-same f g h l) refl
+lowest-same f g done = refl
+lowest-same f g (also h e) = rw (h, lowest-same f g e) refl
+
+pub lowest-those : (f k : ℕ → Bool) {l : List ℕ} → Each (λ x. k x ≡ false → f x ≡ false) l → lowest f (those k l) ≡ lowest f l
+unfolding lowest those
+lowest-those f k done = refl
+lowest-those f k (also {a = x} {l = l} h e) =
+    split (k x) (λ y. rw (y, lowest-those f k e) refl) (λ y. rw (y, h y) (lowest-those f k e))
 
 pub lowest-permuted : (f : ℕ → Bool) {l m : List ℕ} → Permutation l m → lowest f l ≡ lowest f m
 unfolding lowest
@@ -86,26 +96,36 @@ lowest-permuted f (swap x y l) = go (f x) (f y)
     go false false = refl
 lowest-permuted f (then p q) = lowest-permuted f p ∙ lowest-permuted f q
 
-module _ (d : List ℕ) (short : length d ≤ 60000) (f : List ℕ → Bool) where
+module _ (d : List ℕ) (short : length d ≤ 60000) (g f : List ℕ → Bool) where
   -- it is not before the first
-  lowest-from : (p : ℕ) (l : List (List ℕ)) → p ≤ 60000 → Stands d p l → p ≤ lowest (λ x. f (recordAt d x)) (idsFrom p l)
+  lowest-from : (p : ℕ) (l : List (List ℕ)) → p ≤ 60000 → Stands d p l → p ≤ lowest (λ x. f (recordAt d x)) (idsFrom g p l)
   unfolding lowest idsFrom
   lowest-from p [] q s = omega arith
-  lowest-from p (r ∷ l) q s = go _ (f _) (place-in _ _ p q) (lowest-from (p + length r) l (omega (arith, s .1)) (s .2))
+  lowest-from p (r ∷ l) q s = by (g r) _ _ (place-in _ _ p q) (lowest-from (p + length r) l (omega (arith, s .1)) (s .2))
     where
       go : (x : ℕ) (b : Bool) {n : ℕ} → placeIn x ≡ p → p + length r ≤ n → p ≤ cond b (min (placeIn x) n) n
       go x true e h = omega (arith, e, h)
       go x false e h = omega (arith, h)
 
-  -- and tells the first that draws 6
-  pub first-lowest : (p : ℕ) (l : List (List ℕ)) → p ≤ 60000 → Stands d p l
-      → answerAt (lowest (λ x. f (recordAt d x)) (idsFrom p l)) ≡ firstDrawn (λ q r. refuseIf (f r) 6 q) p l
+      by : (c : Bool) (x : ℕ) (m : List ℕ) → placeIn x ≡ p → p + length r ≤ lowest (λ x. f (recordAt d x)) m
+          → p ≤ lowest (λ x. f (recordAt d x)) (cond c (x ∷ m) m)
+      by true x m e h = go x (f (recordAt d x)) e h
+      by false x m e h = omega (arith, h)
+
+  -- and tells the first that draws 6, if none does that has no number
+  pub first-lowest : (p : ℕ) {l : List (List ℕ)} → p ≤ 60000 → Stands d p l → Each (λ r. g r ≡ false → f r ≡ false) l
+      → answerAt (lowest (λ x. f (recordAt d x)) (idsFrom g p l)) ≡ firstDrawn (λ q r. refuseIf (f r) 6 q) p l
   unfolding answerAt firstDrawn lowest idsFrom
-  first-lowest p [] q s = refl
-  first-lowest p (r ∷ l) q s =
-      go _ (place-in _ _ p q) (lowest-from (p + length r) l (omega (arith, s .1)) (s .2))
-      (first-lowest (p + length r) l (omega (arith, s .1)) (s .2))
+  first-lowest p q s done = refl
+  first-lowest p q s (also {a = r} {l = l} w e) =
+      split (g r)
+      (λ y. rw y (go _ (place-in _ _ p q) (lowest-from (p + length r) l (omega (arith, s .1)) (s .2))
+      (first-lowest (p + length r) (omega (arith, s .1)) (s .2) e)))
+      (λ y. rw (y, w y) (first-lowest (p + length r) (omega (arith, s .1)) (s .2) e ∙ sym (passed _)))
     where
+      passed : (a : Answer) → orElse (refuseIf false 6 p) a ≡ a
+      passed a = unfold orElse refuseIf in refl
+
       there : (x : ℕ) → placeIn x ≡ p → recordAt d x ≡ r
       there x e = unfold recordAt in ap (λ (i : ℕ). firstOf (drop i d)) e ∙ s .0
 

@@ -1,3 +1,4 @@
 pub mod Plain
 pub mod Unfit
 pub mod Search
+pub mod Values

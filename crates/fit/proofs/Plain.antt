@@ -3,29 +3,26 @@ use mathlib.Core.Path.{_≡_, refl, ap, sym, _∙_}
 use mathlib.Core.Bool.{false}
 use mathlib.Core.List.{List, []}
 use Prim.Native.Nat.{ℕ, _+_, _-_, _≤_, _<_}
-use native.Mathlib.Nat.{le-refl}
 use native.Mathlib.Omega.{arith}
-use lib.Dec.{leb, eqb}
 use lib.ListN.{length, getD, take, drop, length-take, length-drop}
-use borrow.Author.Tests.{le-leb, ne-eqb, le-ltb}
-use Rattle.lists.specs.Lists.{Each}
-use Rattle.lists.proofs.Lists.{each-map, member-each, those-all}
+use borrow.Author.Tests.{ne-eqb, le-ltb}
+use Rattle.lists.proofs.Lists.{member-each}
 use Rattle.records.specs.Table.{table, rowOf, kinds}
-use Rattle.records.specs.Record.{mark, isDated, kind, since, size, issue, keyOf}
+use Rattle.records.specs.Record.{mark, isDated, kind, size}
 use Rattle.records.specs.MarkShapes.{body}
 use Rattle.records.specs.Dossier.{firstOf, records}
 use Rattle.records.proofs.Record.{mark-nil, mark-take, size-ge}
 use Rattle.records.proofs.EveryMark.{mark-lt, kind-lt}
 use Rattle.records.proofs.Dated.{plain-mark, body-plain}
 use Rattle.station.specs.Current.{current}
-use Rattle.station.specs.InForce.{inForce, countsAt, counts}
 use Rattle.station.specs.Declared.{CurrentOf, absent, standing}
 use Rattle.station.proofs.Current.{current-found, each-current}
 use Rattle.index.specs.Slots.{slot}
 use Rattle.index.specs.Holding.{heldRecord, IndexOf}
 use Rattle.index.proofs.KeyBounds.{InKey, key-test}
 use Rattle.index.proofs.Holds.{Good, good-records}
-use Rattle.lookup.specs.Parts.{partBytes, placeIn, placeAt, partAt, Whole, held, Undated}
+use Rattle.lookup.specs.Parts.{partBytes, placeIn, placeAt, partAt, Whole, held}
+use Rattle.station.specs.InForce.{Undated}
 use Rattle.lookup.proofs.Parts.{whole-index}
 use Rattle.lookup.proofs.Held.{current-whole}
 
@@ -33,21 +30,6 @@ use Rattle.lookup.proofs.Held.{current-whole}
 pub plain-lt : (s : List ℕ) → isDated (mark s) ≡ false → mark s < kinds
 unfolding kind
 plain-lt s e = rw (plain-mark s e) (kind-lt (mark s) (mark-lt s))
-
--- ---- what counts
-
-come-first : (r : List ℕ) → isDated (mark r) ≡ false → since r ≡ 0
-unfolding since
-come-first r e = rw e refl
-
-all-come : (h : ℕ) {l : List (List ℕ)} → Each (λ r. isDated (mark r) ≡ false) l → inForce h l ≡ l
-unfolding inForce
-all-come h u = those-all (λ r. leb (since r) h) (each-map (λ r e. le-leb (since r) h (omega (arith, come-first r e))) u)
-
-pub undated-counts : {l : List (List ℕ)} → Each (λ r. isDated (mark r) ≡ false) l → (r : List ℕ)
-    → counts l r ≡ eqb (issue r) (issue (current (kind r) (keyOf r) l))
-unfolding counts countsAt
-undated-counts u r = rw (le-leb (since r) (since r) (le-refl _), all-come (since r) u) refl
 
 -- ---- the current records
 

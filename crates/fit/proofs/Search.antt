@@ -29,11 +29,13 @@ use Rattle.station.specs.InForce.{counts}
 use Rattle.index.specs.Slots.{slotAt, slot}
 use Rattle.index.proofs.KeyBounds.{in-key}
 use Rattle.index.proofs.Turn.{its-slot as found-slot}
-use Rattle.lookup.specs.Parts.{partAt, Whole, Complete, Undated}
+use Rattle.lookup.specs.Parts.{partAt, Whole, Complete}
+use Rattle.station.specs.InForce.{Undated}
 use Rattle.rules.specs.Fit.{fits, unfit}
 use Rattle.trials.proofs.Laws.{fits-take}
 use Rattle.fit.specs.BySlots.{notFit}
-use Rattle.fit.proofs.Plain.{undated-counts, part-plain}
+use Rattle.station.proofs.Undated.{undated-counts}
+use Rattle.fit.proofs.Plain.{part-plain}
 
 -- ---- the loop over the records
 

@@ -1,7 +1,7 @@
--- 6 by the slots of the index: where no slot has a record that does not fit, none does.
-use mathlib.Core.Path.{_≡_, refl, ap, sym, subst, _∙_}
+-- 6 by the slots of the index, and by what FU and MM say: where no slot has a record that does not fit, none does.
+use mathlib.Core.Path.{_≡_, refl, ap, ap₂, sym, subst, _∙_}
 use mathlib.Core.Bool.{Bool, true, false, _&&_, _||_, not, false≢true}
-use mathlib.Core.List.{List, []}
+use mathlib.Core.List.{List, [], _∷_}
 use Prim.Native.Nat.{ℕ, _+_, _-_, _*_, _/_, _%_, _≤_, _<_}
 use native.Mathlib.Numerals.{add-one}
 use native.Mathlib.Omega.{arith}
@@ -9,38 +9,40 @@ use lib.Bits.{bitOr}
 use lib.Dec.{ltb, eqb}
 use lib.ListN.{length, getD, List·getD-eq-default}
 use borrow.Author.Tests.{ltb-true, ltb-false, lt-ltb, eqb-true, eq-eqb, not-true}
-use Rattle.lists.specs.Lists.{Member, here, there}
-use Rattle.lists.specs.Tests.{allBelow, allTo}
-use Rattle.lists.proofs.Lists.{each-map, member-each, members}
+use Rattle.lists.specs.Lists.{Each, done, also, Member, here, there}
+use Rattle.lists.specs.Tests.{allBelow, allTo, among, everyOf}
+use Rattle.lists.proofs.Lists.{each-map, each-both, each-of, member-each, members}
 use Rattle.lists.proofs.Tests.{and-true, and-left, and-right, split, below-at, to-at, at-to, or-none}
 use Rattle.fields.specs.Numbers.{number}
 use Rattle.records.specs.declared.Answer.the-variants.{Accepted}
-use Rattle.records.specs.Table.{table, rowOf, thermal, nuclear, storage, hydro, RS, HP, FU, AD, MM, HR, CH, TH, FP, LC}
-use Rattle.records.specs.MarkShapes.{shape, shapeOf}
-use Rattle.records.specs.Record.{mark, isDated, kind, issue, keyIn, keyWidth, keyOf, rangesHold, fault}
+use Rattle.records.specs.Table.{table, rowOf, thermal, nuclear, storage, hydro, marks, RS, HP, FU, AD, MM, RQ, HR, CH, TH, FP, LC, AV}
+use Rattle.records.specs.MarkShapes.{shape, shapeOf, body}
+use Rattle.records.specs.Record.{mark, isDated, kindOf, kind, datable, issue, fieldsAt, keyIn, keyWidth, keyOf, rangesHold, fault}
 use Rattle.records.specs.Answers.{refuseIf}
 use Rattle.records.specs.Dossier.{records, scan}
 use Rattle.records.proofs.Record.{size-ge, faultless}
-use Rattle.records.proofs.Answers.{orElse-parts}
-use Rattle.records.proofs.Dated.{undated-at, plain-mark}
-use Rattle.records.proofs.Dossier.{scan-each}
+use Rattle.records.proofs.EveryMark.{mark-lt}
+use Rattle.records.proofs.Answers.{orElse-parts, refuseIf-not}
+use Rattle.records.proofs.Dated.{undated-at, other-mark, plain-mark}
+use Rattle.records.proofs.Dossier.{scan-each, each-first}
 use Rattle.station.specs.Current.{current, twin, twins, readable}
 use Rattle.station.specs.InForce.{counts}
-use Rattle.station.specs.Parameters.{parameters, technology}
 use Rattle.station.specs.Declared.{CurrentOf, absent, standing, Distinct}
 use Rattle.station.proofs.Current.{current-found, matches-self}
+use Rattle.station.proofs.InForce.{counts-other}
 use Rattle.station.proofs.Twins.{twins-distinct}
 use Rattle.index.specs.Slots.{narrow, slot, slotsEmpty}
 use Rattle.index.proofs.KeyBounds.{Spans, InKey, in-key, at-kind}
 use Rattle.index.proofs.Slots.{low, high, limits, in-empty}
-use Rattle.lookup.specs.Parts.{Whole, Complete, Undated, UpTo}
+use Rattle.lookup.specs.Parts.{Whole, Complete, UpTo}
+use Rattle.station.specs.InForce.{Undated}
 use Rattle.lookup.proofs.Keys.{item-key}
 use Rattle.lookup.proofs.Parts.{current-in-empty, slot-tells, fits as roomy-fits}
 use Rattle.rules.specs.Fit.{Known, holds, fits, unfit}
-use Rattle.fit.specs.BySlots.{fourthsEmpty, pointsFit, itemsFit, profilesFit, levelFits, proratedFit, pricedFit, allFit}
-use Rattle.rules.proofs.ByMark.{fits-rs, fits-hp, fits-fu, fits-mm, fits-rq, fits-hr, fits-ch, fits-fp, fits-lc, held-ad, held-th}
-use Rattle.rules.proofs.Sound.{each-unfit}
-use Rattle.fit.proofs.Plain.{undated-counts}
+use Rattle.trials.specs.Trials.{valued, valueFits, KeysFit}
+use Rattle.fit.specs.BySlots.{fourthsEmpty, pointsFit, itemsFit, profilesFit, levelFits, proratedFit, pricedFit, slotsFit, valuesFit}
+use Rattle.rules.proofs.ByMark.{fits-rs, fits-hp, fits-fu, fits-mm, fits-rq, fits-hr, fits-ch, fits-fp, fits-lc, fits-body, held-ad, held-av, held-th}
+use Rattle.station.proofs.Undated.{undated-counts}
 
 -- ---- where no two records are twins, one that has the current one's issue is the current one
 
@@ -70,6 +72,61 @@ readable-distinct d e =
     twins-distinct 0 (records d)
     (orElse-parts (scan 0 (records d)) (twins 0 [] (records d)) (orElse-parts (refuseIf (ltb 60000 (length d)) 13 0) _ e .1) .1)
 
+-- of two tests the one that fails leaves the other
+or-right : (a b : Bool) → a ≡ false → a || b ≡ true → b ≡ true
+or-right a b z e = rw z at e
+
+-- ---- marks and kinds
+
+-- a record of a kind without first hours has none
+plainTest : ℕ → Bool
+plainTest k = not (isDated k) || datable (kindOf k)
+
+other-plain : (r : List ℕ) → datable (kind r) ≡ false → isDated (mark r) ≡ false
+unfolding kind plainTest
+other-plain r o =
+    go (isDated (mark r)) (below-at marks plainTest (unfold plainTest allBelow isDated datable among kindOf rowOf table in refl) (mark r) (mark-lt r))
+  where
+    go : (b : Bool) → not b || datable (kindOf (mark r)) ≡ true → b ≡ false
+    go true e = absurd (false≢true (sym o ∙ e))
+    go false e = refl
+
+key-plain : (r : List ℕ) → isDated (mark r) ≡ false → {k : ℕ} → mark r ≡ k → number 6 (keyWidth k) r ≡ keyOf r
+unfolding keyOf
+key-plain r plain m = rw (undated-at (mark r) plain, m) refl
+
+-- AD's marks
+adderTest : ℕ → Bool
+adderTest k = not (eqb (kindOf k) AD) || (eqb k AD || eqb k AV)
+
+adder-mark : {P : Type 0} (r : List ℕ) → kind r ≡ AD → (mark r ≡ AD → P) → (mark r ≡ AV → P) → P
+unfolding kind adderTest
+adder-mark r q f g =
+    let e : eqb (mark r) AD || eqb (mark r) AV ≡ true =
+    rw (eq-eqb (kindOf (mark r)) AD q) at
+    (below-at marks adderTest (unfold adderTest allBelow isDated kindOf rowOf table in refl) (mark r) (mark-lt r)) in
+    split (eqb (mark r) AD) (λ w. f (eqb-true (mark r) AD w)) (λ w. g (eqb-true (mark r) AV (or-right (eqb (mark r) AD) _ w e)))
+
+-- and their keys
+key-ad : (r : List ℕ) → mark r ≡ AD → keyOf r ≡ number 6 3 r
+unfolding keyOf fieldsAt keyWidth keyIn rowOf table
+key-ad r m = rw m refl
+
+key-av : (r : List ℕ) → mark r ≡ AV → keyOf r ≡ number 10 3 r
+unfolding keyOf fieldsAt keyWidth keyIn rowOf table
+key-av r m = rw m refl
+
+-- the kinds that are asked what they say
+valued-kinds : {P : Type 0} (r : List ℕ) → valued (mark r) ≡ true → (kind r ≡ FU → P) → (kind r ≡ MM → P) → P
+unfolding valued kind
+valued-kinds r v f g =
+    split (eqb (kindOf (mark r)) FU) (λ e. f (eqb-true (kindOf (mark r)) FU e))
+    (λ e. g (eqb-true (kindOf (mark r)) MM (or-right (eqb (kindOf (mark r)) FU) _ e v)))
+
+kinds-valued : (r : List ℕ) {k : ℕ} → kind r ≡ k → valued (mark r) ≡ eqb k FU || eqb k MM
+unfolding valued kind
+kinds-valued r q = rw q refl
+
 -- ---- every slot fits
 
 three : (a b c : Bool) → a && b && c ≡ true → (a ≡ true) × (b ≡ true) × (c ≡ true)
@@ -77,77 +134,40 @@ three true true c h = (refl, refl, h)
 three true false c h = absurd (false≢true h)
 three false b c h = absurd (false≢true h)
 
--- of two tests the one that fails leaves the other
-or-right : (a b : Bool) → a ≡ false → a || b ≡ true → b ≡ true
-or-right a b z e = rw z at e
-
 module _ (ix : List ℕ) where
   in-fourths : (a n i j : ℕ) → fourthsEmpty ix a n ≡ true → i < n → a + 4 * i ≡ j → eqb (getD ix j 0) 0 ≡ true
   unfolding fourthsEmpty
   in-fourths a n i j e p q = rw q at (below-at n (λ i. eqb (getD ix (a + 4 * i) 0) 0) e i p)
 
-module _ (t : ℕ) (d ix rs : List ℕ) (top : ℕ) where
-  -- the current record of the mark and key fits, if it has a slot that is not empty and not above the highest
+module _ (t : ℕ) (ix rs : List ℕ) (top : ℕ) where
+  -- a record of the mark and key fits, if they have a slot that is not empty and not above the highest
   abbrev Fit : ℕ → ℕ → Type 0
   Fit k n =
-      (s : List ℕ) → rangesHold k s ≡ true → number 6 (keyWidth k) s ≡ n → current k n (records d) ≡ s → slot k n ≤ top → eqb (getD ix (slot k n) 0) 0 ≡ false
-      → fits t k s ≡ true
+      (s : List ℕ) → rangesHold k s ≡ true → number 6 (keyWidth k) s ≡ n → slot k n ≤ top → eqb (getD ix (slot k n) 0) 0 ≡ false → fits t k s ≡ true
 
   -- there is none
   empty-fit : (k n : ℕ) → eqb (getD ix (slot k n) 0) 0 ≡ true → Fit k n
-  empty-fit k n e s _ _ _ _ z = absurd (false≢true (sym z ∙ e))
+  empty-fit k n e s _ _ _ z = absurd (false≢true (sym z ∙ e))
 
-  module _ (known : Known t) (same : rs ≡ current RS 0 (records d)) (e : allFit t d ix rs top ≡ true) where
+  module _ (known : Known t) (e : slotsFit t ix rs top ≡ true) where
     placed : eqb t hydro || not (ltb narrow (length ix)) ≡ true
-    unfolding allFit
+    unfolding slotsFit
     placed = and-left _ _ e
 
-    parts : (fits t RS rs && pointsFit t ix && profilesFit t d && allTo 4 (levelFits t ix) ≡ true) × (proratedFit t ix ≡ true) × (pricedFit t ix top ≡ true)
-    unfolding allFit
+    parts : (fits t RS rs && pointsFit t ix && allTo 4 (levelFits t ix) ≡ true) × (proratedFit t ix ≡ true) × (pricedFit t ix top ≡ true)
+    unfolding slotsFit
     parts = three _ _ _ (and-right (eqb t hydro || not (ltb narrow (length ix))) _ e)
 
-    first-parts : (fits t RS rs && pointsFit t ix ≡ true) × (profilesFit t d ≡ true) × (allTo 4 (levelFits t ix) ≡ true)
+    first-parts : (fits t RS rs ≡ true) × (pointsFit t ix ≡ true) × (allTo 4 (levelFits t ix) ≡ true)
     first-parts = three _ _ _ (parts .0)
-
-    fit-rs : (n : ℕ) → InKey RS n → Fit RS n
-    unfolding Spans shapeOf shape rowOf table
-    fit-rs n q s _ _ c _ _ =
-        let z : n ≡ 0 = omega (arith, q .spans) in
-        subst (λ (r : List ℕ). fits t RS r ≡ true) (same ∙ ap (λ (i : ℕ). current RS i (records d)) (sym z) ∙ c)
-        (and-left (fits t RS rs) (pointsFit t ix) (first-parts .0))
 
     fit-hp : (n : ℕ) → InKey HP n → Fit HP n
     unfolding low high
     fit-hp n q =
         split (eqb t thermal)
-        (λ w s _ _ _ _ _. sym (fits-hp t s known) ∙ w)
-        (λ w. empty-fit HP n (in-empty ix 1 21 (slot HP n) (or-right (eqb t thermal) _ w (and-right (fits t RS rs) (pointsFit t ix) (first-parts .0)))
+        (λ w s _ _ _ _. sym (fits-hp t s known) ∙ w)
+        (λ w. empty-fit HP n (in-empty ix 1 21 (slot HP n) (or-right (eqb t thermal) _ w (first-parts .1))
         (omega (arith, limits HP n q)) (omega (arith, limits HP n q))))
-
-    -- FU and MM of a profile, of a station that is not thermal
-    profile-parts : eqb t thermal ≡ false → (p : ℕ) → 1 ≤ p → p ≤ 4 → (fits t FU (current FU p (records d)) ≡ true) × (itemsFit t d p ≡ true)
-    unfolding profilesFit
-    profile-parts w p a b =
-        let z = to-at 4 (λ p. fits t FU (current FU p (records d)) && itemsFit t d p) (or-right (eqb t thermal) _ w (first-parts .1)) p a b in
-        (and-left _ _ z, and-right (fits t FU (current FU p (records d))) _ z)
-
-    fit-fu : (n : ℕ) → InKey FU n → Fit FU n
-    unfolding Spans shapeOf shape rowOf table
-    fit-fu n q =
-        split (eqb t thermal)
-        (λ w s _ _ _ _ _. sym (fits-fu t s known) ∙ rw (eqb-true t thermal w) refl)
-        (λ w s _ _ c _ _. subst (λ (r : List ℕ). fits t FU r ≡ true) c (profile-parts w n (omega (arith, q .spans)) (omega (arith, q .spans)) .0))
-
-    fit-mm : (n : ℕ) → InKey MM n → Fit MM n
-    unfolding itemsFit Spans shapeOf shape rowOf table
-    fit-mm n q =
-        split (eqb t thermal)
-        (λ w s _ _ _ _ _. sym (fits-mm t s known) ∙ rw w refl)
-        (λ w s _ _ c _ _.
-        let z = profile-parts w (n / 256) (omega (arith, q .spans)) (omega (arith, q .spans)) .1 in
-        let k : n / 256 * 256 + n % 256 ≡ n = omega arith in
-        subst (λ (r : List ℕ). fits t MM r ≡ true) (ap (λ (i : ℕ). current MM i (records d)) k ∙ c)
-        (to-at 8 (λ j. fits t MM (current MM (n / 256 * 256 + j) (records d))) z (n % 256) (omega (arith, q .spans)) (omega (arith, q .spans))))
 
     -- a level that is not held has no slot of AD and none of TH
     unheld : (v : ℕ) → holds t v ≡ false → 1 ≤ v → v ≤ 4 → (fourthsEmpty ix (25 + v) 20 ≡ true) × (fourthsEmpty ix (153 + v) 3 ≡ true)
@@ -160,7 +180,7 @@ module _ (t : ℕ) (d ix rs : List ℕ) (top : ℕ) where
     unfolding slot keyWidth keyIn Spans shapeOf shape rowOf table
     fit-th n q =
         split (holds t (n % 256))
-        (λ w s g i _ _ _. held-th t s known g (rw (← i) at w))
+        (λ w s g i _ _. held-th t s known g (rw (← i) at w))
         (λ w. empty-fit TH n (in-fourths ix (153 + n % 256) 3 (n / 256 - 1) (slot TH n)
         (unheld (n % 256) w (omega (arith, q .spans)) (omega (arith, q .spans)) .1) (omega (arith, q .spans)) (omega (arith, q .spans))))
 
@@ -172,25 +192,23 @@ module _ (t : ℕ) (d ix rs : List ℕ) (top : ℕ) where
         in-empty ix (42 + 20 * p) 4 (slot AD n) (below-at 4 (λ p. slotsEmpty ix (42 + 20 * p) 4) (or-right (eqb t nuclear) _ w (parts .1)) p
         (omega (arith, q .spans))) (omega (arith, q .spans, five)) (omega (arith, q .spans, five))
 
-    fit-ad : (n : ℕ) → InKey AD n → Fit AD n
-    unfolding slot keyWidth keyIn Spans shapeOf shape rowOf table
-    fit-ad n q =
-        split (holds t (n % 256))
-        (λ w s g i _ _ z.
-        held-ad t s known g (rw (← i) at w)
-        (λ five. split (eqb t nuclear) (eqb-true t nuclear) (λ x. absurd (false≢true (sym z ∙ prorated x n q (sym (ap (λ (m : ℕ). m / 256 % 256) i)
-        ∙ five))))))
-        (λ w. empty-fit AD n (in-fourths ix (25 + n % 256) 20 (5 * (n / 65536 - 1) + (n / 256 % 256 - 1)) (slot AD n)
-        (unheld (n % 256) w (omega (arith, q .spans)) (omega (arith, q .spans)) .0) (omega (arith, q .spans)) (omega (arith, q .spans))))
+    -- of an adder's key that has a slot the level is held, and cost 5 is nuclear
+    adder-key : (n : ℕ) → InKey AD n → eqb (getD ix (slot AD n) 0) 0 ≡ false → (holds t (n % 256) ≡ true) × (n / 256 % 256 ≡ 5 → t ≡ 2)
+    unfolding slot Spans shapeOf shape rowOf table
+    adder-key n q z = (
+      split (holds t (n % 256)) (λ w. w) (λ w. absurd (false≢true (sym z ∙ in-fourths ix (25 + n % 256) 20 (5 * (n / 65536 - 1) + (n / 256 % 256 - 1))
+          (slot AD n) (unheld (n % 256) w (omega (arith, q .spans)) (omega (arith, q .spans)) .0) (omega (arith, q .spans)) (omega (arith, q .spans))))),
+      λ five. split (eqb t nuclear) (eqb-true t nuclear) (λ x. absurd (false≢true (sym z ∙ prorated x n q five))),
+    )
 
     -- HR, CH and LC: storage, or there is none
     fit-priced : (k n : ℕ) → ((s : List ℕ) → eqb t storage ≡ fits t k s) → 166 ≤ slot k n → slot k n < 2351 → Fit k n
     fit-priced k n f a b =
         split (ltb top 166)
-        (λ w s _ _ _ g _. absurd (omega (arith, a, g, ltb-true top 166 w)))
+        (λ w s _ _ g _. absurd (omega (arith, a, g, ltb-true top 166 w)))
         (λ w.
         split (eqb t storage)
-        (λ x s _ _ _ _ _. sym (f s) ∙ x)
+        (λ x s _ _ _ _. sym (f s) ∙ x)
         (λ x. empty-fit k n (in-empty ix 166 2185 (slot k n) (and-right (not (ltb (length ix) narrow)) _ (rw (w, x) at (parts .2))) a b)))
 
     -- a slot beyond the index is empty
@@ -198,49 +216,161 @@ module _ (t : ℕ) (d ix rs : List ℕ) (top : ℕ) where
     unfolding low
     fit-fp n q =
         split (eqb t hydro)
-        (λ w s _ _ _ _ _. sym (fits-fp t s known) ∙ w)
+        (λ w s _ _ _ _. sym (fits-fp t s known) ∙ w)
         (λ w.
         split (ltb narrow (length ix))
         (λ x. absurd (false≢true (rw (w, x) at placed)))
         (λ x. empty-fit FP n (rw (List·getD-eq-default ix 0 {n = slot FP n} (omega (arith, ltb-false narrow (length ix) x, limits FP n q))) refl)))
 
-    fit : (k n : ℕ) → InKey k n → Fit k n
-    unfolding low high
-    fit k n p =
-        at-kind (λ k. InKey k n → Fit k n) k n p
-        (fit-rs n)
-        (fit-hp n)
-        (fit-fu n)
-        (fit-ad n)
-        (fit-mm n)
-        (λ q s _ _ _ _ _. sym (fits-rq t s known))
-        (λ q. fit-priced HR n (λ s. fits-hr t s known) (omega (arith, limits HR n q)) (omega (arith, limits HR n q)))
-        (λ q. fit-priced CH n (λ s. fits-ch t s known) (omega (arith, limits CH n q)) (omega (arith, limits CH n q)))
-        (fit-th n)
-        (fit-fp n)
-        (λ q. fit-priced LC n (λ s. fits-lc t s known) (omega (arith, limits LC n q)) (omega (arith, limits LC n q)))
-        p
+    -- ---- a record by its kind
 
-    module _ (h : Whole d ix) (complete : Complete d ix) (u : Undated d) (highest : UpTo d top) (distinct : Distinct (records d)) where
-      member-fits : (r : List ℕ) → Member r (records d) → counts (records d) r ≡ true → fits t (mark r) r ≡ true
-      unfolding keyOf
-      member-fits r m c =
-          let f = member-each m (scan-each 0 (records d) (h .clean)) in
-          let k = in-key r f in
-          let plain : isDated (mark r) ≡ false = member-each m u in
-          let same : current (kind r) (keyOf r) (records d) ≡ r = is-the-current distinct m (sym (undated-counts u r) ∙ c) in
-          rw (plain-mark r plain)
-          (fit (kind r) (keyOf r) k r (rw (plain-mark r plain) at (faultless r f .ranges)) (rw (undated-at (mark r) plain, plain-mark r plain) refl) same
-          (member-each m highest) (held r f k same (member-each m complete)))
+    module _ (r : List ℕ) (f : fault r ≡ 0) (below : slot (kind r) (keyOf r) ≤ top) (there : eqb (getD ix (slot (kind r) (keyOf r)) 0) 0 ≡ false) where
+      abbrev n : ℕ
+      n = keyOf r
+
+      -- of a kind without first hours, which is its mark
+      plainly : (k : ℕ) → datable k ≡ false → kind r ≡ k → (InKey k n → Fit k n) → fits t (mark r) r ≡ true
+      plainly k o q fit =
+          let m : mark r ≡ k = other-mark r o q in
+          let plain : isDated (mark r) ≡ false = other-plain r (rw q o) in
+          rw m
+          (fit (rw q at (in-key r f)) r (rw m at (faultless r f .ranges)) (key-plain r plain m) (rw q at below)
+          (rw q at there))
+
+      -- AD and AV
+      adder : kind r ≡ AD → fits t (mark r) r ≡ true
+      adder q =
+          let h = adder-key n (rw q at (in-key r f)) (rw q at there) in
+          adder-mark r q
+          (λ m. rw m (held-ad t r known (rw m at (faultless r f .ranges)) (subst (λ (x : ℕ). holds t (x % 256) ≡ true) (key-ad r m) (h .0))
+          (subst (λ (x : ℕ). x / 256 % 256 ≡ 5 → t ≡ 2) (key-ad r m) (h .1))))
+          (λ m. rw m (held-av t r known (rw m at (faultless r f .ranges)) (subst (λ (x : ℕ). holds t (x % 256) ≡ true) (key-av r m) (h .0))
+          (subst (λ (x : ℕ). x / 256 % 256 ≡ 5 → t ≡ 2) (key-av r m) (h .1))))
+
+      keyed-fits : (kind r ≡ RS → fits t (mark r) r ≡ true) → valued (mark r) ≡ false → fits t (mark r) r ≡ true
+      unfolding low high datable among table
+      keyed-fits station other =
+          at-kind (λ k. kind r ≡ k → fits t (mark r) r ≡ true) (kind r) n (in-key r f)
+          station
+          (λ q. plainly HP refl q (fit-hp n))
+          (λ q. absurd (false≢true (sym other ∙ kinds-valued r q)))
+          adder
+          (λ q. absurd (false≢true (sym other ∙ kinds-valued r q)))
+          (λ q. plainly RQ refl q (λ _ s _ _ _ _. sym (fits-rq t s known)))
+          (λ q. plainly HR refl q (λ i. fit-priced HR n (λ s. fits-hr t s known) (omega (arith, limits HR n i)) (omega (arith, limits HR n i))))
+          (λ q. plainly CH refl q (λ i. fit-priced CH n (λ s. fits-ch t s known) (omega (arith, limits CH n i)) (omega (arith, limits CH n i))))
+          (λ q. plainly TH refl q (fit-th n))
+          (λ q. plainly FP refl q (fit-fp n))
+          (λ q. plainly LC refl q (λ i. fit-priced LC n (λ s. fits-lc t s known) (omega (arith, limits LC n i)) (omega (arith, limits LC n i))))
+          refl
+
+    -- ---- of a dossier
+
+    module _ (d : List ℕ) (same : rs ≡ current RS 0 (records d)) (h : Whole d ix) (complete : Complete d ix) (highest : UpTo d top)
+        (distinct : Distinct (records d)) where
+      -- a record's slot is not empty
+      slot-there : (r : List ℕ) → Member r (records d) → fault r ≡ 0 → eqb (getD ix (slot (kind r) (keyOf r)) 0) 0 ≡ false
+      slot-there r m f =
+          not-true _ (sym (slot-tells d ix h (kind r) (keyOf r) (in-key r f) (member-each m complete))
+          ∙ go (current-found (kind r) (keyOf r) (records d)))
         where
-          held : (r : List ℕ) → fault r ≡ 0 → InKey (kind r) (keyOf r) → current (kind r) (keyOf r) (records d) ≡ r → slot (kind r) (keyOf r) < length ix
-              → eqb (getD ix (slot (kind r) (keyOf r)) 0) 0 ≡ false
-          held r f k same i =
-              not-true _ (sym (slot-tells d ix h (kind r) (keyOf r) k i)
-              ∙ rw same (lt-ltb 0 (length r) (omega (arith, faultless r f .whole, size-ge (mark r)))))
+          go : {c : List ℕ} → CurrentOf (kind r) (keyOf r) (records d) c → ltb 0 (length c) ≡ true
+          go (absent p w) = absurd (false≢true (sym (member-each m w) ∙ matches-self r))
+          go {c} (standing q) =
+              lt-ltb 0 (length c) (omega (arith, faultless c (member-each (q .member) (scan-each 0 (records d) (h .clean))) .whole, size-ge (mark c)))
 
-      pub slots-accepted : t ≡ technology (parameters (records d)) → Accepted ≡ unfit t (records d)
-      slots-accepted g = sym (rw g (each-unfit (each-map (λ r m c. rw (← g) (member-fits r m c)) (members (records d)))))
+      -- of RS only the current one counts
+      station : (r : List ℕ) → Member r (records d) → fault r ≡ 0 → counts (records d) r ≡ true → kind r ≡ RS → fits t (mark r) r ≡ true
+      unfolding datable among Spans shapeOf shape rowOf table
+      station r m f c q =
+          let k : InKey RS (keyOf r) = rw q at (in-key r f) in
+          let z : keyOf r ≡ 0 = omega (arith, k .spans) in
+          let i : current (kind r) (keyOf r) (records d) ≡ r = is-the-current distinct m (sym (counts-other (records d) r (rw q refl)) ∙ c) in
+          let same-rs : rs ≡ r = same ∙ sym (ap₂ (λ (x y : ℕ). current x y (records d)) q z) ∙ i in
+          rw (other-mark r {k = RS} refl q) (subst (λ (x : List ℕ). fits t RS x ≡ true) same-rs (first-parts .0))
+
+      pub slots-keys : KeysFit t (records d)
+      slots-keys =
+          each-map (λ r m c other.
+          let f = member-each m (scan-each 0 (records d) (h .clean)) in
+          keyed-fits r f (member-each m highest) (slot-there r m f) (station r m f c) other)
+          (members (records d))
+
+-- ---- with FU and MM
+
+every-each : {A : Type 0} (f : A → Bool) (l : List A) → everyOf f l ≡ true → Each (λ a. f a ≡ true) l
+unfolding everyOf
+every-each f [] e = done
+every-each f (a ∷ l) e = also (and-left (f a) (everyOf f l) e) (every-each f l (and-right (f a) (everyOf f l) e))
+
+-- each fits that counts
+none-unfit : (t : ℕ) (l : List (List ℕ)) → Each (λ r. counts l r ≡ true → fits t (mark r) r ≡ true) l → Accepted ≡ unfit t l
+unfolding unfit
+none-unfit t l e =
+    sym (each-first {P = λ r. counts l r ≡ true → fits t (mark r) r ≡ true} (λ q r f. refuseIf-not (counts l r && not (fits t (mark r) r)) 6 q
+    (go (counts l r) (fits t (mark r) r) f)) 0 e)
+  where
+    go : (b c : Bool) → (b ≡ true → c ≡ true) → b && not c ≡ false
+    go true true f = refl
+    go true false f = absurd (false≢true (f refl))
+    go false c f = refl
+
+-- at a thermal station they fit whatever they say
+thermal-fits : (r : List ℕ) → valued (mark r) ≡ true → fits thermal (mark r) r ≡ true
+thermal-fits r v =
+    fits-body thermal r
+    ∙ valued-kinds r v
+    (λ q. rw q (sym (fits-fu thermal (body r) (omega arith, omega arith))))
+    (λ q. rw q (sym (fits-mm thermal (body r) (omega arith, omega arith))))
+
+-- those that are asked fit, where all are asked or the station is thermal
+pub values-accepted : (t : ℕ) (l : List (List ℕ)) → KeysFit t l → valuesFit t l ≡ true → Accepted ≡ unfit t l
+unfolding valuesFit valueFits
+values-accepted t l k v =
+    none-unfit t l (each-map (λ r q c. split (valued (mark r)) (λ w. q .1 w) (λ w. q .0 c w)) (each-both k says))
+  where
+    says : Each (λ r. valued (mark r) ≡ true → fits t (mark r) r ≡ true) l
+    says =
+        split (eqb t thermal)
+        (λ e. each-of l (λ r w. rw (eqb-true t thermal e) (thermal-fits r w)))
+        (λ e. each-map (λ r q w. rw w at q) (every-each (λ r. not (valued (mark r)) || fits t (mark r) r) l (or-right (eqb t thermal) _ e v)))
+
+-- where no record has a first hour, the current ones are asked
+module _ (t : ℕ) (d : List ℕ) (known : Known t) (clean : scan 0 (records d) ≡ Accepted) (u : Undated d) (distinct : Distinct (records d))
+    (e : profilesFit t d ≡ true) where
+  -- FU and MM of a profile, of a station that is not thermal
+  profile-parts : eqb t thermal ≡ false → (p : ℕ) → 1 ≤ p → p ≤ 4 → (fits t FU (current FU p (records d)) ≡ true) × (itemsFit t d p ≡ true)
+  unfolding profilesFit
+  profile-parts w p a b =
+      let z = to-at 4 (λ p. fits t FU (current FU p (records d)) && itemsFit t d p) (or-right (eqb t thermal) _ w e) p a b in
+      (and-left _ _ z, and-right (fits t FU (current FU p (records d))) _ z)
+
+  fuel : eqb t thermal ≡ false → (n : ℕ) → InKey FU n → fits t FU (current FU n (records d)) ≡ true
+  unfolding Spans shapeOf shape rowOf table
+  fuel w n q = profile-parts w n (omega (arith, q .spans)) (omega (arith, q .spans)) .0
+
+  item : eqb t thermal ≡ false → (n : ℕ) → InKey MM n → fits t MM (current MM n (records d)) ≡ true
+  unfolding itemsFit Spans shapeOf shape rowOf table
+  item w n q =
+      let z = profile-parts w (n / 256) (omega (arith, q .spans)) (omega (arith, q .spans)) .1 in
+      let k : n / 256 * 256 + n % 256 ≡ n = omega arith in
+      subst (λ (i : ℕ). fits t MM (current MM i (records d)) ≡ true) k
+      (to-at 8 (λ j. fits t MM (current MM (n / 256 * 256 + j) (records d))) z (n % 256) (omega (arith, q .spans)) (omega (arith, q .spans)))
+
+  says : (r : List ℕ) → Member r (records d) → counts (records d) r ≡ true → valued (mark r) ≡ true → fits t (mark r) r ≡ true
+  says r m c v =
+      let k : mark r ≡ kind r = plain-mark r (member-each m u) in
+      let i : InKey (kind r) (keyOf r) = in-key r (member-each m (scan-each 0 (records d) clean)) in
+      let same : current (kind r) (keyOf r) (records d) ≡ r = is-the-current distinct m (sym (undated-counts u r) ∙ c) in
+      split (eqb t thermal)
+      (λ w. rw (eqb-true t thermal w) (thermal-fits r v))
+      (λ w. valued-kinds r v
+      (λ q. rw (k, q) (subst (λ (x : List ℕ). fits t FU x ≡ true) (rw q at same) (fuel w (keyOf r) (rw q at i))))
+      (λ q. rw (k, q) (subst (λ (x : List ℕ). fits t MM x ≡ true) (rw q at same) (item w (keyOf r) (rw q at i)))))
+
+  pub profiles-accepted : KeysFit t (records d) → Accepted ≡ unfit t (records d)
+  profiles-accepted keys =
+      none-unfit t (records d) (each-map (λ r q c. split (valued (mark r)) (λ w. says r (q .1) c w) (λ w. q .0 c w)) (each-both keys (members (records d))))
 
 -- ---- the tests of slots
 
@@ -256,28 +386,29 @@ pub fourths-next : (ix : List ℕ) (j i a : ℕ) → eqb a 0 ≡ fourthsEmpty ix
 unfolding fourthsEmpty allBelow
 fourths-next ix j i a e = or-none a (getD ix (j + 4 * i) 0) ∙ rw (e, add-one i) refl
 
--- an index with slots for FP, of another station than a hydroelectric one
-pub other-wide : (t : ℕ) (d ix rs : List ℕ) (top : ℕ) → not (eqb t hydro) && ltb narrow (length ix) ≡ true → false ≡ allFit t d ix rs top
-unfolding allFit
-other-wide t d ix rs top = go (eqb t hydro) (ltb narrow (length ix))
-  where
-    go : (a b : Bool) → not a && b ≡ true → false ≡ (a || not b)
-        && (fits t RS rs && pointsFit t ix && profilesFit t d && allTo 4 (levelFits t ix) && proratedFit t ix && pricedFit t ix top)
-    go true b e = absurd (false≢true e)
-    go false true e = refl
-    go false false e = absurd (false≢true e)
+module _ (t : ℕ) (ix rs : List ℕ) (top : ℕ) where
+  abbrev slotTests : Bool
+  slotTests = fits t RS rs && pointsFit t ix && allTo 4 (levelFits t ix) && proratedFit t ix && pricedFit t ix top
 
--- and any other
-pub by-slots : (t : ℕ) (d ix rs : List ℕ) (top : ℕ) → not (eqb t hydro) && ltb narrow (length ix) ≡ false → {x : Bool} → x ≡ fits t RS rs && pointsFit t ix
-    && profilesFit t d && allTo 4 (levelFits t ix) && proratedFit t ix && pricedFit t ix top → x ≡ allFit t d ix rs top
-unfolding allFit
-by-slots t d ix rs top h {x = x} f = go (eqb t hydro) (ltb narrow (length ix)) h
-  where
-    go : (a b : Bool) → not a && b ≡ false → x ≡ (a || not b)
-        && (fits t RS rs && pointsFit t ix && profilesFit t d && allTo 4 (levelFits t ix) && proratedFit t ix && pricedFit t ix top)
-    go true b e = f
-    go false true e = absurd (false≢true (sym e))
-    go false false e = f
+  -- an index with slots for FP, of another station than a hydroelectric one
+  pub other-wide : not (eqb t hydro) && ltb narrow (length ix) ≡ true → false ≡ slotsFit t ix rs top
+  unfolding slotsFit
+  other-wide = go (eqb t hydro) (ltb narrow (length ix))
+    where
+      go : (a b : Bool) → not a && b ≡ true → false ≡ (a || not b) && slotTests
+      go true b e = absurd (false≢true e)
+      go false true e = refl
+      go false false e = absurd (false≢true e)
+
+  -- and any other
+  pub by-slots : not (eqb t hydro) && ltb narrow (length ix) ≡ false → {x : Bool} → x ≡ slotTests → x ≡ slotsFit t ix rs top
+  unfolding slotsFit
+  by-slots h {x = x} f = go (eqb t hydro) (ltb narrow (length ix)) h
+    where
+      go : (a b : Bool) → not a && b ≡ false → x ≡ (a || not b) && slotTests
+      go true b e = f
+      go false true e = absurd (false≢true (sym e))
+      go false false e = f
 
 -- an item that is not there fits
 item-none : (t : ℕ) → Known t → fits t MM [] ≡ true

@@ -1,11 +1,12 @@
--- How code looks for 6 where no record has a first hour: at the slots of the index first, and through the records only where these tell of
--- one that does not fit. No paper speaks of this; the law `slots-accepted` ties it to `unfit`.
+-- How code looks for 6: at the slots of the index first, which tell it of every kind but FU and MM, then at what these say. Where that leaves a
+-- doubt and no record has a first hour, it goes through the records. No paper speaks of this; the laws `slots-keys`, `profiles-accepted` and
+-- `values-accepted` tie it to `unfit`.
 use mathlib.Core.Bool.{Bool, _&&_, _||_, not}
 use mathlib.Core.List.{List}
 use Prim.Native.Nat.{ℕ, _+_, _*_}
 use lib.Dec.{ltb, eqb}
 use lib.ListN.{length, getD}
-use Rattle.lists.specs.Tests.{allBelow, allTo}
+use Rattle.lists.specs.Tests.{allBelow, allTo, everyOf}
 use Rattle.fields.specs.Numbers.{number}
 use Rattle.records.specs.Table.{RS, FU, MM, thermal, nuclear, storage, hydro}
 use Rattle.records.specs.Record.{mark, size}
@@ -14,6 +15,7 @@ use Rattle.station.specs.Current.{current}
 use Rattle.index.specs.Slots.{narrow, slotAt, slotsEmpty}
 use Rattle.lookup.specs.Parts.{partAt}
 use Rattle.rules.specs.Fit.{fits, holds}
+use Rattle.trials.specs.Trials.{valueFits}
 
 -- ---- the slots, by mark; RQ fits every station
 
@@ -45,11 +47,18 @@ proratedFit t ix = eqb t nuclear || allBelow 4 (λ p. slotsEmpty ix (42 + 20 * p
 abbrev pub pricedFit : ℕ → List ℕ → ℕ → Bool
 pricedFit t ix m = ltb m 166 || eqb t storage || (not (ltb (length ix) narrow) && slotsEmpty ix 166 2185)
 
--- every current record fits, r being RS; FP has slots where there is an FP, which fits a hydroelectric station alone
-unfoldable pub allFit : ℕ → List ℕ → List ℕ → List ℕ → ℕ → Bool
-allFit t d ix r m =
+-- every slot but those of FU and MM fits, r being the current RS, which tells `KeysFit`; FP has slots where there is an FP, and fits a hydroelectric
+-- station alone
+unfoldable pub slotsFit : ℕ → List ℕ → List ℕ → ℕ → Bool
+slotsFit t ix r m =
     (eqb t hydro || not (ltb narrow (length ix)))
-    && (fits t RS r && pointsFit t ix && profilesFit t d && allTo 4 (levelFits t ix) && proratedFit t ix && pricedFit t ix m)
+    && (fits t RS r && pointsFit t ix && allTo 4 (levelFits t ix) && proratedFit t ix && pricedFit t ix m)
+
+-- what all of some records say fits, FU and MM at a thermal station whatever they say
+unfoldable pub valuesFit : ℕ → List (List ℕ) → Bool
+valuesFit t l = eqb t thermal || everyOf (λ r. valueFits t (mark r) r) l
+
+-- ---- record by record
 
 -- the record at the front of s has the issue of the current one of its mark and key, and does not fit
 unfoldable pub notFit : List ℕ → List ℕ → List ℕ → Bool → Bool

@@ -1,6 +1,6 @@
-// 6 of a dossier without first hours: whether the current records fit the technology, told by the index. The definitions are in specs/, their laws in proofs/.
+// 6: whether the records that count fit the technology, told by the index, and by what FU and MM say. The definitions are in specs/, their laws in proofs/.
 ghost use mathlib.Core.Path.{_≡_};
-ghost use mathlib.Core.Bool.{false};
+ghost use mathlib.Core.Bool.{true, false, _&&_};
 ghost use Prim.Native.Nat.{_+_, _*_, _<_, _≤_};
 ghost use lib.ListN.{length};
 ghost use Rattle.fields.specs.Numbers.{number};
@@ -8,12 +8,14 @@ ghost use Rattle.records.specs.declared.Answer.the-variants.{Accepted};
 ghost use Rattle.records.specs.Table.{thermal, RS};
 ghost use Rattle.records.specs.Record.{mark, isDated, size};
 ghost use Rattle.index.specs.Slots.{short, slotAt};
-ghost use Rattle.records.specs.Dossier.{records};
-ghost use Rattle.station.specs.Current.{current, readable};
-ghost use Rattle.station.specs.Parameters.{parameters, technology};
-ghost use Rattle.lookup.specs.Parts.{Whole, Complete, Undated, UpTo};
+ghost use Rattle.records.specs.Dossier.{records, scan};
+ghost use Rattle.station.specs.Current.{readable};
+ghost use Rattle.lookup.specs.Parts.{Whole, Complete};
+ghost use Rattle.station.specs.InForce.{Undated};
 ghost use Rattle.rules.specs.Fit.{Known, fits, unfit};
-ghost use Rattle.fit.specs.BySlots.{fourthsEmpty, pointsFit, itemsFit, profilesFit, levelFits, proratedFit, pricedFit, allFit, notFit};
+ghost use Rattle.fit.specs.BySlots.{fourthsEmpty, pointsFit, itemsFit, profilesFit, levelFits, proratedFit, pricedFit, slotsFit};
+ghost use Rattle.fit.specs.BySlots.{valuesFit, notFit};
+ghost use Rattle.trials.specs.Trials.{KeysFit};
 use index::slots_empty;
 use records::Answer;
 use rules::level_held;
@@ -21,6 +23,7 @@ use trials::fu_fits;
 use trials::mm_fits;
 use trials::rs_fits;
 use trials::tried_at;
+use trials::value_fits;
 
 // Whether RS of a thermal station fits: the commonest one is told sooner by what it doesn't use.
 fn rs_thermal(s: &[u8]) -> bool
@@ -142,23 +145,50 @@ fn priced_fit(index: &[u16], t: u8, top: usize) -> bool
     slots_empty(index, 166, 2185)
 }
 
-// Whether every current record fits. An index has slots for FP where there is one, and only a hydroelectric station may have it.
-fn all_fit(d: &[u8], index: &[u16], rs: &[u8], t: u8, top: usize) -> bool
-    requires { ⌜ Whole (now d) (now index) × Undated (now d) × Known t ⌝ }
-    ensures { λ r. ⌜ r ≡ allFit t (now (d .entry)) (now (index .entry)) (now (rs .entry)) top ⌝ }
+// Whether every record that counts fits, FU and MM aside. An index has slots for FP where there is one, and only a hydroelectric station may have it.
+fn slots_fit(index: &[u16], rs: &[u8], t: u8, top: usize) -> bool
+    requires { ⌜ (short ≤ length (now index)) × Known t ⌝ }
+    ensures { λ r. ⌜ r ≡ slotsFit t (now (index .entry)) (now (rs .entry)) top ⌝ }
 {
     if (t != 4) & (index::NARROW < index.len()) {
         return false;
     }
     station_fits(t, rs)
         & points_fit(index, t)
-        & profiles_fit(d, index, t)
         & (level_fits(index, t, 1)
             & level_fits(index, t, 2)
             & level_fits(index, t, 3)
             & level_fits(index, t, 4))
         & prorated_fit(index, t)
         & priced_fit(index, t, top)
+}
+
+// The same where it is worth asking. It has one caller, so that the compiler puts it in line there.
+pub fn slots_tell(index: &[u16], rs: &[u8], t: u8, top: usize, worth: bool) -> bool
+    requires { ⌜ (short ≤ length (now index)) × Known t ⌝ }
+    ensures { λ r. ⌜ r ≡ (worth && slotsFit t (now (index .entry)) (now (rs .entry)) top) ⌝ }
+{
+    worth && slots_fit(index, rs, t, top)
+}
+
+// Whether what all FU and MM say fits, with a first hour or without, whether they count or not.
+pub fn values_fit(d: &[u8], t: u8) -> bool
+    requires { ⌜ (scan 0 (records (now d)) ≡ Accepted) × Known t ⌝ }
+    ensures { λ r. ⌜ r ≡ valuesFit t (records (now (d .entry))) ⌝ }
+{
+    if t == 1 {
+        return true;
+    }
+    let mut at = 0;
+    while at < d.len() {
+        let rest = &d[at..];
+        let k = records::mark_at(rest);
+        if !value_fits(t, k, rest) {
+            return false;
+        }
+        at += records::length_of(k);
+    }
+    true
 }
 
 // The key of the record at the front of s, as a number.
@@ -214,14 +244,13 @@ fn first_unfit(d: &[u8], index: &[u16], t: u8) -> Answer
     Answer::Accepted
 }
 
-// 6, where no record has a first hour. Most dossiers have no unfit record, which the index tells; but for a thermal station, a short one is gone through
-// sooner than the index.
-pub fn unfit_of(d: &[u8], index: &[u16], rs: &[u8], t: u8, top: usize) -> Answer
+// 6, where no record has a first hour. Most dossiers have no unfit record, which the index tells.
+pub fn unfit_of(d: &[u8], index: &[u16], t: u8, slots: bool) -> Answer
     requires { ⌜ Whole (now d) (now index) × Complete (now d) (now index) × Undated (now d) × (readable (now d) ≡ Accepted) × Known t
-        × (t ≡ technology (parameters (records (now d)))) × (now rs ≡ current RS 0 (records (now d))) × UpTo (now d) top ⌝ }
+        × (slots ≡ true → KeysFit t (records (now d))) ⌝ }
     ensures { λ r. ⌜ r ≡ unfit t (records (now (d .entry))) ⌝ }
 {
-    if ((t == 1) | (200 < d.len())) && all_fit(d, index, rs, t, top) {
+    if slots && profiles_fit(d, index, t) {
         return Answer::Accepted;
     }
     first_unfit(d, index, t)

@@ -2,17 +2,18 @@
 use mathlib.Core.Path.{_≡_, refl, ap, ap₂, sym, _∙_}
 use mathlib.Core.Bool.{Bool, true, false, cond, _&&_, _||_, not}
 use mathlib.Core.List.{List}
-use Prim.Native.Nat.{ℕ}
+use Prim.Native.Nat.{ℕ, _<_}
 use lib.Dec.{eqb}
 use lib.ListN.{length, take}
-use borrow.Author.Tests.{eqb-true}
-use Rattle.lists.proofs.Tests.{below-same}
-use Rattle.records.specs.Table.{rowOf, fieldOf, nuclear, AD, TH}
-use Rattle.records.specs.Record.{mark, kindOf, size, value}
+use borrow.Author.Tests.{eqb-true, ne-eqb}
+use Rattle.lists.specs.Tests.{allBelow}
+use Rattle.lists.proofs.Tests.{below-at, below-same}
+use Rattle.records.specs.Table.{table, rowOf, fieldOf, nuclear, marks, FU, AD, MM, TH, FV, MV}
+use Rattle.records.specs.Record.{mark, isDated, kindOf, size, value}
 use Rattle.records.proofs.Read.{value-take}
 use Rattle.rules.specs.Fit.{energy, holds, fieldFits, ruleFits, fits}
 use Rattle.trials.specs.declared.Tried.{Tried}
-use Rattle.trials.specs.Trials.{tried, triedAs}
+use Rattle.trials.specs.Trials.{tried, triedAs, valued, valueFits}
 
 -- a record of kind m
 pub at-kind : (t k m n : ℕ) (s : List ℕ) {b : Bool} → size m ≡ n → b ≡ fits t m s → k ≡ m → tried n b ≡ triedAs t k s
@@ -51,3 +52,41 @@ fits-take t k s =
       rule-take t k s,
     )
     refl
+
+pub valued-take : (t k : ℕ) (s : List ℕ) → valueFits t k (take (size k) s) ≡ valueFits t k s
+unfolding valueFits
+valued-take t k s = rw (fits-take t k s) refl
+
+-- ---- what a record says
+
+-- of a record of kind m it is asked
+pub asked : (t k m : ℕ) (s : List ℕ) {b : Bool} → valued m ≡ true → b ≡ fits t m s → k ≡ m → b ≡ valueFits t k s
+unfolding valueFits
+asked t k m s v e q = rw (q, v) e
+
+-- these are the four that are asked
+abbrev fourTest : ℕ → Bool
+fourTest k = eqb k FV || eqb k MV || eqb k FU || eqb k MM || not (valued k)
+
+pub not-asked : (t k : ℕ) (s : List ℕ) → k < marks → (k ≡ FV → ⊥) → (k ≡ MV → ⊥) → (k ≡ FU → ⊥) → (k ≡ MM → ⊥) → true ≡ valueFits t k s
+unfolding valueFits
+not-asked t k s l a b c d =
+    let e : not (valued k) ≡ true = rw (ne-eqb k FV a, ne-eqb k MV b, ne-eqb k FU c, ne-eqb k MM d) at
+    (below-at marks fourTest (unfold allBelow valued kindOf isDated rowOf table in refl) k l) in
+    rw e refl
+
+pub fv-asked : valued FV ≡ true
+unfolding valued kindOf isDated rowOf table
+fv-asked = refl
+
+pub mv-asked : valued MV ≡ true
+unfolding valued kindOf isDated rowOf table
+mv-asked = refl
+
+pub fu-asked : valued FU ≡ true
+unfolding valued kindOf isDated rowOf table
+fu-asked = refl
+
+pub mm-asked : valued MM ≡ true
+unfolding valued kindOf isDated rowOf table
+mm-asked = refl

@@ -7,7 +7,7 @@ ghost use Rattle.records.specs.Table.{RS, FU, AD, MM, FV, AV, MV, nuclear, ther
 ghost use Rattle.records.specs.Record.{mark};
 ghost use Rattle.records.specs.MarkShapes.{rare};
 ghost use Rattle.rules.specs.Fit.{Known, fits, holds, energy};
-ghost use Rattle.trials.specs.Trials.{tried, triedAs};
+ghost use Rattle.trials.specs.Trials.{tried, triedAs, valued, valueFits};
 use records::marks;
 use rules::level_held;
 
@@ -167,4 +167,39 @@ pub fn tried_at(t: u8, s: &[u8]) -> Tried
         return trial(records::RQ.length, true);
     }
     tried_rare(t, k, s)
+}
+
+// Whether a record of mark k is asked what it says.
+pub fn is_valued(k: usize) -> bool
+    requires { ⌜ k < marks ⌝ }
+    ensures { λ r. ⌜ r ≡ valued k ⌝ }
+{
+    let kind = records::kind_of(k);
+    (kind == marks::FU) | (kind == marks::MM)
+}
+
+// Whether what a record of mark k says fits the technology. The tests of its length are never so: they tell the compiler that the bytes are there.
+pub fn value_fits(t: u8, k: usize, s: &[u8]) -> bool
+    requires { ⌜ Known t × (k < marks) ⌝ }
+    ensures { λ r. ⌜ r ≡ valueFits t k (now (s .entry)) ⌝ }
+{
+    if k == marks::FV {
+        if s.len() < records::FV.length {
+            return fv_fits(t, s);
+        }
+        return fuel_fits(t, fields::u32_at(s, 11), fields::u32_at(s, 15));
+    }
+    if k == marks::MV {
+        if s.len() < records::MV.length {
+            return mv_fits(t, s);
+        }
+        return hours_fit(t, fields::u16_at(s, 26));
+    }
+    if k == marks::FU {
+        return fu_fits(t, s);
+    }
+    if k == marks::MM {
+        return mm_fits(t, s);
+    }
+    true
 }

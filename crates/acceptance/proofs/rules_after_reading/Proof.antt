@@ -31,7 +31,6 @@ unfit-in-requires c κs =
       subst Known (sym (c .u8-at .ensures ∙ ap (number 6 1) (c .before .before .rs .ensures)
           ∙ sym (technology-at (records (a .args .d .now))))) (technology-known _ _ (whole-indexed (a .pre .0))
           (one-there (records (a .args .d .now)) RS 0 (c .before .before .rs .ensures) (c .before .if1 .left))),
-      (c .u8-at .ensures ∙ ap (number 6 1) (c .before .before .rs .ensures) ∙ sym (technology-at (records (a .args .d .now)))),
       c .before .before .rs .ensures,
       a .pre .2,
     )
