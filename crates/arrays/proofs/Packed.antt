@@ -1,5 +1,5 @@
 -- Lines in arrays: how a loop fills them, what they hold, and that nothing is lost.
-use mathlib.Core.Path.{_≡_, refl, ap, ap₂, sym, subst, _∙_}
+use mathlib.Core.Path.{_≡_, refl, ap, ap₂, sym, _∙_}
 use mathlib.Core.Bool.{Bool, true, false, cond}
 use mathlib.Core.List.{List, [], _∷_, _++_, map, append-assoc}
 use Prim.Native.Nat.{ℕ, zero, suc, _+_, _-_, _≤_, _<_}
@@ -15,15 +15,14 @@ use Rattle.records.specs.Table.{HP}
 use Rattle.station.specs.Parameters.{Parameters, Amounts, technology, capacity}
 use Rattle.rules.specs.Fit.{energy, start, noLoad, reserve, levelsOf, holds}
 use Rattle.rules.specs.Curve.{points}
-use Rattle.formulas.proofs.Hours.{levels-fuelled}
 use Rattle.arrays.specs.declared.HourLevels.{HourLevels}
 use Rattle.arrays.specs.declared.SingleLevels.{SingleLevels}
 use Rattle.formulas.specs.Exact.{Sum, quotient, microDollars, cents}
-use Rattle.formulas.specs.Levels.{parametersAt, amountsAt, fuelled, linesOf, Line, amount, adders, startCost, noLoadCost, nuclearEnergy}
+use Rattle.formulas.specs.Levels.{linesOf, Line, amount, adders, startCost, noLoadCost, nuclearEnergy}
 use Rattle.formulas.specs.Levels.{storageEnergy, hydroEnergy, lamination}
-use Rattle.formulas.specs.Levels.{laminations, oneLamination, single, profile, linesOf, lines, levels, Shown, shownAs, shown}
+use Rattle.formulas.specs.Levels.{laminations, oneLamination, single, linesOf, lines, levels, Shown, shownAs, shown}
 use Rattle.arrays.specs.Packed.{Arrays, arraysOf, laminationsFrom, singleOf, unpacked, energyLines, amountOf, padded, hourLevels, singleLevels, hourOf}
-use Rattle.arrays.specs.Packed.{packed, packedAt}
+use Rattle.arrays.specs.Packed.{packed}
 
 -- ---- an array filled from the front
 
@@ -268,30 +267,3 @@ module _ (s : Parameters) (m : Amounts) (p : ℕ) where
       go false false true d = lit≤ tt
       go false false false true = lit≤ tt
       go false false false false = lit≤ tt
-
--- ---- what `hour_levels` hands over
-
-module _ (d : List ℕ) (h : ℕ) (r : HourLevels) (e : r ≡ packedAt d h) where
-  module _ (f : fuelled (parametersAt d h) h ≡ true) where
-    pub handed-shown : unpacked r ≡ map shown (levels d h)
-    unfolding lines
-    handed-shown =
-        ap unpacked e ∙ rw (levels-fuelled d h f) (unpacked-levels (parametersAt d h) (amountsAt d h) (profile (parametersAt d h) h))
-
-    handed-lines : r ≡ packed (technology (parametersAt d h)) (profile (parametersAt d h) h) (linesOf (parametersAt d h) (amountsAt d h)
-        (profile (parametersAt d h) h))
-    unfolding lines
-    handed-lines = e ∙ rw (levels-fuelled d h f) refl
-
-    pub handed-count : r .count ≤ 20
-    handed-count =
-        subst (λ (x : HourLevels). x .count ≤ 20) (sym handed-lines) (count-levels (parametersAt d h) (amountsAt d h) (profile (parametersAt d h) h)
-        (technology (parametersAt d h)))
-
-  pub handed-technology : r .technology ≡ technology (parametersAt d h)
-  unfolding packed
-  handed-technology = ap (λ (x : HourLevels). x .technology) e
-
-  pub handed-profile : r .profile ≡ profile (parametersAt d h) h
-  unfolding packed
-  handed-profile = ap (λ (x : HourLevels). x .profile) e

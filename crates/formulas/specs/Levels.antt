@@ -68,7 +68,7 @@ hourAnswer d h = orElse (answer d) (refuseIf (not (fuelled (parametersAt d h) h)
 abbrev pub thirdParty : ℕ
 thirdParty = 4
 
--- "AD amounts join their level": the five costs of level v, third-party payments aside
+-- "AD amounts join their level": the five costs of level v, third-party payments aside; "The exact level also omits them."
 unfoldable pub adders : Amounts → ℕ → ℕ → Sum
 adders m p v = whole (sumTo 5 (λ c. cond (eqb c thirdParty) 0 (adder m p c v)))
 

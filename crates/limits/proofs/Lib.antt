@@ -2,4 +2,3 @@ pub mod Signed
 pub mod Turns
 pub mod Laminations
 pub mod Single
-pub mod Always

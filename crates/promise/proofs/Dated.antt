@@ -1,20 +1,19 @@
 -- What is not yet in force changes nothing, and a dossier without first hours means what it meant without them.
 use mathlib.Core.Path.{_≡_, refl, sym, subst, _∙_}
-use mathlib.Core.Bool.{true, false}
+use mathlib.Core.Bool.{true}
 use mathlib.Core.List.{List, _++_}
 use Prim.Native.Nat.{ℕ, _<_}
-use native.Mathlib.Nat.{le-refl}
-use native.Mathlib.Omega.{arith}
-use lib.Dec.{leb, eqb}
-use borrow.Author.Tests.{le-leb, lt-leb}
+use lib.Dec.{eqb}
+use borrow.Author.Tests.{lt-leb}
 use Rattle.lists.specs.Lists.{Each, done, also, Permutation, those}
-use Rattle.lists.proofs.Lists.{each-map, those-all}
-use Rattle.records.specs.Record.{mark, isDated, kindOf, kind, since, issue, keyOf}
+use Rattle.lists.proofs.Lists.{each-map}
+use Rattle.records.specs.Record.{mark, since, issue, keyOf}
 use Rattle.records.specs.Dossier.{records}
 use Rattle.station.specs.Current.{current}
-use Rattle.station.specs.InForce.{inForce, countsAt, counts}
+use Rattle.station.specs.InForce.{inForce, counts, Undated}
 use Rattle.station.specs.Declared.{Distinct}
 use Rattle.station.proofs.InForce.{force-permuted, force-distinct}
+use Rattle.station.proofs.Undated.{undated-kind, undated-force, undated-counts}
 use Rattle.station.proofs.Parameters.{parameters-permuted, amounts-permuted}
 use Rattle.rules.specs.Answer.{IsAccepted}
 use Rattle.rules.proofs.Sound.{accepted-sound}
@@ -22,7 +21,7 @@ use Rattle.formulas.specs.Levels.{parametersIn, amountsIn, parametersAt, fuelle
 use Rattle.formulas.proofs.Hours.{hour-accepted, levels-fuelled, holds-fuelled}
 use Rattle.verdicts.specs.Verdict.{settle, onOffer, onPrice}
 use Rattle.layout.specs.Report.{report}
-use Rattle.promise.specs.Dated.{NotYet, Undated, AsBefore, OldMarks}
+use Rattle.promise.specs.Dated.{NotYet, AsBefore, OldMarks}
 use Rattle.promise.proofs.Meaning.{same-at}
 
 -- ---- before its first hour
@@ -42,22 +41,12 @@ not-yet d e later a b p h q =
 
 -- ---- without first hours
 
-undated-since : (r : List ℕ) → isDated (mark r) ≡ false → since r ≡ 0
-unfolding since
-undated-since r e = rw e refl
-
-undated-kind : (r : List ℕ) → isDated (mark r) ≡ false → kind r ≡ mark r
-unfolding kind kindOf
-undated-kind r e = rw e refl
-
 module _ (d : List ℕ) (u : Undated d) where
   all-come : (h : ℕ) → inForce h (records d) ≡ records d
-  unfolding inForce
-  all-come h = those-all (λ r. leb (since r) h) (each-map (λ r e. le-leb (since r) h (omega (arith, undated-since r e))) u)
+  all-come h = undated-force h u
 
   by-issue : Each (λ r. counts (records d) r ≡ eqb (issue r) (issue (current (mark r) (keyOf r) (records d)))) (records d)
-  unfolding counts countsAt
-  by-issue = each-map (λ r e. rw (le-leb (since r) (since r) (le-refl _), all-come (since r), undated-kind r e) refl) u
+  by-issue = each-map (λ r e. undated-counts u r ∙ rw (undated-kind r e) refl) u
 
   module _ (a : IsAccepted d) where
     fuel-always : (h : ℕ) → fuelled (parametersAt d h) h ≡ true

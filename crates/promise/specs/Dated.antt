@@ -1,16 +1,15 @@
 -- "Costs with a first hour": what is not yet in force changes nothing, and a dossier without first hours means what it meant without them.
 use mathlib.Core.Path.{_≡_}
-use mathlib.Core.Bool.{false}
 use mathlib.Core.List.{List, _++_, map}
 use Prim.Native.Nat.{ℕ, _<_}
 use lib.Dec.{eqb}
 use lib.IntN.{ℤ}
 use Rattle.lists.specs.Lists.{Each, Permutation}
 use Rattle.fields.specs.Numbers.{biasedOf}
-use Rattle.records.specs.Record.{mark, isDated, since, issue, keyOf}
+use Rattle.records.specs.Record.{mark, since, issue, keyOf}
 use Rattle.records.specs.Dossier.{records}
 use Rattle.station.specs.Current.{current}
-use Rattle.station.specs.InForce.{inForce, counts}
+use Rattle.station.specs.InForce.{inForce, counts, Undated}
 use Rattle.rules.specs.Answer.{answer, IsAccepted}
 use Rattle.formulas.specs.Levels.{parametersIn, amountsIn, hourAnswer, profile, lines, levels, shown, retired}
 use Rattle.verdicts.specs.Verdict.{offerVerdict, priceVerdict, onOffer, onPrice}
@@ -27,10 +26,6 @@ NotYet =
     → (h : ℕ) → Each (λ r. h < since r) later → SameAt d e h
 
 -- ---- without first hours
-
--- no record of a dossier has a mark with one
-abbrev pub Undated : List ℕ → Type 0
-Undated d = Each (λ r. isDated (mark r) ≡ false) (records d)
 
 -- what the old marks mean, by all the records and no hour but the profile's: "The old marks count from hour 0."
 pub record AsBefore (d : List ℕ) : Type 0 where

@@ -4,4 +4,3 @@ pub mod Limits
 pub mod Stays
 pub mod First
 pub mod Settled
-pub mod Always
