@@ -307,7 +307,7 @@ fn drawn(input: &Input, hour: &Hour, question: &Question) -> String {
 /// The picture of a day.
 fn drawn_day(input: &Input, question: &Question, day: &Day) -> String {
     let last = question.from + (question.hours - 1);
-    let at = format!(", hours {} to {last}", question.from);
+    let at = format!(", {}", picture::day::hours(question.from, last));
     let title = picture::title(&input.name.to_string(), &at);
     let levels = day.hours.iter().map(|h| (h.hour, Ok(&h.levels)));
     let refused = day

@@ -72,19 +72,6 @@ const PRICED: Field = field("price", 4, -PRICE, PRICE, DOLLARS_PER_MWH);
 const FIRST: Field = to("first", 4, ANY, PLAIN);
 const PROFILE: Field = key("profile", 1, 4);
 const OF_LEVEL: Field = field("level", 1, 1, 4, LEVEL);
-const OUTPUT: Field = to("output", 2, 20_000, MEGAWATTS);
-const FUEL: Field = to("fuel", 4, 400_000_000, FINE_DOLLARS);
-const EMISSION: Field = to("emission", 4, 400_000_000, decimal(6, 2, "dollars per GJ"));
-const OF_COST: Field = field("cost", 1, 1, 5, COST);
-const AMOUNT: Field = to("amount", 8, 1_000_000_000_000, FINE_DOLLARS);
-const ITEM: Field = key("item", 1, 8);
-const ITEM_COST: Field = to("cost", 8, 100_000_000_000, DOLLARS);
-const ITEM_OUTPUT: Field = Field {
-    lowest: 1,
-    ..OUTPUT
-};
-const INTERVAL: Field = field("interval", 4, 1, 1_000_000, whole("hours"));
-const START_HOURS: Field = to("start-hours", 2, 10_000, parts(1, "hours per start"));
 
 const TECHNOLOGY: Unit =
     PLAIN.with_words(&[("thermal", 1), ("nuclear", 2), ("storage", 3), ("hydro", 4)]);
@@ -116,6 +103,71 @@ const fn mark(
     }
 }
 
+/// The fields of a mark with a first hour behind the issue.
+const fn with_first<const N: usize>(fields: &[Field]) -> [Field; N] {
+    let mut dated = [FIRST; N];
+    dated[0] = fields[0];
+    let mut at = 2;
+    while at < N {
+        dated[at] = fields[at - 1];
+        at += 1;
+    }
+    dated
+}
+
+/// Another mark with a first hour: all but letters and words is that mark's. A macro, as no function
+/// of a mark can say how many fields its answer has.
+macro_rules! dated {
+    ($letters:literal, $holds:literal, $of:ident) => {
+        Mark {
+            letters: $letters,
+            holds: $holds,
+            fields: &with_first::<{ $of.fields.len() + 1 }>($of.fields),
+            ..$of
+        }
+    };
+}
+
+const FU: Mark = mark(
+    "FU",
+    "the fuel of a profile",
+    &[
+        ISSUE,
+        PROFILE,
+        to("fuel", 4, 400_000_000, FINE_DOLLARS),
+        to("emission", 4, 400_000_000, decimal(6, 2, "dollars per GJ")),
+    ],
+    1,
+);
+
+const AD: Mark = mark(
+    "AD",
+    "an amount added to a level",
+    &[
+        ISSUE,
+        PROFILE,
+        field("cost", 1, 1, 5, COST),
+        OF_LEVEL,
+        to("amount", 8, 1_000_000_000_000, FINE_DOLLARS),
+    ],
+    3,
+);
+
+const MM: Mark = mark(
+    "MM",
+    "a maintenance item",
+    &[
+        ISSUE,
+        PROFILE,
+        key("item", 1, 8),
+        to("cost", 8, 100_000_000_000, DOLLARS),
+        field("output", 2, 1, 20_000, MEGAWATTS),
+        field("interval", 4, 1, 1_000_000, whole("hours")),
+        to("start-hours", 2, 10_000, parts(1, "hours per start")),
+    ],
+    2,
+);
+
 pub static MARKS: [Mark; 14] = [
     mark(
         "RS",
@@ -145,73 +197,17 @@ pub static MARKS: [Mark; 14] = [
         &[
             ISSUE,
             key("point", 1, 21),
-            OUTPUT,
+            to("output", 2, 20_000, MEGAWATTS),
             to("heat", 4, 20_000_000, whole("MJ per hour")),
         ],
         1,
     ),
-    mark(
-        "FU",
-        "the fuel of a profile",
-        &[ISSUE, PROFILE, FUEL, EMISSION],
-        1,
-    ),
-    Mark {
-        of: "FU",
-        ..mark(
-            "FV",
-            "the fuel of a profile from an hour on",
-            &[ISSUE, FIRST, PROFILE, FUEL, EMISSION],
-            1,
-        )
-    },
-    mark(
-        "AD",
-        "an amount added to a level",
-        &[ISSUE, PROFILE, OF_COST, OF_LEVEL, AMOUNT],
-        3,
-    ),
-    Mark {
-        of: "AD",
-        ..mark(
-            "AV",
-            "an amount added to a level from an hour on",
-            &[ISSUE, FIRST, PROFILE, OF_COST, OF_LEVEL, AMOUNT],
-            3,
-        )
-    },
-    mark(
-        "MM",
-        "a maintenance item",
-        &[
-            ISSUE,
-            PROFILE,
-            ITEM,
-            ITEM_COST,
-            ITEM_OUTPUT,
-            INTERVAL,
-            START_HOURS,
-        ],
-        2,
-    ),
-    Mark {
-        of: "MM",
-        ..mark(
-            "MV",
-            "a maintenance item from an hour on",
-            &[
-                ISSUE,
-                FIRST,
-                PROFILE,
-                ITEM,
-                ITEM_COST,
-                ITEM_OUTPUT,
-                INTERVAL,
-                START_HOURS,
-            ],
-            2,
-        )
-    },
+    FU,
+    dated!("FV", "the fuel of a profile from an hour on", FU),
+    AD,
+    dated!("AV", "an amount added to a level from an hour on", AD),
+    MM,
+    dated!("MV", "a maintenance item from an hour on", MM),
     mark(
         "RQ",
         "a request for a profile",

@@ -73,6 +73,7 @@ fn joined(runs: Vec<Run>) -> Vec<Run> {
     all
 }
 
+#[derive(Default)]
 struct Lines {
     levels: Vec<Run>,
     prices: Vec<Run>,

@@ -123,6 +123,15 @@ fn value(random: &mut Random, field: Field) -> i128 {
     }
 }
 
+/// The least number from here on or any, up to the field's highest, if that isn't below it.
+fn from_least(random: &mut Random, least: i128, field: Field) -> Option<i128> {
+    if least > field.highest {
+        return None;
+    }
+    let any = random.between(least, field.highest);
+    Some(random.pick(&[least, any]))
+}
+
 /// A record of a mark with every field in range, whatever the technology.
 pub fn any_record(random: &mut Random, kind: &Kind) -> Vec<u8> {
     let mut record = vec![0; kind.length];

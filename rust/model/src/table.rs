@@ -163,19 +163,43 @@ const fn kind(mark: &Mark, length: usize, key_width: usize, fields: &'static [Fi
     }
 }
 
-/// A mark whose records are those of another with a first hour.
-const fn dated(
-    mark: &Mark,
-    of: &Mark,
-    length: usize,
-    key_width: usize,
-    fields: &'static [Field],
-) -> Kind {
-    Kind {
-        of: *of,
-        ..kind(mark, length, key_width, fields)
+/// The first hour, and behind it the fields of a mark without one.
+const fn behind_first_hour<const N: usize>(fields: &[Field]) -> [Field; N] {
+    let mut dated = [FIRST_HOUR; N];
+    let mut at = 1;
+    while at < N {
+        dated[at] = fields[at - 1].dated();
+        at += 1;
     }
+    dated
 }
+
+/// Another mark "with a first hour (4) after the issue": other letters, and all else is that mark's.
+/// A macro, as no function of a mark can say how many fields its answer has.
+macro_rules! dated {
+    ($mark:literal, $of:ident) => {
+        Kind {
+            mark: *$mark,
+            length: $of.length + FIRST_HOUR.width,
+            fields: &behind_first_hour::<{ $of.fields.len() + 1 }>($of.fields),
+            ..$of
+        }
+    };
+}
+
+const FU: Kind = kind(b"FU", 15, 1, &[fu::PROFILE, fu::FUEL, fu::EMISSION]);
+const AD: Kind = kind(
+    b"AD",
+    17,
+    3,
+    &[ad::PROFILE, ad::COST, ad::LEVEL, ad::AMOUNT],
+);
+const MM: Kind = kind(
+    b"MM",
+    24,
+    2,
+    &[mm::PROFILE, mm::ITEM, mm::C, mm::W, mm::T, mm::S],
+);
 
 pub static TABLE: [Kind; 14] = [
     kind(
@@ -195,19 +219,9 @@ pub static TABLE: [Kind; 14] = [
         ],
     ),
     kind(b"HP", 13, 1, &[hp::POINT, hp::OUTPUT, hp::HEAT]),
-    kind(b"FU", 15, 1, &[fu::PROFILE, fu::FUEL, fu::EMISSION]),
-    kind(
-        b"AD",
-        17,
-        3,
-        &[ad::PROFILE, ad::COST, ad::LEVEL, ad::AMOUNT],
-    ),
-    kind(
-        b"MM",
-        24,
-        2,
-        &[mm::PROFILE, mm::ITEM, mm::C, mm::W, mm::T, mm::S],
-    ),
+    FU,
+    AD,
+    MM,
     kind(
         b"RQ",
         16,
@@ -224,46 +238,9 @@ pub static TABLE: [Kind; 14] = [
     ),
     kind(b"FP", 12, 2, &[fp::PLACE, fp::PRICE]),
     kind(b"LC", 10, 0, &[lc::COST]),
-    dated(
-        b"FV",
-        b"FU",
-        19,
-        1,
-        &[
-            FIRST_HOUR,
-            fu::PROFILE.dated(),
-            fu::FUEL.dated(),
-            fu::EMISSION.dated(),
-        ],
-    ),
-    dated(
-        b"AV",
-        b"AD",
-        21,
-        3,
-        &[
-            FIRST_HOUR,
-            ad::PROFILE.dated(),
-            ad::COST.dated(),
-            ad::LEVEL.dated(),
-            ad::AMOUNT.dated(),
-        ],
-    ),
-    dated(
-        b"MV",
-        b"MM",
-        28,
-        2,
-        &[
-            FIRST_HOUR,
-            mm::PROFILE.dated(),
-            mm::ITEM.dated(),
-            mm::C.dated(),
-            mm::W.dated(),
-            mm::T.dated(),
-            mm::S.dated(),
-        ],
-    ),
+    dated!(b"FV", FU),
+    dated!(b"AV", AD),
+    dated!(b"MV", MM),
 ];
 
 /// The kind that a mark names, if it names one.

@@ -2,6 +2,9 @@
 //! them, a line where another cost begins to count, and refused hours hatched. The levels but energy
 //! have plots of their own below.
 
+#[cfg(test)]
+mod tests;
+
 use super::axis::{round_step, Axis};
 use super::sheet::*;
 use super::words::{megawatts, money, width};
@@ -35,9 +38,13 @@ struct Course {
 const TINTS: [&str; 4] = ["#ffffff", "#dcebf7", "#fbe3cf", "#d5d5d5"];
 const EDGE: &str = "stroke='#bbbbbb' stroke-width='1'";
 const STEP: &str = "stroke='#0063a6' stroke-width='3'";
+const THIN_STEP: &str = "stroke='#0063a6' stroke-width='1.25'";
 const CHANGE: &str = "stroke='#000000' stroke-width='1.5' stroke-dasharray='2 4'";
-/// How many hours of change the legend names.
-const MOST_NAMED: usize = 6;
+/// How many hours of change the legend names, and how many stretches of refused hours.
+const MOST_HOURS: usize = 6;
+const MOST_STRETCHES: usize = 3;
+/// How many lines of change a plot has room for.
+const MOST_LINES: usize = 96;
 /// The height of a plot below that of energy, and the gap above it.
 const LOW: f64 = 62.0;
 const GAP: f64 = 18.0;
@@ -59,14 +66,7 @@ pub fn svg(day: &Day) -> String {
     sheet.bands(&plots, &stretches);
     let courses = [&energy[..]].into_iter().chain(others.chunks(1));
     for (index, (plot, courses)) in plots.iter().zip(courses).enumerate() {
-        sheet.price_axis(
-            plot,
-            if index == 0 {
-                "Energy (dollars per MWh)"
-            } else {
-                "Dollars"
-            },
-        );
+        sheet.price_axis(plot, axis_name(plot, index == 0));
         sheet.frame(plot);
         sheet.changes(plot, day);
         sheet.courses(plot, courses);
@@ -76,6 +76,16 @@ pub fn svg(day: &Day) -> String {
     }
     sheet.legend(&legend, &places);
     sheet.out + "</svg>\n"
+}
+
+/// The name of a plot's axis, short where a long one would reach into the plot below.
+fn axis_name(plot: &Plot, is_energy: bool) -> &'static str {
+    let long = "Energy (dollars per MWh)";
+    match is_energy {
+        true if width(long, SIZE) > plot.bottom - plot.top + GAP => "Energy ($/MWh)",
+        true => long,
+        false => "Dollars",
+    }
 }
 
 fn stretches<'a>(day: &Day<'a>) -> Vec<Stretch<'a>> {
@@ -144,8 +154,7 @@ fn others(stretches: &[Stretch]) -> Vec<Course> {
 fn lines(courses: &[Course]) -> Lines {
     Lines {
         levels: courses.iter().flat_map(|c| c.runs.clone()).collect(),
-        prices: Vec::new(),
-        limits: Vec::new(),
+        ..Lines::default()
     }
 }
 
@@ -186,7 +195,7 @@ fn plots(
 fn legend(day: &Day, stretches: &[Stretch], energy: &[Course]) -> Vec<(Mark, String)> {
     let runs: Vec<Run> = energy.iter().flat_map(|c| c.runs.clone()).collect();
     let text = format!("energy level by lamination{}", range(&runs));
-    let mut legend = vec![(Mark::Line(STEP), text)];
+    let mut legend = vec![(Mark::Line(style(energy)), text)];
     let mut profiles: Vec<u8> = found(stretches)
         .map(|(.., levels)| levels.profile)
         .collect();
@@ -195,41 +204,85 @@ fn legend(day: &Day, stretches: &[Stretch], energy: &[Course]) -> Vec<(Mark, Str
     for profile in profiles {
         legend.push((Mark::Band(tint(profile)), format!("profile {profile}")));
     }
-    let refused = stretches
-        .iter()
-        .filter_map(|s| s.found.err().map(|refusal| (s, refusal)));
-    for (stretch, refusal) in refused {
-        let text = format!("{}: refused {}", hours(day, stretch), refusal.number);
+    let refusal = |s: &Stretch| s.found.err().map(|refusal| refusal.number);
+    let mut numbers: Vec<u8> = stretches.iter().filter_map(refusal).collect();
+    numbers.sort_unstable();
+    numbers.dedup();
+    for number in numbers {
+        let refused = stretches.iter().filter(|s| refusal(s) == Some(number));
+        let refused: Vec<Span> = refused.map(|stretch| span(day, stretch)).collect();
+        let text = format!("{}: refused {number}", named(&refused, MOST_STRETCHES));
         legend.push((Mark::Failure, text));
     }
-    if !day.changed.is_empty() {
-        let text = format!("a cost begins: {}", named(&day.changed));
-        legend.push((Mark::Line(CHANGE), text));
+    if let Some(begun) = begun(day) {
+        let left_out = lined(day).len() < day.changed.len();
+        let some = if left_out { " (not all are drawn)" } else { "" };
+        legend.push((Mark::Line(CHANGE), format!("a cost begins{some}: {begun}")));
     }
     legend
 }
 
-/// Hours in a row, the first ones of many.
-fn named(hours: &[u32]) -> String {
-    let named = hours.iter().take(MOST_NAMED).map(u32::to_string);
-    let mut named: Vec<String> = named.collect();
-    if hours.len() > MOST_NAMED {
+/// The line of levels: thin where it goes up and down, or beside others, in little room.
+fn style(courses: &[Course]) -> &'static str {
+    let close = courses.len() > 8 || courses.iter().any(|course| course.runs.len() > 100);
+    if close {
+        THIN_STEP
+    } else {
+        STEP
+    }
+}
+
+/// The hours from which another cost counts, in words.
+fn begun(day: &Day) -> Option<String> {
+    let hours = day.changed.iter().map(|hour| u64::from(*hour));
+    let hours: Vec<Span> = hours.map(|hour| (hour, hour)).collect();
+    (!hours.is_empty()).then(|| named(&hours, MOST_HOURS))
+}
+
+/// Those of them that have a line: of such as lie too close the first.
+fn lined(day: &Day) -> Vec<u32> {
+    let apart = day.hours.len().div_ceil(MOST_LINES) as u32;
+    let mut lined: Vec<u32> = Vec::new();
+    for hour in &day.changed {
+        if lined
+            .last()
+            .is_none_or(|last| hour.saturating_sub(*last) >= apart)
+        {
+            lined.push(*hour);
+        }
+    }
+    lined
+}
+
+/// A stretch of hours in words.
+pub fn hours(first: u32, last: u32) -> String {
+    named(&[(first.into(), last.into())], 1)
+}
+
+/// A first and a last hour.
+type Span = (u64, u64);
+
+/// Hours in words, the first ones of many.
+fn named(spans: &[Span], most: usize) -> String {
+    let span = |(first, last): &Span| match first == last {
+        true => first.to_string(),
+        false => format!("{first} to {last}"),
+    };
+    let mut named: Vec<String> = spans.iter().take(most).map(span).collect();
+    if spans.len() > most {
         named.push("and more".to_string());
     }
-    let s = if hours.len() == 1 { "" } else { "s" };
-    format!("hour{s} {}", named.join(", "))
+    let one = matches!(spans, [(first, last)] if first == last);
+    format!("hour{} {}", if one { "" } else { "s" }, named.join(", "))
 }
 
 fn tint(profile: u8) -> &'static str {
     TINTS[usize::from(profile.max(1) - 1) % TINTS.len()]
 }
 
-fn hours(day: &Day, stretch: &Stretch) -> String {
+fn span(day: &Day, stretch: &Stretch) -> Span {
     let hour = |index: u16| u64::from(day.from) + u64::from(index);
-    match stretch.to - stretch.from {
-        1 => format!("hour {}", hour(stretch.from)),
-        _ => format!("hours {} to {}", hour(stretch.from), hour(stretch.to - 1)),
-    }
+    (hour(stretch.from), hour(stretch.to - 1))
 }
 
 /// The picture in words, for those who hear it.
@@ -253,28 +306,29 @@ fn description(day: &Day, stretches: &[Stretch]) -> String {
             Ok(found) => levels(found),
             Err(refusal) => format!("refused {} at {}", refusal.number, refusal.place),
         };
-        format!(" {}: {found}.", hours(day, stretch))
+        format!(" {}: {found}.", named(&[span(day, stretch)], 1))
     };
     let told: String = stretches.iter().map(told).collect();
-    let begun = match day.changed.is_empty() {
-        true => String::new(),
-        false => format!(" A cost begins: {}.", named(&day.changed)),
-    };
+    let begun = begun(day).map(|hours| format!(" A cost begins: {hours}."));
+    let begun = begun.unwrap_or_default();
     format!("Energy in dollars per MWh, the other levels in dollars.{told}{begun}")
 }
 
 /// Where the names of levels stand beside their last prices, as near as they can without lying on one
-/// another; of levels that are too many for the plot, every second, third and so on has its name.
-/// The levels rise from the first on, as laminations do.
+/// another; of levels that lie too close for it, every second, third and so on has its name. The
+/// levels rise from the first on, as laminations do.
 fn beside<'c>(plot: &Plot, courses: &'c [Course]) -> Vec<(f64, &'c str)> {
-    let room = ((plot.bottom - plot.top) / SPACE).max(1.0) as usize;
+    let end = |course: &Course| plot.y(course.runs.last().map_or(0, |run| run.2));
+    let ends = || courses.iter().map(end);
+    let reach = ends().fold(0.0, f64::max) - ends().fold(f64::MAX, f64::min);
+    // One more than fit between the lowest and the highest, so that two that lie close both have theirs.
+    let room = (reach / SPACE).max(0.0) as usize + 2;
     let every = courses.len().div_ceil(room).max(1);
     let named = courses.iter().rev().step_by(every).collect::<Vec<_>>();
     let mut names: Vec<(f64, &str)> = Vec::new();
     let mut lowest = plot.bottom;
     for course in named.into_iter().rev() {
-        let last = course.runs.last().map_or(0, |run| run.2);
-        let place = (plot.y(last) + 4.5).min(lowest);
+        let place = (end(course) + 4.5).min(lowest);
         names.push((place, &course.name));
         lowest = place - SPACE;
     }
@@ -311,20 +365,24 @@ impl Sheet {
             Ok(levels) => format!("profile {}", levels.profile),
             Err(refusal) => format!("refused {}", refusal.number),
         };
-        // Within a profile levels may change: its name stands once.
+        // Within a profile levels may change: its name stands once, and not over others.
         for alike in stretches.chunk_by(|a, b| name(a) == name(b)) {
+            let name = name(&alike[0]);
             let (from, to) = (alike[0].from, alike[alike.len() - 1].to);
-            let middle = (first.x(from) + first.x(to)) / 2.0;
-            self.text_above(first, middle, &name(&alike[0]));
+            let (left, right) = (first.x(from), first.x(to));
+            if 2.0 * (right - left) >= width(&name, SIZE) {
+                self.text_above(first, (left + right) / 2.0, &name);
+            }
         }
     }
 
     /// A line where another cost begins to count.
     fn changes(&mut self, plot: &Plot, day: &Day) {
-        for hour in &day.changed {
+        for hour in lined(day) {
             let index = u16::try_from(hour.saturating_sub(day.from)).unwrap_or(u16::MAX);
-            let x = quarter(plot.x(index));
-            self.path(&format!("M{x} {}V{}", plot.top, plot.bottom), CHANGE);
+            // Beside the axis, not on it.
+            let x = plot.x(index).max(plot.left + 3.0);
+            self.upright(plot, x, CHANGE);
         }
     }
 
@@ -332,7 +390,7 @@ impl Sheet {
     fn courses(&mut self, plot: &Plot, courses: &[Course]) {
         for course in courses {
             for unbroken in course.runs.chunk_by(|a, b| a.1 == b.0) {
-                self.stairs(plot, unbroken, STEP);
+                self.stairs(plot, unbroken, style(courses));
             }
         }
         for (y, name) in beside(plot, courses) {
@@ -356,141 +414,5 @@ impl Sheet {
         }
         let middle = quarter((plot.left + plot.right) / 2.0);
         self.text(middle, plot.bottom + 40.0, "middle", BLACK, "Hour");
-    }
-}
-
-#[cfg(test)]
-mod tests {
-    use super::super::tests::{check, check_texts};
-    use super::*;
-    use bench::Lamination;
-
-    /// Levels with this many laminations, in a profile.
-    fn levels(profile: u8, count: u16, held: bool) -> Levels {
-        let step = |i: u16| Lamination {
-            from: i * 50,
-            to: (i + 1) * 50,
-            level: 4_000 * u64::from(profile) + 350 * u64::from(i),
-        };
-        Levels {
-            profile,
-            energy: (0..count).map(step).collect(),
-            start: held.then_some(330_000 * u64::from(profile)),
-            no_load: held.then_some(50_000),
-            reserve: held.then_some(25),
-        }
-    }
-
-    fn drawn(from: u32, hours: Vec<Result<&Levels, Refusal>>) -> String {
-        drawn_with(from, hours, &[])
-    }
-
-    fn drawn_with(from: u32, hours: Vec<Result<&Levels, Refusal>>, changed: &[u32]) -> String {
-        let out = svg(&Day {
-            title: "a day",
-            from,
-            hours,
-            changed: changed.to_vec(),
-        });
-        check(&out);
-        check_texts(&out);
-        out
-    }
-
-    const REFUSAL: Refusal = Refusal {
-        number: 8,
-        place: 7,
-    };
-
-    #[test]
-    fn profiles_and_refused_hours_are_told_apart() {
-        let all = [1, 2, 3, 4].map(|profile| levels(profile, 3, true));
-        let hour = |hour: usize| match hour {
-            9..=11 => Err(REFUSAL),
-            _ => Ok(&all[hour / 6]),
-        };
-        let out = drawn(100, (0..24).map(hour).collect());
-        for part in [
-            ">profile 1<",
-            ">profile 4<",
-            ">refused 8<",
-            ">hours 109 to 111: refused 8<",
-            "hours 100 to 105: profile 1; energy to 5.0 MW 40.00, to 10.0 MW 43.50, to 15.0 MW 47.00; start 3,300.00; no-load 500.00; reserve 0.25.",
-            "hours 109 to 111: refused 8 at 7.",
-            ">Hour<",
-            ">123<",
-            ">to 15.0 MW<",
-            ">reserve<",
-        ] {
-            assert!(out.contains(part), "{part} in {out}");
-        }
-        // Above the plots and in the legend.
-        assert_eq!(out.matches(">profile 2<").count(), 2);
-    }
-
-    /// An axis that isn't even or doesn't start at 0 is told: the steps look other than they are.
-    #[test]
-    fn the_axis_is_told() {
-        let [low, high] = [(100, 10), (900_000, 100)].map(|(first, step)| {
-            let mut levels = levels(1, 4, false);
-            for (lamination, i) in levels.energy.iter_mut().zip(0..) {
-                lamination.level = first + step * i;
-            }
-            levels
-        });
-        let even = levels(1, 20, true);
-        for (hours, told) in [
-            (vec![&low, &high, &low], "The energy axis is logarithmic."),
-            (
-                vec![&high, &high],
-                "The energy axis doesn&#39;t start at 0.",
-            ),
-            (vec![&even, &even], ""),
-        ] {
-            let out = drawn(0, hours.into_iter().map(Ok).collect());
-            assert!(out.contains(told), "{told} in {out}");
-            assert_eq!(out.contains("axis"), !told.is_empty(), "{out}");
-        }
-    }
-
-    #[test]
-    fn days_of_every_size_are_drawn() {
-        for (count, held) in [(1, false), (2, true), (20, true)] {
-            let all = [1, 2].map(|profile| levels(profile, count, held));
-            for hours in [1, 2, 24, 168, 8_784] {
-                let hour = |hour: usize| Ok(&all[hour / 7 % 2]);
-                for from in [0, u32::MAX - 8_784] {
-                    let out = drawn(from, (0..hours).map(hour).collect());
-                    let named = |name: &str| out.contains(&format!(">{name}<"));
-                    let others = ["start", "no-load", "reserve"].into_iter().all(named);
-                    assert_eq!(others, held, "{count} laminations, {hours} hours");
-                }
-            }
-        }
-    }
-
-    /// Each hour from which another cost counts has a line in every plot.
-    #[test]
-    fn costs_that_begin_are_told() {
-        let all = [1, 2].map(|n| levels(n, 3, true));
-        let hours = || (0..24).map(|hour| Ok(&all[hour / 12])).collect();
-        let out = drawn_with(100, hours(), &[112]);
-        assert_eq!(
-            out.matches("stroke-dasharray='2 4'").count(),
-            4 + 1,
-            "{out}"
-        );
-        assert!(out.contains(">a cost begins: hour 112<"));
-        assert!(out.contains(" A cost begins: hour 112."));
-        let many: Vec<u32> = (100..124).collect();
-        let out = drawn_with(100, hours(), &many);
-        assert!(out.contains(">a cost begins: hours 100, 101, 102, 103, 104, 105, and more<"));
-        assert!(!drawn(100, hours()).contains("a cost begins"));
-    }
-
-    #[test]
-    fn a_refused_day_is_drawn() {
-        let out = drawn(0, vec![Err(REFUSAL); 24]);
-        assert!(out.contains(">hours 0 to 23: refused 8<"));
     }
 }

@@ -25,8 +25,8 @@ pub const LIMIT: &str = "stroke='#222222' stroke-width='1.75' stroke-dasharray='
 const HATCH: &str = "stroke='#94658d'";
 pub const GRID: &str = "stroke='#dddddd'";
 pub const DARK: &str = "stroke='#444444' stroke-width='1.5'";
-// Where an offer lies on the level, this white edge keeps the two lines apart.
-const EDGE: &str = "stroke='#ffffff' stroke-width='3.5'";
+// Where a line lies on another, this white edge keeps the two apart.
+pub const WHITE_EDGE: &str = "stroke='#ffffff' stroke-width='3.5'";
 
 /// Where the plot lies on the sheet, and its axes.
 pub struct Plot {
@@ -97,10 +97,18 @@ impl Area {
     }
 }
 
+/// Whether an area is apart from what this text takes.
+fn apart_from(x: f64, y: f64, anchor: &str, text: &str) -> impl Fn(&Area) -> bool {
+    let area = Area::of_text(x, y, anchor, text);
+    move |other| !other.meets(&area)
+}
+
 /// What is drawn so far, and what texts and lines take of it.
 pub struct Sheet {
     pub out: String,
     taken: Vec<Area>,
+    /// What faint lines take, on which a price may stand that has no other place.
+    faint: Vec<Area>,
 }
 
 impl Sheet {
@@ -115,8 +123,11 @@ impl Sheet {
              <text x='480' y='36' font-size='{TITLE}' text-anchor='middle' fill='{BLACK}'>{short}\
              </text>\n"
         );
-        let taken = Vec::new();
-        Sheet { out, taken }
+        Sheet {
+            out,
+            taken: Vec::new(),
+            faint: Vec::new(),
+        }
     }
 
     pub fn path(&mut self, line: &str, style: &str) {
@@ -128,6 +139,12 @@ impl Sheet {
         let (left, top) = (x.min(to_x) - 2.0, y.min(to_y) - 3.0);
         let (right, bottom) = (x.max(to_x) + 2.0, y.max(to_y) + 3.0);
         self.taken.push(Area(left, top, right, bottom));
+    }
+
+    /// A faint line from the top of a plot to its bottom, which prices avoid where they can.
+    pub fn upright(&mut self, plot: &Plot, x: f64, style: &str) {
+        self.path(&format!("M{x} {}V{}", plot.top, plot.bottom), style);
+        self.faint.push(Area(x, plot.top, x, plot.bottom));
     }
 
     /// A text with a white edge that keeps it readable over grid and hatching.
@@ -142,8 +159,7 @@ impl Sheet {
 
     /// The same if nothing lies there.
     pub fn text_if_free(&mut self, x: f64, y: f64, anchor: &str, colour: &str, text: &str) -> bool {
-        let area = Area::of_text(x, y, anchor, text);
-        let free = !self.taken.iter().any(|taken| taken.meets(&area));
+        let free = self.taken.iter().all(apart_from(x, y, anchor, text));
         if free {
             self.text(x, y, anchor, colour, text);
         }
@@ -219,7 +235,7 @@ impl Sheet {
 
     pub fn lines(&mut self, plot: &Plot, lines: &Lines) {
         self.stairs(plot, &lines.levels, LEVEL);
-        self.stairs(plot, &lines.prices, EDGE);
+        self.stairs(plot, &lines.prices, WHITE_EDGE);
         for limit in &lines.limits {
             self.stairs(plot, &[*limit], LIMIT);
             // A limit that the axis doesn't reach is an arrow at the top, its value above.
@@ -267,14 +283,30 @@ impl Sheet {
             if from > to {
                 continue;
             }
-            let middle = (first + last) / 2.0;
-            let places = [middle, middle - 5.0, middle + 5.0, first + 5.0, last - 5.0];
-            let places = places.into_iter().map(|x| x.clamp(from, to));
-            let mut places = places.flat_map(|x| [(x, y - 8.0), (x, y + 18.0)]);
-            places.find(|(x, y)| {
-                let inside = (plot.top + 12.0..plot.bottom - 4.0).contains(y);
-                inside && self.text_if_free(quarter(*x), *y, "middle", colour, &text)
-            });
+            let (middle, fourth) = ((first + last) / 2.0, (last - first) / 4.0);
+            let aside = [5.0, fourth, 2.0 * fourth - 5.0].into_iter();
+            let places = [middle]
+                .into_iter()
+                .chain(aside.flat_map(|by| [middle - by, middle + by]));
+            let places = places.map(|x| quarter(x.clamp(from, to)));
+            let places = places.flat_map(|x| [(x, y - 8.0), (x, y + 18.0)]);
+            let within = plot.top + 12.0..plot.bottom - 4.0;
+            let places: Vec<(f64, f64)> = places.filter(|(_, y)| within.contains(y)).collect();
+            self.text_at_first(&places, colour, &text);
+        }
+    }
+
+    /// A text at the first of these places that is free, and off faint lines if one is.
+    fn text_at_first(&mut self, places: &[(f64, f64)], colour: &str, text: &str) {
+        let off = |areas: &[Area], (x, y): (f64, f64)| {
+            let apart = apart_from(x, y, "middle", text);
+            areas.iter().all(apart)
+        };
+        let places = places.iter().copied();
+        let mut free = places.filter(|place| off(&self.taken, *place)).peekable();
+        let first = free.peek().copied();
+        if let Some((x, y)) = free.find(|place| off(&self.faint, *place)).or(first) {
+            self.text(x, y, "middle", colour, text);
         }
     }
 

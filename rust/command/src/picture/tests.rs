@@ -73,7 +73,7 @@ fn check_tag(tag: &str) {
 }
 
 /// Left, top, right, bottom and words of each level text.
-fn texts(out: &str) -> Vec<(f64, f64, f64, f64, String)> {
+pub fn texts(out: &str) -> Vec<(f64, f64, f64, f64, String)> {
     let value = |line: &str, name: &str| {
         let from = line.find(&format!(" {name}='")).unwrap() + name.len() + 3;
         line[from..].split('\'').next().unwrap().to_string()

@@ -28,11 +28,10 @@ pub struct Week<'a> {
 const END: u16 = INTERVALS as u16;
 const DAYS: u16 = 7;
 const PER_DAY: u16 = END / DAYS;
-const IDLE: &str = "#e6e6e6";
+const IDLE: &str = "#eeeeee";
 const PRICE: &str = BLUE;
 const ENERGY: &str = ORANGE;
 const DAY_EDGE: &str = "stroke='#999999' stroke-width='1'";
-const COST_EDGE: &str = "stroke='#ffffff' stroke-width='3.5'";
 /// The height of the plot of energy, the gap above it, and what stands below it.
 const LOW: f64 = 116.0;
 const GAP: f64 = 22.0;
@@ -85,8 +84,7 @@ fn in_hundredths(energies: &[Run]) -> Vec<Run> {
 fn axis_from_0(runs: impl Iterator<Item = Run>) -> Axis {
     Axis::of(&Lines {
         levels: runs.chain([(0, 0, 0)]).collect(),
-        prices: Vec::new(),
-        limits: Vec::new(),
+        ..Lines::default()
     })
 }
 
@@ -195,7 +193,7 @@ impl Sheet {
     fn cost(&mut self, plot: &Plot, cents: i128) {
         let y = plot.y(cents);
         let line = format!("M{} {y}H{}", plot.left, plot.right);
-        self.path(&line, COST_EDGE);
+        self.path(&line, WHITE_EDGE);
         self.path(&line, LIMIT);
         self.take((plot.left, y), (plot.right, y));
         self.text(plot.right + 8.0, y + 4.5, "start", BLACK, &beside(cents));

@@ -4,7 +4,7 @@ use super::dated::*;
 use super::incomplete::*;
 use super::sound::{sound, sound_of};
 use super::unfit::*;
-use super::{any_record, is_whole, kind, noise, reconcile, with_first_hour, Draft};
+use super::{any_record, from_least, is_whole, kind, noise, reconcile, with_first_hour, Draft};
 use crate::dossier::LONGEST;
 use crate::random::Random;
 use crate::table::{as_in, kind_of, rq, rs, Field, Mark, Role, Technology};
@@ -187,11 +187,7 @@ fn above_range(random: &mut Random, draft: &mut Draft) -> Option<()> {
 fn first_after_last(random: &mut Random, draft: &mut Draft) -> Option<()> {
     let at = any_place(random, draft).filter(|i| draft.records[*i].starts_with(b"RQ"))?;
     let last = rq::LAST.read(&draft.records[at]);
-    if last == rq::FIRST.highest {
-        return None;
-    }
-    let far = random.between(last + 1, rq::FIRST.highest);
-    let first = random.pick(&[last + 1, far]);
+    let first = from_least(random, last + 1, rq::FIRST)?;
     rq::FIRST.write(&mut draft.records[at], first);
     Some(())
 }

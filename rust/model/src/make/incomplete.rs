@@ -2,7 +2,7 @@
 //! the forecast that isn't there.
 
 use super::damage::{change_rs, only, put};
-use super::Draft;
+use super::{from_least, Draft};
 use crate::random::Random;
 use crate::table::{hp, rq, rs, Technology};
 
@@ -54,8 +54,7 @@ fn neighbours(random: &mut Random, draft: &Draft, least: usize) -> Option<(usize
 pub fn output_not_rising(random: &mut Random, draft: &mut Draft) -> Option<()> {
     let (lower, upper) = neighbours(random, draft, 2)?;
     let output = hp::OUTPUT.read(&draft.records[upper]);
-    let above = random.between(output, hp::OUTPUT.highest);
-    let not_below = random.pick(&[output, above]);
+    let not_below = from_least(random, output, hp::OUTPUT)?;
     hp::OUTPUT.write(&mut draft.records[lower], not_below);
     Some(())
 }
@@ -63,11 +62,7 @@ pub fn output_not_rising(random: &mut Random, draft: &mut Draft) -> Option<()> {
 pub fn heat_falling(random: &mut Random, draft: &mut Draft) -> Option<()> {
     let (lower, upper) = neighbours(random, draft, 2)?;
     let heat = hp::HEAT.read(&draft.records[upper]);
-    if heat == hp::HEAT.highest {
-        return None;
-    }
-    let above = random.between(heat + 1, hp::HEAT.highest);
-    let more = random.pick(&[heat + 1, above]);
+    let more = from_least(random, heat + 1, hp::HEAT)?;
     hp::HEAT.write(&mut draft.records[lower], more);
     Some(())
 }
@@ -130,11 +125,7 @@ pub fn charge_too_large(random: &mut Random, draft: &mut Draft) -> Option<()> {
     let rs = *draft.current(b"RS").first()?;
     let capacity = rs::CAPACITY.read(&draft.records[rs]);
     let least = capacity * (rs::WINDOW.read(&draft.records[rs]) + 1);
-    if least > rs::CHARGE.highest {
-        return None;
-    }
-    let any = random.between(least, rs::CHARGE.highest);
-    let charge = random.pick(&[least, any]);
+    let charge = from_least(random, least, rs::CHARGE)?;
     change_rs(draft, rs::CHARGE, charge)
 }
 

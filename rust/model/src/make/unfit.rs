@@ -1,7 +1,7 @@
 //! Damage that draws 6: a current record that doesn't fit the technology.
 
 use super::damage::{change_rs, not, only, put};
-use super::{value, Draft};
+use super::{from_least, value, Draft};
 use crate::random::Random;
 use crate::table::{ad, ch, fp, fu, hr, kind_of, mm, rs, th, Technology};
 
@@ -18,8 +18,7 @@ pub fn unused_field_set(random: &mut Random, draft: &mut Draft) -> Option<()> {
     if shared || draft.technology.uses().contains(&field) {
         return None;
     }
-    let any = random.between(field.lowest.max(1), field.highest);
-    let value = random.pick(&[field.lowest.max(1), any]);
+    let value = from_least(random, field.lowest.max(1), field)?;
     change_rs(draft, field, value)
 }
 
