@@ -397,17 +397,17 @@ pub fn interval_fault(rest: &[u8]) -> u8
 }
 
 // The number of the fault that a rest has. It is worked out a second time, for the pass, which then carries no number past the records without fault.
-pub fn fault_of(rest: &[u8]) -> u8
-    ensures { λ r. ⌜ ((m : ℕ) → readingOf (now (rest .entry)) ≡ Fault m → r ≡ m) ⌝ }
+pub fn fault_of(faulty: &[u8]) -> u8
+    ensures { λ r. ⌜ ((m : ℕ) → readingOf (now (faulty .entry)) ≡ Fault m → r ≡ m) ⌝ }
 {
-    if rest.len() < 2 {
+    if faulty.len() < 2 {
         return 2;
     }
-    let k = records::mark_at(rest);
+    let k = records::mark_at(faulty);
     if k == 0 {
         return 1;
     }
-    if rest.len() < records::length_of(k) {
+    if faulty.len() < records::length_of(k) {
         return 2;
     }
     3
