@@ -2,8 +2,8 @@
 use Prim.Native.Nat.{ℕ, _+_}
 use Rattle.rules.proofs.Computed.{computed as below}
 use Rattle.formulas.specs.Exact.{quotient, microDollars, cents, plus, sumOver, greaterOf, exact}
-use Rattle.formulas.specs.Levels.{covers, profileOf, profile, adders, retired, maintenance, additions, startMaintenance, thermalEnergy, heatCost, startCost}
-use Rattle.formulas.specs.Levels.{noLoadCost, nuclearEnergy, totalEnergy, chargingSum, chargingCost, shortRunCost, highestSum, opportunityCost}
+use Rattle.formulas.specs.Levels.{covers, profileOf, profile, adders, retired, maintenance, additions, startMaintenance, thermalEnergy, heatCost}
+use Rattle.formulas.specs.Levels.{startCost, noLoadCost, nuclearEnergy, totalEnergy, chargingSum, chargingCost, shortRunCost, highestSum, opportunityCost}
 use Rattle.formulas.specs.Levels.{storageEnergy, forecastPlace, forecastPrice, hydroEnergy, laminations, oneLamination, single, linesOf, lines, levels}
 use Rattle.formulas.specs.Levels.{fuelled, hourAnswer}
 use Rattle.lists.specs.Sums.{sumTo}

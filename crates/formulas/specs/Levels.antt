@@ -10,8 +10,8 @@ use Rattle.records.specs.Answers.{orElse, refuseIf}
 use Rattle.records.specs.Dossier.{records}
 use Rattle.station.specs.InForce.{inForce}
 use Rattle.station.specs.Parameters.{Parameters, Amounts, parameters, amounts, technology, capacity, factor, startHeat, noLoadHeat, incrementalFuel}
-use Rattle.station.specs.Parameters.{efficiency, window, output, heat, fuel, emission, adderKey, adder, costC, outputW, intervalT, hoursPerStartS, firstHour, lastHour}
-use Rattle.station.specs.Parameters.{requested, hourPrice, chargePrice, chargeEnergy, placePrice, lastCost}
+use Rattle.station.specs.Parameters.{efficiency, window, output, heat, fuel, emission, adderKey, adder, costC, outputW, intervalT, hoursPerStartS}
+use Rattle.station.specs.Parameters.{firstHour, lastHour, requested, hourPrice, chargePrice, chargeEnergy, placePrice, lastCost}
 use Rattle.rules.specs.Fit.{energy, start, noLoad, reserve}
 use Rattle.rules.specs.Curve.{points, rise, fullHours}
 use Rattle.rules.specs.Answer.{answer}

@@ -131,6 +131,7 @@ unfolding computed
 late-buffered = (refl, refl)
 
 -- of 46 bytes two stay, and of 43 all
-pub buffered : (bufferAfter reactor 256 (replicate 46 7) ≡ lines ++ (7 ∷ 7 ∷ [])) × (bufferAfter reactor 256 (replicate 43 7) ≡ replicate 43 7) × (bufferAfter [] 256 (7 ∷ []) ≡ 7 ∷ [])
+pub buffered : (bufferAfter reactor 256 (replicate 46 7) ≡ lines ++ (7 ∷ 7 ∷ [])) × (bufferAfter reactor 256 (replicate 43 7) ≡ replicate 43 7)
+    × (bufferAfter [] 256 (7 ∷ []) ≡ 7 ∷ [])
 unfolding computed
 buffered = (refl, refl, refl)

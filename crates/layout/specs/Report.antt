@@ -12,7 +12,8 @@ use Rattle.rules.specs.Fit.{energy, start, noLoad}
 use Rattle.formulas.specs.Levels.{parametersAt, profile, hourAnswer, levels, Shown, shown, retired}
 use Rattle.layout.specs.declared.Written.{Written}
 use Rattle.layout.specs.declared.Written.the-variants.{Bytes, Refused}
-use Rattle.text.specs.Text.{decimal, tenths, hundredths, refusalLine, profileWord, energyWord, startWord, noLoadWord, reserveWord, retiredWord, space, newline, over}
+use Rattle.text.specs.Text.{decimal, tenths, hundredths, refusalLine, profileWord, energyWord, startWord, noLoadWord, reserveWord, retiredWord}
+use Rattle.text.specs.Text.{space, newline, over}
 
 -- ---- the lines, "each line ended by byte 10"
 

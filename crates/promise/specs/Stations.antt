@@ -1,5 +1,5 @@
--- The stations and offers of the marked cases, a station on a river, an idle battery, one that charged, and R1 with dated fuel and with third-party payments, in
--- the papers' numbers and, through the table, as bytes.
+-- The stations and offers of the marked cases, a station on a river, an idle battery, one that charged, and R1 with dated fuel and with third-party
+-- payments, in the papers' numbers and, through the table, as bytes.
 use mathlib.Core.List.{List, [], _∷_, _++_}
 use Prim.Native.Nat.{ℕ, zero, suc, _+_, _*_}
 use Rattle.records.specs.Table.{RS, HP, FU, AD, MM, RQ, HR, CH, TH, FP, LC, FV, AV}

@@ -16,7 +16,8 @@ use Rattle.costs.proofs.maintenance.adders.Statement.{statement}
 use Rattle.costs.proofs.maintenance.adders.Tie as tie
 
 abbrev Inv-loop : tie.InvT-loop
-Inv-loop d index p v sum₀ c₀ sum c = (c ≤ 5) × (sum ≤ c * 1000000000000) × (sum ≡ sumTo c (λ k. cond (eqb k thirdParty) 0 (adder (amounts (held d index)) p k v)))
+Inv-loop d index p v sum₀ c₀ sum c =
+    (c ≤ 5) × (sum ≤ c * 1000000000000) × (sum ≡ sumTo c (λ k. cond (eqb k thirdParty) 0 (adder (amounts (held d index)) p k v)))
 
 abbrev μ-loop : tie.MeasureT-loop
 μ-loop d index p v sum₀ c₀ sum c = 5 - c

@@ -10,7 +10,8 @@ returns : tie.Need-returns
 returns c = (rw (eq-eqb (c .before .before .before .args .c) thirdParty (c .if1 .taken)) refl, omega arith)
 
 returns-2 : tie.Need-returns-2
-returns-2 c = let s = c .before .before .before .before in (rw (ne-eqb (s .args .c) thirdParty (c .before .if1 .left)) (c .adder .ensures .0), c .adder .ensures .1)
+returns-2 c =
+    let s = c .before .before .before .before in (rw (ne-eqb (s .args .c) thirdParty (c .before .if1 .left)) (c .adder .ensures .0), c .adder .ensures .1)
 
 pub claimed-spec : {M : Type 1} → statement M
 claimed-spec = tie.close (tie.spec returns (λ c κs. search needs) returns-2)

@@ -23,7 +23,8 @@ returns-2 : tie.Need-returns-2
 returns-2 c =
     let s = c .before .before .before .before in
     let n : ℕ = adderKey (s .args .p) thirdParty (s .args .v) in
-    let some : 0 < length (body (current AD n (held (s .args .d .now) (s .args .index .now)))) = omega (arith, ap length (c .before .ad .ensures), c .if1 .left) in
+    let some : 0 < length (body (current AD n (held (s .args .d .now) (s .args .index .now)))) =
+    omega (arith, ap length (c .before .ad .ensures), c .if1 .left) in
     (rw (payment-there (s .pre .0) n some) refl, omega arith)
 
 pub payment-spec : {M : Type 1} → statement M
