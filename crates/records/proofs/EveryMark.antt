@@ -8,7 +8,7 @@ use lib.Dec.{eqb, lit≤, lit<}
 use lib.ListN.{length, getD}
 use borrow.Author.Tests.{eqb-true, eqb-false}
 use Rattle.lists.proofs.Tests.{split, cond-holds, and-right}
-use Rattle.records.specs.Table.{Row, noRow, table, rowOf, marks, kinds, RS, HP, FU, AD, MM, RQ, HR, CH, TH, FP, LC, FV, AV, MV}
+use Rattle.records.specs.Table.{Row, noRow, table, rowOf, marks, kinds, RS, HP, FU, AD, MM, RQ, HR, CH, TH, FP, LC, AO, FV, AV, MV}
 use Rattle.records.specs.Record.{markIn, mark, isDated, kindOf, fieldsAt, widths, size, keyIn, keyWidth}
 use Rattle.records.specs.MarkShapes.{shortest, rare, begins}
 
@@ -25,34 +25,36 @@ pub mark-lt : (s : List ℕ) → mark s < marks
 unfolding mark table
 mark-lt s = in-lt 1 table (getD s 0 0) (getD s 1 0) (lit< tt)
 
-pub by-mark : (P : ℕ → Type 0) → P RS → P HP → P FU → P AD → P MM → P RQ → P HR → P CH → P TH → P FP → P LC → P FV → P AV → P MV
+pub by-mark : (P : ℕ → Type 0) → P RS → P HP → P FU → P AD → P MM → P RQ → P HR → P CH → P TH → P FP → P LC → P AO → P FV → P AV → P MV
     → (k : ℕ) → (k ≡ 0 → ⊥) → k < marks → P k
-by-mark P a b c d e f g h i j m n o q zero z l = absurd (z refl)
-by-mark P a b c d e f g h i j m n o q (suc zero) z l = a
-by-mark P a b c d e f g h i j m n o q (suc (suc zero)) z l = b
-by-mark P a b c d e f g h i j m n o q (suc (suc (suc zero))) z l = c
-by-mark P a b c d e f g h i j m n o q (suc (suc (suc (suc zero)))) z l = d
-by-mark P a b c d e f g h i j m n o q (suc (suc (suc (suc (suc zero))))) z l = e
-by-mark P a b c d e f g h i j m n o q (suc (suc (suc (suc (suc (suc zero)))))) z l = f
-by-mark P a b c d e f g h i j m n o q (suc (suc (suc (suc (suc (suc (suc zero))))))) z l = g
-by-mark P a b c d e f g h i j m n o q (suc (suc (suc (suc (suc (suc (suc (suc zero)))))))) z l = h
-by-mark P a b c d e f g h i j m n o q (suc (suc (suc (suc (suc (suc (suc (suc (suc zero))))))))) z l = i
-by-mark P a b c d e f g h i j m n o q (suc (suc (suc (suc (suc (suc (suc (suc (suc (suc zero)))))))))) z l = j
-by-mark P a b c d e f g h i j m n o q (suc (suc (suc (suc (suc (suc (suc (suc (suc (suc (suc zero))))))))))) z l = m
-by-mark P a b c d e f g h i j m n o q (suc (suc (suc (suc (suc (suc (suc (suc (suc (suc (suc (suc zero)))))))))))) z l = n
-by-mark P a b c d e f g h i j m n o q (suc (suc (suc (suc (suc (suc (suc (suc (suc (suc (suc (suc (suc zero))))))))))))) z l = o
-by-mark P a b c d e f g h i j m n o q (suc (suc (suc (suc (suc (suc (suc (suc (suc (suc (suc (suc (suc (suc zero)))))))))))))) z l = q
-by-mark P a b c d e f g h i j m n o q (suc (suc (suc (suc (suc (suc (suc (suc (suc (suc (suc (suc (suc (suc (suc k))))))))))))))) z l = absurd (omega arith)
+by-mark P a b c d e f g h i j m n o q v zero z l = absurd (z refl)
+by-mark P a b c d e f g h i j m n o q v (suc zero) z l = a
+by-mark P a b c d e f g h i j m n o q v (suc (suc zero)) z l = b
+by-mark P a b c d e f g h i j m n o q v (suc (suc (suc zero))) z l = c
+by-mark P a b c d e f g h i j m n o q v (suc (suc (suc (suc zero)))) z l = d
+by-mark P a b c d e f g h i j m n o q v (suc (suc (suc (suc (suc zero))))) z l = e
+by-mark P a b c d e f g h i j m n o q v (suc (suc (suc (suc (suc (suc zero)))))) z l = f
+by-mark P a b c d e f g h i j m n o q v (suc (suc (suc (suc (suc (suc (suc zero))))))) z l = g
+by-mark P a b c d e f g h i j m n o q v (suc (suc (suc (suc (suc (suc (suc (suc zero)))))))) z l = h
+by-mark P a b c d e f g h i j m n o q v (suc (suc (suc (suc (suc (suc (suc (suc (suc zero))))))))) z l = i
+by-mark P a b c d e f g h i j m n o q v (suc (suc (suc (suc (suc (suc (suc (suc (suc (suc zero)))))))))) z l = j
+by-mark P a b c d e f g h i j m n o q v (suc (suc (suc (suc (suc (suc (suc (suc (suc (suc (suc zero))))))))))) z l = m
+by-mark P a b c d e f g h i j m n o q v (suc (suc (suc (suc (suc (suc (suc (suc (suc (suc (suc (suc zero)))))))))))) z l = n
+by-mark P a b c d e f g h i j m n o q v (suc (suc (suc (suc (suc (suc (suc (suc (suc (suc (suc (suc (suc zero))))))))))))) z l = o
+by-mark P a b c d e f g h i j m n o q v (suc (suc (suc (suc (suc (suc (suc (suc (suc (suc (suc (suc (suc (suc zero)))))))))))))) z l = q
+by-mark P a b c d e f g h i j m n o q v (suc (suc (suc (suc (suc (suc (suc (suc (suc (suc (suc (suc (suc (suc (suc zero))))))))))))))) z l = v
+by-mark P a b c d e f g h i j m n o q v (suc (suc (suc (suc (suc (suc (suc (suc (suc (suc (suc (suc (suc (suc (suc (suc k)))))))))))))))) z l =
+    absurd (omega arith)
 
 pub size-least : (k : ℕ) → (k ≡ 0 → ⊥) → k < marks → shortest ≤ size k
 unfolding size fieldsAt widths rowOf table
 size-least = by-mark (λ k. shortest ≤ size k) (lit≤ tt) (lit≤ tt) (lit≤ tt) (lit≤ tt) (lit≤ tt) (lit≤ tt) (lit≤ tt) (lit≤ tt) (lit≤ tt) (lit≤ tt) (lit≤ tt)
-    (lit≤ tt) (lit≤ tt) (lit≤ tt)
+    (lit≤ tt) (lit≤ tt) (lit≤ tt) (lit≤ tt)
 
 pub size-most : (k : ℕ) → (k ≡ 0 → ⊥) → k < marks → size k ≤ 31
 unfolding size fieldsAt widths rowOf table
 size-most = by-mark (λ k. size k ≤ 31) (lit≤ tt) (lit≤ tt) (lit≤ tt) (lit≤ tt) (lit≤ tt) (lit≤ tt) (lit≤ tt) (lit≤ tt) (lit≤ tt) (lit≤ tt) (lit≤ tt) (lit≤
-    tt) (lit≤ tt) (lit≤ tt)
+    tt) (lit≤ tt) (lit≤ tt) (lit≤ tt)
 
 -- ---- its first hour
 
@@ -63,28 +65,30 @@ undated k l a b c =
     split (eqb k 0)
     (λ z. rw (eqb-true k 0 z) refl)
     (λ z. by-mark (λ j. k ≡ j → isDated j ≡ false) (λ w. refl) (λ w. refl) (λ w. refl) (λ w. refl) (λ w. refl) (λ w. refl) (λ w. refl) (λ w. refl)
-    (λ w. refl) (λ w. refl) (λ w. refl) (λ w. absurd (a w)) (λ w. absurd (b w)) (λ w. absurd (c w)) k (eqb-false k 0 z) l refl)
+    (λ w. refl) (λ w. refl) (λ w. refl) (λ w. refl) (λ w. absurd (a w)) (λ w. absurd (b w)) (λ w. absurd (c w)) k (eqb-false k 0 z) l refl)
 
 pub undated-none : (k : ℕ) → k < marks → (k ≡ FV → ⊥) → (k ≡ AV → ⊥) → (k ≡ MV → ⊥) → cond (isDated k) k 0 ≡ 0
 undated-none k l a b c = rw (undated k l a b c) refl
 
 -- their kinds stand as far apart from them as each from the other
-pub kind-above : (k : ℕ) → k < marks → LC < k → kindOf k ≡ k - 9
+pub kind-above : (k : ℕ) → k < marks → AO < k → kindOf k ≡ k - 10
 unfolding kindOf isDated rowOf table
 kind-above k l h =
-    by-mark (λ j. k ≡ j → kindOf j ≡ j - 9) (λ w. absurd (omega arith)) (λ w. absurd (omega arith)) (λ w. absurd (omega arith)) (λ w. absurd (omega arith))
+    by-mark (λ j. k ≡ j → kindOf j ≡ j - 10) (λ w. absurd (omega arith)) (λ w. absurd (omega arith)) (λ w. absurd (omega arith)) (λ w. absurd (omega arith))
     (λ w. absurd (omega arith)) (λ w. absurd (omega arith)) (λ w. absurd (omega arith)) (λ w. absurd (omega arith)) (λ w. absurd (omega arith))
-    (λ w. absurd (omega arith)) (λ w. absurd (omega arith)) (λ w. refl) (λ w. refl) (λ w. refl) k (λ z. absurd (omega arith)) l refl
+    (λ w. absurd (omega arith)) (λ w. absurd (omega arith)) (λ w. absurd (omega arith)) (λ w. refl) (λ w. refl) (λ w. refl)
+    k (λ z. absurd (omega arith)) l refl
 
 -- one that is none of the others has one, or is none
 pub dated-or-none : (k : ℕ) → k < marks → (k ≡ RS → ⊥) → (k ≡ HP → ⊥) → (k ≡ FU → ⊥) → (k ≡ AD → ⊥) → (k ≡ MM → ⊥) → (k ≡ RQ → ⊥) → (k ≡ HR → ⊥)
-    → (k ≡ CH → ⊥) → (k ≡ TH → ⊥) → (k ≡ FP → ⊥) → (k ≡ LC → ⊥) → cond (isDated k) k 0 ≡ k
+    → (k ≡ CH → ⊥) → (k ≡ TH → ⊥) → (k ≡ FP → ⊥) → (k ≡ LC → ⊥) → (k ≡ AO → ⊥) → cond (isDated k) k 0 ≡ k
 unfolding isDated rowOf table
-dated-or-none k l a b c d e f g h i j m =
+dated-or-none k l a b c d e f g h i j m o =
     split (eqb k 0)
     (λ z. rw (eqb-true k 0 z) refl)
     (λ z. by-mark (λ n. k ≡ n → cond (isDated n) n 0 ≡ n) (λ w. absurd (a w)) (λ w. absurd (b w)) (λ w. absurd (c w)) (λ w. absurd (d w)) (λ w. absurd (e w))
-    (λ w. absurd (f w)) (λ w. absurd (g w)) (λ w. absurd (h w)) (λ w. absurd (i w)) (λ w. absurd (j w)) (λ w. absurd (m w)) (λ w. refl) (λ w. refl)
+    (λ w. absurd (f w)) (λ w. absurd (g w)) (λ w. absurd (h w)) (λ w. absurd (i w)) (λ w. absurd (j w)) (λ w. absurd (m w)) (λ w. absurd (o w))
+    (λ w. refl) (λ w. refl)
     (λ w. refl) k (eqb-false k 0 z) l refl)
 
 -- ---- its kind
@@ -96,17 +100,18 @@ kind-lt k l =
     (λ z. rw (eqb-true k 0 z) (lit< tt))
     (λ z. by-mark (λ j. kindOf j < kinds) (lit< tt) (lit< tt) (lit< tt) (lit< tt) (lit< tt) (lit< tt) (lit< tt) (lit< tt) (lit< tt) (lit< tt) (lit< tt)
     (lit< tt)
-    (lit< tt) (lit< tt) k (eqb-false k 0 z) l)
+    (lit< tt) (lit< tt) (lit< tt) k (eqb-false k 0 z) l)
 
 pub kind-known : (k : ℕ) → (k ≡ 0 → ⊥) → k < marks → 1 ≤ kindOf k
 unfolding kindOf isDated rowOf table
-kind-known = by-mark (λ k. 1 ≤ kindOf k) (lit≤ tt) (lit≤ tt) (lit≤ tt) (lit≤ tt) (lit≤ tt) (lit≤ tt) (lit≤ tt) (lit≤ tt) (lit≤ tt) (lit≤ tt) (lit≤ tt) (lit≤ tt)
-    (lit≤ tt) (lit≤ tt)
+kind-known =
+    by-mark (λ k. 1 ≤ kindOf k) (lit≤ tt) (lit≤ tt) (lit≤ tt) (lit≤ tt) (lit≤ tt) (lit≤ tt) (lit≤ tt) (lit≤ tt) (lit≤ tt) (lit≤ tt) (lit≤ tt) (lit≤ tt)
+    (lit≤ tt) (lit≤ tt) (lit≤ tt)
 
 -- what holds of every mark without a first hour holds of every kind
-pub by-kind : (P : ℕ → Type 0) → P RS → P HP → P FU → P AD → P MM → P RQ → P HR → P CH → P TH → P FP → P LC → (k : ℕ) → (k ≡ 0 → ⊥) → k < kinds → P k
-by-kind P a b c d e f g h i j m k z l =
-    by-mark (λ n. k ≡ n → P n) (λ w. a) (λ w. b) (λ w. c) (λ w. d) (λ w. e) (λ w. f) (λ w. g) (λ w. h) (λ w. i) (λ w. j) (λ w. m)
+pub by-kind : (P : ℕ → Type 0) → P RS → P HP → P FU → P AD → P MM → P RQ → P HR → P CH → P TH → P FP → P LC → P AO → (k : ℕ) → (k ≡ 0 → ⊥) → k < kinds → P k
+by-kind P a b c d e f g h i j m n k z l =
+    by-mark (λ x. k ≡ x → P x) (λ w. a) (λ w. b) (λ w. c) (λ w. d) (λ w. e) (λ w. f) (λ w. g) (λ w. h) (λ w. i) (λ w. j) (λ w. m) (λ w. n)
     (λ w. absurd (omega (arith, w))) (λ w. absurd (omega (arith, w))) (λ w. absurd (omega (arith, w))) k z (omega arith) refl
 
 -- a kind is its own
@@ -115,7 +120,7 @@ unfolding kindOf isDated rowOf table
 kind-self k l =
     split (eqb k 0)
     (λ z. rw (eqb-true k 0 z) refl)
-    (λ z. by-kind (λ j. kindOf j ≡ j) refl refl refl refl refl refl refl refl refl refl refl k (eqb-false k 0 z) l)
+    (λ z. by-kind (λ j. kindOf j ≡ j) refl refl refl refl refl refl refl refl refl refl refl refl k (eqb-false k 0 z) l)
 
 -- ---- its letters
 
@@ -158,7 +163,7 @@ its-letters s z = go (mark s) refl z
 row-letter : (k : ℕ) → (k ≡ 0 → ⊥) → k < marks → isDated k ≡ eqb (rowOf k .second) 86
 unfolding isDated rowOf table
 row-letter =
-    by-mark (λ k. isDated k ≡ eqb (rowOf k .second) 86) refl refl refl refl refl refl refl refl refl refl refl refl refl refl
+    by-mark (λ k. isDated k ≡ eqb (rowOf k .second) 86) refl refl refl refl refl refl refl refl refl refl refl refl refl refl refl
 
 -- a known mark has a first hour exactly if its second letter is V
 pub dated-letter : (s : List ℕ) → (mark s ≡ 0 → ⊥) → isDated (mark s) ≡ eqb (getD s 1 0) 86
@@ -177,17 +182,19 @@ is-rare k l a b c d e f g h i =
     split (eqb k 0)
     (λ z. rw (eqb-true k 0 z) refl)
     (λ z. by-mark (λ j. k ≡ j → rare j ≡ true) (λ w. refl) (λ w. absurd (a w)) (λ w. absurd (b w)) (λ w. absurd (c w)) (λ w. absurd (d w))
-    (λ w. absurd (e w)) (λ w. absurd (f w)) (λ w. absurd (g w)) (λ w. absurd (h w)) (λ w. absurd (i w)) (λ w. refl) (λ w. refl) (λ w. refl) (λ w. refl)
+    (λ w. absurd (e w)) (λ w. absurd (f w)) (λ w. absurd (g w)) (λ w. absurd (h w)) (λ w. absurd (i w))
+    (λ w. refl) (λ w. refl) (λ w. refl) (λ w. refl) (λ w. refl)
     k (eqb-false k 0 z) l refl)
 
--- and one of them that is none of the five that there are is none at all
-pub rare-none : (k : ℕ) → k < marks → rare k ≡ true → (k ≡ RS → ⊥) → (k ≡ LC → ⊥) → (k ≡ FV → ⊥) → (k ≡ AV → ⊥) → (k ≡ MV → ⊥) → k ≡ 0
+-- and one of them that is none of the six that there are is none at all
+pub rare-none : (k : ℕ) → k < marks → rare k ≡ true → (k ≡ RS → ⊥) → (k ≡ LC → ⊥) → (k ≡ AO → ⊥) → (k ≡ FV → ⊥) → (k ≡ AV → ⊥) → (k ≡ MV → ⊥) → k ≡ 0
 unfolding rare isDated keyWidth keyIn rowOf table
-rare-none k l w a b c d e =
+rare-none k l w a b o c d e =
     split (eqb k 0)
     (λ z. eqb-true k 0 z)
     (λ z. absurd (by-mark (λ j. k ≡ j → rare j ≡ true → ⊥) (λ i x. a i) (λ i x. false≢true x) (λ i x. false≢true x) (λ i x. false≢true x)
     (λ i x. false≢true x) (λ i x. false≢true x) (λ i x. false≢true x) (λ i x. false≢true x) (λ i x. false≢true x) (λ i x. false≢true x) (λ i x. b i)
+    (λ i x. o i)
     (λ i x. c i) (λ i x. d i) (λ i x. e i) k (eqb-false k 0 z) l refl w))
 
 -- the same of a record's letters
@@ -198,8 +205,9 @@ letters-rare s a b c d e f g h i =
     is-rare (mark s) (mark-lt s) (not-mark HP s refl a) (not-mark FU s refl b) (not-mark AD s refl c) (not-mark MM s refl d) (not-mark RQ s refl e)
     (not-mark HR s refl f) (not-mark CH s refl g) (not-mark TH s refl h) (not-mark FP s refl i)
 
-pub letters-none : (s : List ℕ) → rare (mark s) ≡ true → begins s 82 83 ≡ false → begins s 76 67 ≡ false → begins s 70 86 ≡ false → begins s 65 86 ≡ false
+pub letters-none : (s : List ℕ) → rare (mark s) ≡ true → begins s 82 83 ≡ false → begins s 76 67 ≡ false → begins s 65 79 ≡ false
+    → begins s 70 86 ≡ false → begins s 65 86 ≡ false
     → begins s 77 86 ≡ false → mark s ≡ 0
 unfolding rowOf table
-letters-none s w a b c d e =
-    rare-none (mark s) (mark-lt s) w (not-mark RS s refl a) (not-mark LC s refl b) (not-mark FV s refl c) (not-mark AV s refl d) (not-mark MV s refl e)
+letters-none s w a b o c d e =
+    rare-none (mark s) (mark-lt s) w (not-mark RS s refl a) (not-mark LC s refl b) (not-mark AO s refl o) (not-mark FV s refl c) (not-mark AV s refl d) (not-mark MV s refl e)

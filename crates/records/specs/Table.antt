@@ -219,6 +219,13 @@ lc =
     (moneyTo 4 2000000000  -- 0 cost, micro-dollars per MWh
     ∷ [])
 
+-- "Mark AO, 18 bytes, is AD with an owner byte, 1 or 2, first in its key; its amounts may be raised as AD's are."
+abbrev pub ao : Row
+ao =
+    row 65 79 allTechnologies
+    (keyed 1 1 2  -- 0 owner; 1 profile, 2 cost, 3 level, 4 amount
+    ∷ ad .fields)
+
 -- another mark "with a first hour (4) after the issue": other letters, and all else is that mark's
 abbrev pub dated : ℕ → ℕ → ℕ → Row → Row
 dated a b k x = record { first = a; second = b; fields = x .fields; technologies = x .technologies; dates = k }
@@ -237,7 +244,7 @@ mv = dated 77 86 5 mm
 
 -- all of them: "A constant table holds each mark's whole length and key bounds."
 unfoldable pub table : List Row
-table = rs ∷ hp ∷ fu ∷ ad ∷ mm ∷ rq ∷ hr ∷ ch ∷ th ∷ fp ∷ lc ∷ fv ∷ av ∷ mv ∷ []
+table = rs ∷ hp ∷ fu ∷ ad ∷ mm ∷ rq ∷ hr ∷ ch ∷ th ∷ fp ∷ lc ∷ ao ∷ fv ∷ av ∷ mv ∷ []
 
 -- ---- a mark is named by its place in the table, from 1; 0 is an unknown mark
 
@@ -285,25 +292,29 @@ FP = 10
 abbrev pub LC : ℕ
 LC = 11
 
+-- a cost of one owner that joins a level: "Mark AO, 18 bytes"
+abbrev pub AO : ℕ
+AO = 12
+
 -- FU with a first hour
 abbrev pub FV : ℕ
-FV = 12
+FV = 13
 
 -- AD with a first hour
 abbrev pub AV : ℕ
-AV = 13
+AV = 14
 
 -- MM with a first hour
 abbrev pub MV : ℕ
-MV = 14
+MV = 15
 
 -- a mark's number is below this
 abbrev pub marks : ℕ
-marks = 15
+marks = 16
 
 -- and that of a mark without a first hour below this
 abbrev pub kinds : ℕ
-kinds = 12
+kinds = 13
 
 -- the row of mark k
 unfoldable pub rowOf : ℕ → Row

@@ -8,7 +8,7 @@ ghost use lib.Dec.{eqb};
 ghost use lib.ListN.{getD};
 ghost use Rattle.lists.specs.Tests.{between};
 ghost use Rattle.fields.specs.Numbers.{number, biased};
-ghost use Rattle.records.specs.Table.{RS, HP, FU, AD, MM, RQ, HR, CH, TH, FP, LC, FV, AV, MV, marks};
+ghost use Rattle.records.specs.Table.{RS, HP, FU, AD, MM, RQ, HR, CH, TH, FP, LC, AO, FV, AV, MV, marks};
 ghost use Rattle.records.specs.Record.{mark, isDated, kindOf, size, rangesHold};
 ghost use Rattle.records.specs.MarkShapes.{begins, shapeOf, keyField, keyFits, keyTest};
 
@@ -22,118 +22,125 @@ pub enum Answer {
 pub struct MarkShape {
     pub length: usize,
     pub width: usize,
-    pub lowest: [u16; 3],
-    pub highest: [u16; 3],
+    pub lowest: [u16; 4],
+    pub highest: [u16; 4],
 }
 
 // The rows of the table: each mark's whole length and key bounds, an unknown mark first. Code that knows the mark reads its row.
 pub const UNKNOWN: MarkShape = MarkShape {
     length: 6,
     width: 0,
-    lowest: [0, 0, 0],
-    highest: [0, 0, 0],
+    lowest: [0, 0, 0, 0],
+    highest: [0, 0, 0, 0],
 };
 
 pub const RS: MarkShape = MarkShape {
     length: 31,
     width: 0,
-    lowest: [0, 0, 0],
-    highest: [0, 0, 0],
+    lowest: [0, 0, 0, 0],
+    highest: [0, 0, 0, 0],
 };
 
 pub const HP: MarkShape = MarkShape {
     length: 13,
     width: 1,
-    lowest: [1, 0, 0],
-    highest: [21, 0, 0],
+    lowest: [1, 0, 0, 0],
+    highest: [21, 0, 0, 0],
 };
 
 pub const FU: MarkShape = MarkShape {
     length: 15,
     width: 1,
-    lowest: [1, 0, 0],
-    highest: [4, 0, 0],
+    lowest: [1, 0, 0, 0],
+    highest: [4, 0, 0, 0],
 };
 
 pub const AD: MarkShape = MarkShape {
     length: 17,
     width: 3,
-    lowest: [1, 1, 1],
-    highest: [4, 5, 4],
+    lowest: [1, 1, 1, 0],
+    highest: [4, 5, 4, 0],
 };
 
 pub const MM: MarkShape = MarkShape {
     length: 24,
     width: 2,
-    lowest: [1, 1, 0],
-    highest: [4, 8, 0],
+    lowest: [1, 1, 0, 0],
+    highest: [4, 8, 0, 0],
 };
 
 pub const RQ: MarkShape = MarkShape {
     length: 16,
     width: 1,
-    lowest: [1, 0, 0],
-    highest: [16, 0, 0],
+    lowest: [1, 0, 0, 0],
+    highest: [16, 0, 0, 0],
 };
 
 pub const HR: MarkShape = MarkShape {
     length: 11,
     width: 1,
-    lowest: [1, 0, 0],
-    highest: [168, 0, 0],
+    lowest: [1, 0, 0, 0],
+    highest: [168, 0, 0, 0],
 };
 
 pub const CH: MarkShape = MarkShape {
     length: 16,
     width: 2,
-    lowest: [1, 0, 0],
-    highest: [2016, 0, 0],
+    lowest: [1, 0, 0, 0],
+    highest: [2016, 0, 0, 0],
 };
 
 pub const TH: MarkShape = MarkShape {
     length: 18,
     width: 2,
-    lowest: [1, 1, 0],
-    highest: [3, 4, 0],
+    lowest: [1, 1, 0, 0],
+    highest: [3, 4, 0, 0],
 };
 
 pub const FP: MarkShape = MarkShape {
     length: 12,
     width: 2,
-    lowest: [1, 0, 0],
-    highest: [4000, 0, 0],
+    lowest: [1, 0, 0, 0],
+    highest: [4000, 0, 0, 0],
 };
 
 pub const LC: MarkShape = MarkShape {
     length: 10,
     width: 0,
-    lowest: [0, 0, 0],
-    highest: [0, 0, 0],
+    lowest: [0, 0, 0, 0],
+    highest: [0, 0, 0, 0],
+};
+
+pub const AO: MarkShape = MarkShape {
+    length: 18,
+    width: 4,
+    lowest: [1, 1, 1, 1],
+    highest: [2, 4, 5, 4],
 };
 
 pub const FV: MarkShape = MarkShape {
     length: 19,
     width: 1,
-    lowest: [1, 0, 0],
-    highest: [4, 0, 0],
+    lowest: [1, 0, 0, 0],
+    highest: [4, 0, 0, 0],
 };
 
 pub const AV: MarkShape = MarkShape {
     length: 21,
     width: 3,
-    lowest: [1, 1, 1],
-    highest: [4, 5, 4],
+    lowest: [1, 1, 1, 0],
+    highest: [4, 5, 4, 0],
 };
 
 pub const MV: MarkShape = MarkShape {
     length: 28,
     width: 2,
-    lowest: [1, 1, 0],
-    highest: [4, 8, 0],
+    lowest: [1, 1, 0, 0],
+    highest: [4, 8, 0, 0],
 };
 
 // A constant table holds them by the mark's place in the table of specs/. A read at a variable place writes the whole table first.
-pub const MARKS: [MarkShape; 15] = [
+pub const MARKS: [MarkShape; 16] = [
     UNKNOWN,
     RS,
     HP,
@@ -146,6 +153,7 @@ pub const MARKS: [MarkShape; 15] = [
     TH,
     FP,
     LC,
+    AO,
     FV,
     AV,
     MV,
@@ -167,7 +175,7 @@ pub fn kind_of(mark: usize) -> usize
     requires { ⌜ mark < marks ⌝ }
     ensures { λ r. ⌜ r ≡ kindOf mark ⌝ }
 {
-    if mark <= marks::LC { mark } else { mark - 9 }
+    if mark <= marks::AO { mark } else { mark - 10 }
 }
 
 // The length of records of the marks that few dossiers have.
@@ -183,6 +191,9 @@ fn rare_length(mark: usize) -> usize
     }
     if mark == marks::MV {
         return MV.length;
+    }
+    if mark == marks::AO {
+        return AO.length;
     }
     LC.length
 }
@@ -230,7 +241,7 @@ pub fn length_of(mark: usize) -> usize
 
 // Whether a number is within the bounds of a key field.
 fn in_field(m: MarkShape, i: usize, x: usize) -> bool
-    requires { ⌜ i < 3 ⌝ }
+    requires { ⌜ i < 4 ⌝ }
     ensures { λ r. ⌜ r ≡ keyField m i x ⌝ }
 {
     ((m.lowest[i] as usize) <= x) & (x <= (m.highest[i] as usize))
@@ -246,7 +257,13 @@ fn in_fields(m: MarkShape, n: usize) -> bool
     if m.highest[2] == 0 {
         return in_field(m, 0, n / 256) & in_field(m, 1, n % 256);
     }
-    in_field(m, 0, n / 65536) & in_field(m, 1, n / 256 % 256) & in_field(m, 2, n % 256)
+    if m.highest[3] == 0 {
+        return in_field(m, 0, n / 65536) & in_field(m, 1, n / 256 % 256) & in_field(m, 2, n % 256);
+    }
+    in_field(m, 0, n / 16777216)
+        & in_field(m, 1, n / 65536 % 256)
+        & in_field(m, 2, n / 256 % 256)
+        & in_field(m, 3, n % 256)
 }
 
 // Whether a number is a key of a mark.
@@ -323,6 +340,9 @@ pub fn mark_at(s: &[u8]) -> usize
     }
     if is_mark(s, b"LC") {
         return marks::LC;
+    }
+    if is_mark(s, b"AO") {
+        return marks::AO;
     }
     dated_mark_at(s)
 }
@@ -439,6 +459,17 @@ pub fn ad_ok(s: &[u8]) -> bool
         & in1(s, 7, m.lowest[1], m.highest[1])
         & in1(s, 8, m.lowest[2], m.highest[2])
         & in8(s, 9, 0, 1000000000000)
+}
+
+pub fn ao_ok(s: &[u8]) -> bool
+    ensures { λ r. ⌜ r ≡ rangesHold AO (now (s .entry)) ⌝ }
+{
+    let m = AO;
+    in1(s, 6, m.lowest[0], m.highest[0])
+        & in1(s, 7, m.lowest[1], m.highest[1])
+        & in1(s, 8, m.lowest[2], m.highest[2])
+        & in1(s, 9, m.lowest[3], m.highest[3])
+        & in8(s, 10, 0, 1000000000000)
 }
 
 pub fn av_ok(s: &[u8]) -> bool

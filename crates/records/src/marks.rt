@@ -21,8 +21,10 @@ pub const FP: usize = 10;
 
 pub const LC: usize = 11;
 
-pub const FV: usize = 12;
+pub const AO: usize = 12;
 
-pub const AV: usize = 13;
+pub const FV: usize = 13;
 
-pub const MV: usize = 14;
+pub const AV: usize = 14;
+
+pub const MV: usize = 15;

@@ -26,8 +26,8 @@ unfolding rowOf table
 returns-4 c =
     let c2 = c .before .before .before in
     let c1 = c2 .before .before .before in
-    sym (undated-none _ (mark-lt _) (not-mark 12 _ refl (sym (c1 .before .is-mark .ensures) ∙ c1 .if1 .left))
-    (not-mark 13 _ refl (sym (c2 .before .is-mark2 .ensures) ∙ c2 .if2 .left)) (not-mark 14 _ refl (sym (c .before .is-mark3 .ensures) ∙ c .if3 .left)))
+    sym (undated-none _ (mark-lt _) (not-mark 13 _ refl (sym (c1 .before .is-mark .ensures) ∙ c1 .if1 .left))
+    (not-mark 14 _ refl (sym (c2 .before .is-mark2 .ensures) ∙ c2 .if2 .left)) (not-mark 15 _ refl (sym (c .before .is-mark3 .ensures) ∙ c .if3 .left)))
 
 pub dated-mark-at-spec : {M : Type 1} → statement M
 dated-mark-at-spec =

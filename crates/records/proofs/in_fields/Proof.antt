@@ -26,8 +26,22 @@ returns-3 c =
       c .in-field6 .ensures,
       c .before .in-field5 .ensures,
       c .before .before .in-field4 .ensures,
-      ne-eqb _ _ (c .before .before .before .before .before .if1 .left),
-      ne-eqb _ _ (c .before .before .before .if2 .left),
+      ne-eqb _ _ (c .before .before .before .before .before .before .before .if1 .left),
+      ne-eqb _ _ (c .before .before .before .before .before .if2 .left),
+      eq-eqb _ _ (c .before .before .before .if3 .taken),
+    ) refl
+
+returns-4 : tie.Need-returns-4
+unfolding keyFits
+returns-4 c =
+    rw (
+      c .in-field10 .ensures,
+      c .before .in-field9 .ensures,
+      c .before .before .in-field8 .ensures,
+      c .before .before .before .in-field7 .ensures,
+      ne-eqb _ _ (c .before .before .before .before .before .before .before .before .if1 .left),
+      ne-eqb _ _ (c .before .before .before .before .before .before .if2 .left),
+      ne-eqb _ _ (c .before .before .before .before .if3 .left),
     ) refl
 
 pub in-fields-spec : {M : Type 1} → statement M
@@ -41,7 +55,13 @@ in-fields-spec =
     (λ c κs. search needs)
     (λ c κs. search needs)
     returns-2
+    (λ c. search needs)
     (λ c κs. search needs)
     (λ c κs. search needs)
     (λ c κs. search needs)
-    returns-3)
+    returns-3
+    (λ c κs. search needs)
+    (λ c κs. search needs)
+    (λ c κs. search needs)
+    (λ c κs. search needs)
+    returns-4)

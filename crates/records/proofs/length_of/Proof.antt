@@ -5,8 +5,7 @@ use borrow.Author.Needs.{needs}
 use Rattle.records.specs.Table.{LC}
 use Rattle.records.specs.Record.{size}
 use Rattle.records.proofs.EveryMark.{by-mark}
-use Rattle.records.proofs.Record.{no-size, rs-size, hp-size, fu-size, ad-size, mm-size, rq-size, hr-size, ch-size, th-size, fp-size, lc-size}
-use Rattle.records.proofs.Record.{fv-size, av-size, mv-size}
+use Rattle.records.proofs.Record.{no-size, rs-size, hp-size, fu-size, ad-size, mm-size, rq-size, hr-size, ch-size, th-size, fp-size}
 use Rattle.records.proofs.length_of.Statement.{statement}
 use Rattle.records.proofs.length_of.Tie as tie
 
@@ -54,7 +53,7 @@ rare-length-requires c κs =
           (λ w. absurd (c .before .before .before .before .before .before .if5 .left w))
           (λ w. absurd (c .before .before .before .before .before .before .before .before .before .if2 .left w))
           (λ w. absurd (c .before .before .before .before .before .before .before .if4 .left w))
-          (λ w. absurd (c .before .before .before .before .before .if6 .left w)) (λ w. lit≤ tt) (λ w. lit≤ tt) (λ w. lit≤ tt) (λ w. lit≤ tt) k
+          (λ w. absurd (c .before .before .before .before .before .if6 .left w)) (λ w. lit≤ tt) (λ w. lit≤ tt) (λ w. lit≤ tt) (λ w. lit≤ tt) (λ w. lit≤ tt) k
           (c .before .before .before .before .before .before .before .before .before .before .if1 .left) (a .pre) refl,
       a .pre,
     )

@@ -52,9 +52,14 @@ unfolding markIn table
 returns-11 c = sym (begun 76 67 _ (sym (c .before .is-mark11 .ensures) ∙ c .if11 .taken))
 
 returns-12 : tie.Need-returns-12
+unfolding markIn table
+returns-12 c = sym (begun 65 79 _ (sym (c .before .is-mark12 .ensures) ∙ c .if12 .taken))
+
+returns-13 : tie.Need-returns-13
 unfolding rowOf table
-returns-12 c =
-    let c11 = c .before in
+returns-13 c =
+    let c12 = c .before in
+    let c11 = c12 .before .before .before in
     let c10 = c11 .before .before .before in
     let c9 = c10 .before .before .before in
     let c8 = c9 .before .before .before in
@@ -78,6 +83,7 @@ returns-12 c =
     (not-mark 9 _ refl (sym (c3 .before .is-mark3 .ensures) ∙ c3 .if3 .left))
     (not-mark 10 _ refl (sym (c5 .before .is-mark5 .ensures) ∙ c5 .if5 .left))
     (not-mark 11 _ refl (sym (c11 .before .is-mark11 .ensures) ∙ c11 .if11 .left))
+    (not-mark 12 _ refl (sym (c12 .before .is-mark12 .ensures) ∙ c12 .if12 .left))
 
 pub mark-at-spec : {M : Type 1} → statement M
 mark-at-spec =
@@ -106,4 +112,6 @@ mark-at-spec =
     (λ c κs. search needs)
     returns-11
     (λ c κs. search needs)
-    returns-12)
+    returns-12
+    (λ c κs. search needs)
+    returns-13)
