@@ -1,26 +1,28 @@
--- Worked hours: what a nuclear station's dated costs come to before and after their first hours, and what an hour without fuel draws.
+-- Worked queries: what a nuclear station's dated costs come to before and after their first hours, what an hour without fuel draws, and
+-- what the owners' costs come to.
 use mathlib.Core.Path.{_≡_, refl}
 use mathlib.Core.List.{List, [], _∷_, map}
 use Prim.Native.Nat.{ℕ}
 use Rattle.lists.specs.Lists.{joined}
 use Rattle.records.specs.declared.Answer.{Answer}
 use Rattle.records.specs.declared.Answer.the-variants.{Accepted, Refused}
-use Rattle.records.specs.Table.{RS, FU, RQ, FV, AV, MV}
+use Rattle.records.specs.Table.{RS, FU, AD, RQ, AO, FV, AV, MV}
 use Rattle.records.specs.Made.{made, madeFrom}
-use Rattle.formulas.specs.Levels.{hourAnswer, levels, amount}
+use Rattle.station.specs.InForce.{query}
+use Rattle.formulas.specs.Levels.{parametersAt, retired, queryAnswer, levels, amount}
 use Rattle.formulas.proofs.Computed.{computed}
 
 -- a nuclear station whose energy level is the price of its fuel, 31 bytes
 abbrev reactor : List ℕ
 reactor = made RS 1 (2 ∷ 1000 ∷ 1000 ∷ 0 ∷ 0 ∷ 1000000 ∷ 0 ∷ 0 ∷ 0 ∷ [])
 
--- its levels at some hours, in cents
+-- its levels for owner 1 at some hours, in cents
 abbrev centsAt : List (List ℕ) → List ℕ → List (List ℕ)
-centsAt l hours = map (λ h. map amount (levels (joined l) h)) hours
+centsAt l hours = map (λ h. map amount (levels (joined l) (query h 1))) hours
 
 -- and what they draw
 abbrev drawnAt : List (List ℕ) → List ℕ → List Answer
-drawnAt l hours = map (hourAnswer (joined l)) hours
+drawnAt l hours = map (λ h. queryAnswer (joined l) (query h 1)) hours
 
 -- ---- "At an hour, the highest issue whose first hour has come counts."
 
@@ -67,7 +69,42 @@ unfolding computed
 asked-levels = refl
 
 -- "tried after 17": 8 of a station without fuel for profile 1, and 17 of a hydroelectric one without a forecast, whose fuel is of hour 10
-pub own-first : (hourAnswer (joined (reactor ∷ madeFrom FV 1 10 (2 ∷ 0 ∷ 0 ∷ []) ∷ [])) 0 ≡ Refused 8 50)
-    × (hourAnswer (joined (made RS 1 (4 ∷ 500 ∷ 0 ∷ 0 ∷ 0 ∷ 0 ∷ 0 ∷ 0 ∷ 50 ∷ []) ∷ madeFrom FV 1 10 (1 ∷ 0 ∷ 0 ∷ []) ∷ [])) 0 ≡ Refused 17 50)
+pub own-first : (queryAnswer (joined (reactor ∷ madeFrom FV 1 10 (2 ∷ 0 ∷ 0 ∷ []) ∷ [])) (query 0 1) ≡ Refused 8 50)
+    × (queryAnswer (joined (made RS 1 (4 ∷ 500 ∷ 0 ∷ 0 ∷ 0 ∷ 0 ∷ 0 ∷ 0 ∷ 50 ∷ []) ∷ madeFrom FV 1 10 (1 ∷ 0 ∷ 0 ∷ []) ∷ [])) (query 0 1) ≡ Refused 17 50)
 unfolding computed
 own-first = (refl, refl)
+
+-- ---- "A query names an owner and adds that owner's AO to the common amounts, and to `retired`"
+
+-- fuel at 4.00, consumables of 1.00 for both; owner 1 has 0.10 of the same cost and a third-party payment, owner 2 has 0.70, in two issues, and 0.03 scheduled
+abbrev owned : List (List ℕ)
+owned =
+    reactor ∷ made FU 1 (1 ∷ 4000000 ∷ 0 ∷ [])
+    ∷ made AD 1 (1 ∷ 3 ∷ 1 ∷ 1000000 ∷ [])
+    ∷ made AO 1 (1 ∷ 1 ∷ 3 ∷ 1 ∷ 100000 ∷ [])
+    ∷ made AO 1 (1 ∷ 1 ∷ 4 ∷ 1 ∷ 9000000 ∷ [])
+    ∷ made AO 2 (2 ∷ 1 ∷ 3 ∷ 1 ∷ 700000 ∷ [])
+    ∷ made AO 1 (2 ∷ 1 ∷ 3 ∷ 1 ∷ 800000 ∷ [])
+    ∷ made AO 1 (2 ∷ 1 ∷ 1 ∷ 1 ∷ 30000 ∷ [])
+    ∷ []
+
+pub owned-levels : map (λ o. map amount (levels (joined owned) (query 0 o))) (1 ∷ 2 ∷ []) ≡ ((510 ∷ []) ∷ (573 ∷ []) ∷ [])
+unfolding computed
+owned-levels = refl
+
+pub owned-retired : map (λ o. retired (parametersAt (joined owned) (query 0 o)) 1) (1 ∷ 2 ∷ []) ≡ (1 ∷ 0 ∷ [])
+unfolding computed
+owned-retired = refl
+
+-- "a query with any other is 3 at place 0", whatever the dossier is
+pub owner-drawn : (map (λ o. queryAnswer (joined owned) (query 0 o)) (0 ∷ 1 ∷ 2 ∷ 3 ∷ []) ≡ (Refused 3 0 ∷ Accepted ∷ Accepted ∷ Refused 3 0 ∷ []))
+    × (queryAnswer (0 ∷ []) (query 0 3) ≡ Refused 3 0) × (queryAnswer (0 ∷ []) (query 0 2) ≡ Refused 2 0)
+unfolding computed
+owner-drawn = (refl, refl, refl)
+
+-- an owner other than 1 or 2 in a record is 3, and an AO for a level that is not held is 6, whoever asks
+pub owner-record : map (λ r. queryAnswer (joined (reactor ∷ made FU 1 (1 ∷ 0 ∷ 0 ∷ []) ∷ r ∷ [])) (query 0 1))
+    (made AO 1 (0 ∷ 1 ∷ 3 ∷ 1 ∷ 0 ∷ []) ∷ made AO 1 (3 ∷ 1 ∷ 3 ∷ 1 ∷ 0 ∷ []) ∷ made AO 1 (2 ∷ 1 ∷ 3 ∷ 4 ∷ 0 ∷ []) ∷ made AO 1 (2 ∷ 1 ∷ 5 ∷ 1 ∷ 0 ∷ []) ∷ [])
+    ≡ (Refused 3 46 ∷ Refused 3 46 ∷ Refused 6 46 ∷ Accepted ∷ [])
+unfolding computed
+owner-record = refl

@@ -1,4 +1,4 @@
--- What an hour draws: the dossier's own refusal, or 20 at place 0, or nothing; what its levels are then; and what is the same at every hour.
+-- What a query draws: the owner's refusal, the dossier's own, or 20 at place 0, or nothing; what its levels are then; and what is the same for every query.
 use mathlib.Core.Path.{_≡_, refl}
 use Rattle.records.specs.Record.{datable}
 use mathlib.Core.Bool.{Bool, true, false, cond, _&&_, _||_, not, false≢true}
@@ -8,59 +8,74 @@ use native.Mathlib.Omega.{arith}
 use lib.Dec.{leb, eqb}
 use borrow.Author.Tests.{not-false}
 use Rattle.lists.specs.Sums.{sumTo}
-use Rattle.lists.specs.Tests.{among}
-use Rattle.lists.proofs.Tests.{split, and-left, and-right, to-at}
+use Rattle.lists.specs.Tests.{among, between}
+use Rattle.lists.proofs.Tests.{split, and-left, and-right, to-at, between-low, between-high, in-between}
 use Rattle.records.specs.Table.{table, RS, FU, RQ, CH, FP, LC}
 use Rattle.records.specs.declared.Answer.the-variants.{Accepted, Refused}
 use Rattle.records.specs.Answers.{orElse, refuseIf}
 use Rattle.records.proofs.Answers.{orElse-parts, not-refuseIf}
-use Rattle.station.specs.InForce.{inForce}
+use Rattle.station.specs.InForce.{Query, inForce}
 use Rattle.station.specs.Parameters.{Parameters, parameters, amounts, firstHour, lastHour, requested}
 use Rattle.station.proofs.Parameters.{says-always, of-always}
 use Rattle.rules.specs.Answer.{answer, IsAccepted}
 use Rattle.rules.specs.Curve.{fuelHolds}
 use Rattle.formulas.specs.Sums.{listTo, fromTop}
 use Rattle.formulas.specs.Exact.{whole, share}
-use Rattle.formulas.specs.Levels.{parametersAt, amountsAt, covers, profileOf, profile, fuelled, hourAnswer, totalEnergy, chargingSum, chargingCost}
+use Rattle.formulas.specs.Levels.{parametersAt, amountsAt, covers, profileOf, profile, fuelled, IsOwner, ownerRefusal, queryAnswer, totalEnergy}
+use Rattle.formulas.specs.Levels.{chargingSum, chargingCost}
 use Rattle.formulas.specs.Levels.{forecastPlace, forecastPrice, lines, levels}
 
 -- ---- the answer
 
-module _ (d : List ℕ) (h : ℕ) where
-  -- an accepted dossier draws nothing where the hour's profile has fuel in force
-  pub hour-accepted : IsAccepted d → fuelled (parametersAt d h) h ≡ true → hourAnswer d h ≡ Accepted
-  unfolding hourAnswer orElse refuseIf
-  hour-accepted a e = rw (a .clean, e) refl
+module _ (d : List ℕ) (q : Query) where
+  abbrev fuel : Bool
+  fuel = fuelled (parametersAt d q) (q .hour)
+
+  owner-known : IsOwner (q .owner) → ownerRefusal (q .owner) ≡ Accepted
+  unfolding ownerRefusal refuseIf
+  owner-known o = rw (in-between 1 2 (q .owner) (o .0) (o .1)) refl
+
+  -- another owner draws 3 whatever the dossier is
+  pub owner-unknown : between 1 2 (q .owner) ≡ false → queryAnswer d q ≡ Refused 3 0
+  unfolding queryAnswer ownerRefusal orElse refuseIf
+  owner-unknown e = rw e refl
+
+  -- of an accepted dossier nothing is drawn where the hour's profile has fuel in force
+  pub hour-accepted : IsOwner (q .owner) → IsAccepted d → fuel ≡ true → queryAnswer d q ≡ Accepted
+  unfolding queryAnswer orElse refuseIf
+  hour-accepted o a e = rw (owner-known o, a .clean, e) refl
 
   -- and 20 where it has none
-  pub hour-without : IsAccepted d → fuelled (parametersAt d h) h ≡ false → hourAnswer d h ≡ Refused 20 0
-  unfolding hourAnswer orElse refuseIf
-  hour-without a e = rw (a .clean, e) refl
+  pub hour-without : IsOwner (q .owner) → IsAccepted d → fuel ≡ false → queryAnswer d q ≡ Refused 20 0
+  unfolding queryAnswer orElse refuseIf
+  hour-without o a e = rw (owner-known o, a .clean, e) refl
 
-  -- a refused one draws the same at every hour
-  pub hour-refused : {n p : ℕ} → answer d ≡ Refused n p → hourAnswer d h ≡ Refused n p
-  unfolding hourAnswer orElse
-  hour-refused e = rw e refl
+  -- of a refused one the same at every hour
+  pub hour-refused : IsOwner (q .owner) → {n p : ℕ} → answer d ≡ Refused n p → queryAnswer d q ≡ Refused n p
+  unfolding queryAnswer orElse
+  hour-refused o e = rw (owner-known o, e) refl
 
-  -- where nothing is drawn, the dossier is accepted and there is fuel
-  pub hour-parts : hourAnswer d h ≡ Accepted → IsAccepted d × (fuelled (parametersAt d h) h ≡ true)
-  unfolding hourAnswer
+  -- where nothing is drawn, the owner is one of the two, the dossier is accepted and there is fuel
+  pub hour-parts : queryAnswer d q ≡ Accepted → IsOwner (q .owner) × IsAccepted d × (fuel ≡ true)
+  unfolding queryAnswer ownerRefusal
   hour-parts e =
-      let p = orElse-parts (answer d) (refuseIf (not (fuelled (parametersAt d h) h)) 20 0) e in
-      (record { clean = p .0 }, not-false _ (not-refuseIf (not (fuelled (parametersAt d h) h)) 20 0 (p .1)))
+      let o = orElse-parts (refuseIf (not (between 1 2 (q .owner))) 3 0) (orElse (answer d) (refuseIf (not fuel) 20 0)) e in
+      let p = orElse-parts (answer d) (refuseIf (not fuel) 20 0) (o .1) in
+      let b : between 1 2 (q .owner) ≡ true = not-false _ (not-refuseIf (not (between 1 2 (q .owner))) 3 0 (o .0)) in
+      ((between-low 1 2 (q .owner) b, between-high 1 2 (q .owner) b), record { clean = p .0 }, not-false _ (not-refuseIf (not fuel) 20 0 (p .1)))
 
   -- two dossiers with the same answer, and fuel in force in both or in neither, draw the same
-  pub hour-same : (e : List ℕ) → answer d ≡ answer e → fuelled (parametersAt d h) h ≡ fuelled (parametersAt e h) h → hourAnswer d h ≡ hourAnswer e h
-  unfolding hourAnswer
-  hour-same e q f = rw (q, f) refl
+  pub hour-same : (e : List ℕ) → answer d ≡ answer e → fuel ≡ fuelled (parametersAt e q) (q .hour) → queryAnswer d q ≡ queryAnswer e q
+  unfolding queryAnswer
+  hour-same e a f = rw (a, f) refl
 
   -- ---- the levels
 
-  pub levels-fuelled : fuelled (parametersAt d h) h ≡ true → levels d h ≡ lines (parametersAt d h) (amountsAt d h) h
+  pub levels-fuelled : fuel ≡ true → levels d q ≡ lines (parametersAt d q) (amountsAt d q) (q .hour)
   unfolding levels
   levels-fuelled e = rw e refl
 
-  pub levels-without : fuelled (parametersAt d h) h ≡ false → levels d h ≡ []
+  pub levels-without : fuel ≡ false → levels d q ≡ []
   unfolding levels
   levels-without e = rw e refl
 
@@ -90,16 +105,18 @@ module _ (s : Parameters) (h : ℕ) (e : fuelHolds s ≡ true) where
   unfolding fuelled profile
   holds-fuelled = profileOf-fuelled 16 (omega arith)
 
--- ---- the charging cost and the price of the forecast, whatever has come by an hour
+-- ---- the charging cost and the price of the forecast, whatever a query sees
 
-pub charging-always : (l : List (List ℕ)) (h : ℕ) → chargingCost (parameters (inForce h l)) (amounts (inForce h l)) ≡ chargingCost (parameters l) (amounts l)
+pub charging-always : (l : List (List ℕ)) (q : Query)
+    → chargingCost (parameters (inForce q l)) (amounts (inForce q l)) ≡ chargingCost (parameters l) (amounts l)
 unfolding chargingCost chargingSum totalEnergy datable among table
-charging-always l h =
-    λ j. cond (eqb (sumTo 2016 (λ n. says-always h CH refl l n 2 j)) 0) (whole (of-always h LC refl l 0 0 j))
-    (share ((sumTo 2016 (λ n. of-always h CH refl l n 1 j * says-always h CH refl l n 2 j) - 2147483648 * sumTo 2016
-    (λ n. says-always h CH refl l n 2 j)) * 10000) (sumTo 2016 (λ n. says-always h CH refl l n 2 j)))
+charging-always l q =
+    λ j. cond (eqb (sumTo 2016 (λ n. says-always q CH refl l n 2 j)) 0) (whole (of-always q LC refl l 0 0 j))
+    (share ((sumTo 2016 (λ n. of-always q CH refl l n 1 j * says-always q CH refl l n 2 j) - 2147483648 * sumTo 2016
+    (λ n. says-always q CH refl l n 2 j)) * 10000) (sumTo 2016 (λ n. says-always q CH refl l n 2 j)))
 
-pub forecast-always : (l : List (List ℕ)) (h : ℕ) → forecastPrice (parameters (inForce h l)) (amounts (inForce h l)) ≡ forecastPrice (parameters l) (amounts l)
+pub forecast-always : (l : List (List ℕ)) (q : Query)
+    → forecastPrice (parameters (inForce q l)) (amounts (inForce q l)) ≡ forecastPrice (parameters l) (amounts l)
 unfolding forecastPrice forecastPlace datable among table
-forecast-always l h =
-    λ j. fromTop (says-always h RS refl l 0 8 j / 50) (listTo (says-always h RS refl l 0 8 j) (λ n. of-always h FP refl l n 1 j)) - 2147483648
+forecast-always l q =
+    λ j. fromTop (says-always q RS refl l 0 8 j / 50) (listTo (says-always q RS refl l 0 8 j) (λ n. of-always q FP refl l n 1 j)) - 2147483648

@@ -9,13 +9,14 @@ use lib.Dec.{eqb, lit≤}
 use borrow.Author.Tests.{eqb-true}
 use Rattle.lists.specs.Lists.{Pairwise, none, more, Each, done, also}
 use Rattle.lists.proofs.Tests.{cond-holds, cond-relates}
-use Rattle.records.specs.Table.{FU, AD, MM, HR, CH, FP, LC}
+use Rattle.records.specs.Table.{FU, AD, MM, HR, CH, FP, LC, AO}
 use Rattle.station.specs.Parameters.{Parameters, Amounts, Higher, technology, efficiency, window, chargeEnergy, chargePrice, lastCost}
-use Rattle.station.specs.Parameters.{adderKey, adder, itemKey}
+use Rattle.station.specs.Parameters.{adderKey, itemKey, ownKey}
 use Rattle.rules.specs.Curve.{fullHours}
 use Rattle.lists.specs.Sums.{sumTo}
 use Rattle.formulas.specs.Exact.{Sum, whole, share}
-use Rattle.formulas.specs.Levels.{profile, thirdParty, adders, maintenance, additions, startMaintenance, thermalEnergy, heatCost, startCost, noLoadCost}
+use Rattle.formulas.specs.Levels.{profile, thirdParty, commonAndOwn, adders, maintenance, additions, startMaintenance, thermalEnergy, heatCost}
+use Rattle.formulas.specs.Levels.{startCost, noLoadCost}
 use Rattle.formulas.specs.Levels.{nuclearEnergy, totalEnergy, chargingSum, chargingCost, shortRunCost, highestSum, opportunityCost, storageEnergy}
 use Rattle.formulas.specs.Levels.{forecastPlace, forecastPrice, hydroEnergy, Line, line, amount, NoLower, CloseLine, laminations, oneLamination, single}
 use Rattle.formulas.specs.Levels.{linesOf, lines}
@@ -30,7 +31,12 @@ module _ (s : Parameters) {m n : Amounts} (h : Higher m n) (p : ℕ) where
   adders-below : (v : ℕ) → Below (adders m p v) (adders n p v)
   unfolding adders
   adders-below v =
-      wholes (sumTo-mono 5 (λ c. cond-relates _≤_ (eqb c thirdParty) 0 (adder m p c v) 0 (adder n p c v) (omega arith) (h AD (adderKey p c v) 3)))
+      wholes (sumTo-mono 5 (λ c. cond-relates _≤_ (eqb c thirdParty) 0 (commonAndOwn m p c v) 0 (commonAndOwn n p c v) (omega arith) (omega (
+        arith,
+        h AD (adderKey p c v) 3,
+        h AO (ownKey 1 p c v) 4,
+        h AO (ownKey 2 p c v) 4,
+      ))))
 
   maintenance-below : Below (maintenance s m p) (maintenance s n p)
   unfolding maintenance

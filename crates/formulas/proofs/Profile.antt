@@ -8,7 +8,7 @@ use native.Mathlib.Decide.{ℕ-discrete}
 use native.Mathlib.Omega.{arith}
 use Rattle.lists.specs.Tests.{among}
 use Rattle.records.specs.Table.{table, RQ}
-use Rattle.station.specs.InForce.{inForce}
+use Rattle.station.specs.InForce.{Query, inForce}
 use Rattle.station.specs.Parameters.{Parameters, parameters, requested}
 use Rattle.station.proofs.Parameters.{has-always, says-always}
 use Rattle.formulas.specs.Levels.{covers, profileOf, profile}
@@ -33,18 +33,18 @@ module _ (s : Parameters) (h : ℕ) where
   unfolding profile profileOf
   profile-none none = past 0 16 (omega arith) (λ m a b. none m (omega arith) b)
 
--- ---- the profile at an hour, whatever has come by then
+-- ---- the profile at an hour, whatever a query sees
 
-module _ (l : List (List ℕ)) (h : ℕ) where
-  covers-always : (n : ℕ) → covers (parameters (inForce h l)) h n ≡ covers (parameters l) h n
+module _ (l : List (List ℕ)) (q : Query) where
+  covers-always : (n : ℕ) → covers (parameters (inForce q l)) (q .hour) n ≡ covers (parameters l) (q .hour) n
   unfolding covers datable among table
-  covers-always n = rw (has-always h RQ refl l n, says-always h RQ refl l n 3, says-always h RQ refl l n 1, says-always h RQ refl l n 2) refl
+  covers-always n = rw (has-always q RQ refl l n, says-always q RQ refl l n 3, says-always q RQ refl l n 1, says-always q RQ refl l n 2) refl
 
-  of-always : (n : ℕ) → profileOf (parameters (inForce h l)) h n ≡ profileOf (parameters l) h n
+  of-always : (n : ℕ) → profileOf (parameters (inForce q l)) (q .hour) n ≡ profileOf (parameters l) (q .hour) n
   unfolding profileOf datable among table
   of-always zero = refl
-  of-always (suc n) = rw (covers-always (suc n), says-always h RQ refl l (suc n) 3, of-always n) refl
+  of-always (suc n) = rw (covers-always (suc n), says-always q RQ refl l (suc n) 3, of-always n) refl
 
-  pub profile-always : profile (parameters (inForce h l)) h ≡ profile (parameters l) h
+  pub profile-always : profile (parameters (inForce q l)) (q .hour) ≡ profile (parameters l) (q .hour)
   unfolding profile
   profile-always = of-always 16

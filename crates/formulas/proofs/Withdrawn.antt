@@ -1,29 +1,30 @@
 -- Third-party payments withdrawn: the levels take no amount of cost 4, so amounts that are the same without them give the same levels.
 use mathlib.Core.Path.{_≡_, refl, ap, sym, _∙_}
-use mathlib.Core.Bool.{Bool, true, false, cond, _&&_}
+use mathlib.Core.Bool.{Bool, true, false, cond, _&&_, _||_}
 use mathlib.Core.List.{List, _∷_}
-use Prim.Native.Nat.{ℕ, zero, suc, _+_, _-_, _*_, _/_, _%_, _<_}
+use Prim.Native.Nat.{ℕ, zero, suc, _+_, _-_, _/_, _%_, _<_}
 use native.Mathlib.Omega.{arith}
 use lib.Dec.{eqb}
 use Rattle.lists.specs.Sums.{sumTo}
-use Rattle.records.specs.Table.{AD}
-use Rattle.station.specs.Parameters.{Parameters, Amounts, adderKey, adder}
+use Rattle.records.specs.Table.{AD, AO}
+use Rattle.station.specs.Parameters.{Parameters, Amounts, adderKey, ownKey}
 use Rattle.rules.specs.Curve.{points}
 use Rattle.rules.specs.Fit.{energy, start, noLoad, reserve}
 use Rattle.formulas.specs.Levels.{profile, thirdParty, adders, maintenance, additions, startMaintenance, thermalEnergy, heatCost, startCost}
 use Rattle.formulas.specs.Levels.{noLoadCost, nuclearEnergy, chargingSum, chargingCost, shortRunCost, highestSum, opportunityCost, storageEnergy}
 use Rattle.formulas.specs.Levels.{forecastPrice, hydroEnergy, Line, lamination, laminations, linesOf, lines}
 
--- the cost in an AD's key
+-- the cost in the key of an AD or an AO
 abbrev pub costIn : ℕ → ℕ
 costIn n = n / 256 % 256
 
 -- the amounts without third-party payments
 pub claimed : Amounts → Amounts
-claimed m = record { of = λ k n i. cond (eqb k AD && eqb (costIn n) thirdParty) 0 (m .of k n i) }
+claimed m = record { of = λ k n i. cond ((eqb k AD || eqb k AO) && eqb (costIn n) thirdParty) 0 (m .of k n i) }
 
 -- amounts are the same without them, if all others are
-pub claimed-same : {m n : Amounts} → ((k i j : ℕ) → eqb k AD && eqb (costIn i) thirdParty ≡ false → m .of k i j ≡ n .of k i j) → claimed m ≡ claimed n
+pub claimed-same : {m n : Amounts} → ((k i j : ℕ) → (eqb k AD || eqb k AO) && eqb (costIn i) thirdParty ≡ false → m .of k i j ≡ n .of k i j)
+    → claimed m ≡ claimed n
 unfolding claimed
 claimed-same {m} {n} same = λ t. record { of = λ k i j. others k i j t }
   where
@@ -32,16 +33,32 @@ claimed-same {m} {n} same = λ t. record { of = λ k i j. others k i j t }
     go false x y f = f refl
 
     others : (k i j : ℕ) → claimed m .of k i j ≡ claimed n .of k i j
-    others k i j = go (eqb k AD && eqb (costIn i) thirdParty) (m .of k i j) (n .of k i j) (same k i j)
+    others k i j = go ((eqb k AD || eqb k AO) && eqb (costIn i) thirdParty) (m .of k i j) (n .of k i j) (same k i j)
 
 pub cost-in : (p c v : ℕ) → c < 256 → v < 256 → costIn (adderKey p c v) ≡ c
 cost-in p c v h g = omega arith
+
+pub own-cost-in : (o p c v : ℕ) → c < 256 → v < 256 → costIn (ownKey o p c v) ≡ c
+own-cost-in o p c v h g = omega arith
 
 module _ (s : Parameters) (m : Amounts) (p : ℕ) where
   adders-claimed : (v : ℕ) → v < 256 → adders m p v ≡ adders (claimed m) p v
   unfolding adders sumTo claimed
   adders-claimed v h =
-      rw (cost-in p 1 v (omega arith) h, cost-in p 2 v (omega arith) h, cost-in p 3 v (omega arith) h, cost-in p 5 v (omega arith) h) refl
+      rw (
+        cost-in p 1 v (omega arith) h,
+        own-cost-in 1 p 1 v (omega arith) h,
+        own-cost-in 2 p 1 v (omega arith) h,
+        cost-in p 2 v (omega arith) h,
+        own-cost-in 1 p 2 v (omega arith) h,
+        own-cost-in 2 p 2 v (omega arith) h,
+        cost-in p 3 v (omega arith) h,
+        own-cost-in 1 p 3 v (omega arith) h,
+        own-cost-in 2 p 3 v (omega arith) h,
+        cost-in p 5 v (omega arith) h,
+        own-cost-in 1 p 5 v (omega arith) h,
+        own-cost-in 2 p 5 v (omega arith) h,
+      ) refl
 
   additions-claimed : additions s m p ≡ additions s (claimed m) p
   unfolding additions maintenance claimed

@@ -4,18 +4,19 @@ use mathlib.Core.Bool.{Bool, cond, _&&_, not}
 use mathlib.Core.List.{List, [], _∷_}
 use Prim.Native.Nat.{ℕ, zero, suc, _+_, _*_, _-_, _/_, _≤_}
 use lib.Dec.{leb, eqb}
-use Rattle.records.specs.Table.{thermal, nuclear, storage, hydro, FU, AD, RQ}
+use Rattle.records.specs.Table.{thermal, nuclear, storage, hydro, FU, AD, RQ, AO}
 use Rattle.records.specs.declared.Answer.{Answer}
 use Rattle.records.specs.Answers.{orElse, refuseIf}
 use Rattle.records.specs.Dossier.{records}
-use Rattle.station.specs.InForce.{inForce}
+use Rattle.station.specs.InForce.{Query, inForce}
 use Rattle.station.specs.Parameters.{Parameters, Amounts, parameters, amounts, technology, capacity, factor, startHeat, noLoadHeat, incrementalFuel}
 use Rattle.station.specs.Parameters.{efficiency, window, output, heat, fuel, emission, adderKey, adder, costC, outputW, intervalT, hoursPerStartS}
-use Rattle.station.specs.Parameters.{firstHour, lastHour, requested, hourPrice, chargePrice, chargeEnergy, placePrice, lastCost}
+use Rattle.station.specs.Parameters.{firstHour, lastHour, requested, hourPrice, chargePrice, chargeEnergy, placePrice, lastCost, ownKey, ownAdder}
 use Rattle.rules.specs.Fit.{energy, start, noLoad, reserve}
 use Rattle.rules.specs.Curve.{points, rise, fullHours}
 use Rattle.rules.specs.Answer.{answer}
 use Rattle.lists.specs.Sums.{sumTo}
+use Rattle.lists.specs.Tests.{between}
 use Rattle.formulas.specs.Sums.{listTo, sumHighest, fromTop}
 use Rattle.formulas.specs.Exact.{Sum, whole, share, _⊕_, total, perThousand, greater, microDollars, exact, cents, Close}
 
@@ -29,13 +30,13 @@ parametersIn d = parameters (records d)
 abbrev pub amountsIn : List ℕ → Amounts
 amountsIn d = amounts (records d)
 
--- those that count at an hour, without money: "At an hour, the highest issue whose first hour has come counts."
-abbrev pub parametersAt : List ℕ → ℕ → Parameters
-parametersAt d h = parameters (inForce h (records d))
+-- those in force for a query, without money: "At an hour, the highest issue whose first hour has come counts."
+abbrev pub parametersAt : List ℕ → Query → Parameters
+parametersAt d q = parameters (inForce q (records d))
 
 -- the money
-abbrev pub amountsAt : List ℕ → ℕ → Amounts
-amountsAt d h = amounts (inForce h (records d))
+abbrev pub amountsAt : List ℕ → Query → Amounts
+amountsAt d q = amounts (inForce q (records d))
 
 -- ---- the profile at an hour
 
@@ -52,15 +53,26 @@ profileOf s h (suc n) = let r = profileOf s h n in cond (covers s h (suc n)) (re
 unfoldable pub profile : Parameters → ℕ → ℕ
 profile s h = profileOf s h 16
 
--- ---- what an hour draws
+-- ---- what a query draws
+
+-- one of the two owners: "an owner byte, 1 or 2"
+abbrev pub IsOwner : ℕ → Type 0
+IsOwner o = (1 ≤ o) × (o ≤ 2)
+
+-- "a query with any other is 3 at place 0": another owner than 1 or 2
+unfoldable pub ownerRefusal : ℕ → Answer
+ownerRefusal o = refuseIf (not (between 1 2 o)) 3 0
 
 -- not "the hour's profile has no fuel in force"
 unfoldable pub fuelled : Parameters → ℕ → Bool
 fuelled s h = s .has FU (profile s h)
 
--- what a dossier draws before it is asked for anything at an hour: its own refusal; or 20, "tried after 17, at place 0"
-unfoldable pub hourAnswer : List ℕ → ℕ → Answer
-hourAnswer d h = orElse (answer d) (refuseIf (not (fuelled (parametersAt d h) h)) 20 0)
+-- what a query draws before anything is asked of its levels: the owner's refusal first; the dossier's own; or 20, "tried after 17, at place 0"
+unfoldable pub queryAnswer : List ℕ → Query → Answer
+queryAnswer d q =
+    orElse (ownerRefusal (q .owner))
+    (orElse (answer d)
+    (refuseIf (not (fuelled (parametersAt d q) (q .hour))) 20 0))
 
 -- ---- the formulas, of a profile p
 
@@ -68,13 +80,21 @@ hourAnswer d h = orElse (answer d) (refuseIf (not (fuelled (parametersAt d h) h)
 abbrev pub thirdParty : ℕ
 thirdParty = 4
 
+-- "that owner's AO to the common amounts": of a cost and level AD's amount and AO's of either owner, of whom the one that is asked for is in force
+abbrev pub commonAndOwn : Amounts → ℕ → ℕ → ℕ → ℕ
+commonAndOwn m p c v = adder m p c v + ownAdder m 1 p c v + ownAdder m 2 p c v
+
 -- "AD amounts join their level": the five costs of level v, third-party payments aside; "The exact level also omits them."
 unfoldable pub adders : Amounts → ℕ → ℕ → Sum
-adders m p v = whole (sumTo 5 (λ c. cond (eqb c thirdParty) 0 (adder m p c v)))
+adders m p v = whole (sumTo 5 (λ c. cond (eqb c thirdParty) 0 (commonAndOwn m p c v)))
 
--- "the cost-4 records in force at that hour for its profile", of which a level has one at most; amounts of 0 count too
+-- 1 where there is a record of a kind and key, else 0
+abbrev pub oneIf : Parameters → ℕ → ℕ → ℕ
+oneIf s k n = cond (s .has k n) 1 0
+
+-- "the cost-4 records in force at that hour for its profile", of which a level has one AD and one AO at most; amounts of 0 count too
 unfoldable pub retired : Parameters → ℕ → ℕ
-retired s p = sumTo 4 (λ v. cond (s .has AD (adderKey p thirdParty v)) 1 0)
+retired s p = sumTo 4 (λ v. oneIf s AD (adderKey p thirdParty v) + oneIf s AO (ownKey 1 p thirdParty v) + oneIf s AO (ownKey 2 p thirdParty v))
 
 -- "Each MM adds C × 100,000 / (W × T) to energy"
 unfoldable pub maintenance : Parameters → Amounts → ℕ → Sum
@@ -204,9 +224,9 @@ linesOf s m p =
 unfoldable pub lines : Parameters → Amounts → ℕ → List Line
 lines s m h = linesOf s m (profile s h)
 
--- the levels of a dossier at an hour; "an hour without fuel in force has no level"
-unfoldable pub levels : List ℕ → ℕ → List Line
-levels d h = cond (fuelled (parametersAt d h) h) (lines (parametersAt d h) (amountsAt d h) h) []
+-- the levels of a dossier for a query; "an hour without fuel in force has no level"
+unfoldable pub levels : List ℕ → Query → List Line
+levels d q = cond (fuelled (parametersAt d q) (q .hour)) (lines (parametersAt d q) (amountsAt d q) (q .hour)) []
 
 -- ---- what a line shows
 

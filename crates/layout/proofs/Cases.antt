@@ -7,10 +7,11 @@ use lib.ListN.{replicate}
 use Rattle.lists.specs.Lists.{joined}
 use Rattle.records.specs.declared.Answer.the-variants.{Accepted, Refused}
 use Rattle.records.specs.Answers.{refuseIf, isAccepted}
-use Rattle.records.specs.Table.{RS, FU, AD, RQ, FV, AV}
+use Rattle.records.specs.Table.{RS, FU, AD, RQ, AO, FV, AV}
 use Rattle.records.specs.Made.{made, madeFrom}
 use Rattle.formulas.specs.Levels.{shownAs}
-use Rattle.layout.specs.Report.{levelLines, shortFor, bufferWith, written, writtenNumbers, reportAnswer, bufferAfter, prints}
+use Rattle.station.specs.InForce.{query}
+use Rattle.layout.specs.Report.{levelLines, shortFor, bufferWith, written, writtenNumbers, reportAnswer, bufferAfter, report, prints}
 use Rattle.layout.proofs.Computed.{computed}
 
 abbrev text : List ℕ
@@ -81,7 +82,8 @@ unfolding computed
 printed = (refl, refl, refl, refl)
 
 -- it fits a buffer of 44 bytes; 15 comes last, after what the dossier draws
-pub answered : (reportAnswer reactor 256 44 ≡ Accepted) × (reportAnswer reactor 256 43 ≡ Refused 15 0) × (reportAnswer [] 256 0 ≡ Refused 5 0)
+pub answered : (reportAnswer reactor (query 256 1) 44 ≡ Accepted) × (reportAnswer reactor (query 256 1) 43 ≡ Refused 15 0)
+    × (reportAnswer [] (query 256 1) 0 ≡ Refused 5 0)
 unfolding computed
 answered = (refl, refl, refl)
 
@@ -109,6 +111,30 @@ pub retired-printed : (prints (0 ∷ 0 ∷ 1 ∷ 0 ∷ paid) ≡ linesWith 1) ×
 unfolding computed
 retired-printed = (refl, refl, refl, refl)
 
+-- the same station, with 0.50 of owner 1 and 0.70 of owner 2 at the same cost, and a third-party payment of owner 2
+abbrev shared : List ℕ
+shared =
+    joined (made RS 1 (2 ∷ 1000 ∷ 1000 ∷ 0 ∷ 0 ∷ 20000 ∷ 0 ∷ 0 ∷ 0 ∷ [])
+    ∷ made FU 1 (1 ∷ 150000000 ∷ 0 ∷ [])
+    ∷ made AO 1 (1 ∷ 1 ∷ 3 ∷ 1 ∷ 500000 ∷ [])
+    ∷ made AO 1 (2 ∷ 1 ∷ 3 ∷ 1 ∷ 700000 ∷ [])
+    ∷ made AO 1 (2 ∷ 1 ∷ 4 ∷ 1 ∷ 900000 ∷ [])
+    ∷ [])
+
+-- "energy 1 0.0 100.0" and cents of some tenths from 3.00 on, and n payments retired
+abbrev sharedLines : ℕ → ℕ → List ℕ
+sharedLines tenth n =
+    112 ∷ 114 ∷ 111 ∷ 102 ∷ 105 ∷ 108 ∷ 101 ∷ 32 ∷ 49 ∷ 10  -- profile 1
+    ∷ 101 ∷ 110 ∷ 101 ∷ 114 ∷ 103 ∷ 121 ∷ 32 ∷ 49 ∷ 32 ∷ 48 ∷ 46 ∷ 48 ∷ 32 ∷ 49 ∷ 48 ∷ 48 ∷ 46 ∷ 48 ∷ 32 ∷ 51 ∷ 46 ∷ (48 + tenth) ∷ 48 ∷ 10  -- energy 1 0.0 100.0 3.t0
+    ∷ 114 ∷ 101 ∷ 116 ∷ 105 ∷ 114 ∷ 101 ∷ 100 ∷ 32 ∷ (48 + n) ∷ 10  -- retired n
+    ∷ []
+
+-- "the program names owner 1"; a report takes its owner's costs alone, into the level and into `retired`
+pub printed-owner : (prints (0 ∷ 0 ∷ 0 ∷ 0 ∷ shared) ≡ sharedLines 5 0) × (report shared (query 0 1) ≡ sharedLines 5 0)
+    × (report shared (query 0 2) ≡ sharedLines 7 1) × (reportAnswer shared (query 0 3) 0 ≡ Refused 3 0)
+unfolding computed
+printed-owner = (refl, refl, refl, refl)
+
 -- the same station with profile 2's fuel from hour 300 on: 20, printed and told, before 15, until then
 abbrev late : List ℕ
 late =
@@ -122,16 +148,19 @@ pub late-printed : (prints (0 ∷ 0 ∷ 1 ∷ 0 ∷ late) ≡ 114 ∷ 101 ∷ 10
 unfolding computed
 late-printed = (refl, refl)
 
-pub late-answered : (reportAnswer late 299 0 ≡ Refused 20 0) × (reportAnswer late 300 43 ≡ Refused 15 0) × (reportAnswer late 300 44 ≡ Accepted)
+pub late-answered : (reportAnswer late (query 299 1) 0 ≡ Refused 20 0) × (reportAnswer late (query 300 1) 43 ≡ Refused 15 0)
+    × (reportAnswer late (query 300 1) 44 ≡ Accepted)
 unfolding computed
 late-answered = (refl, refl, refl)
 
-pub late-buffered : (bufferAfter late 299 (replicate 46 7) ≡ replicate 46 7) × (bufferAfter late 300 (replicate 46 7) ≡ lines ++ (7 ∷ 7 ∷ []))
+pub late-buffered : (bufferAfter late (query 299 1) (replicate 46 7) ≡ replicate 46 7)
+    × (bufferAfter late (query 300 1) (replicate 46 7) ≡ lines ++ (7 ∷ 7 ∷ []))
 unfolding computed
 late-buffered = (refl, refl)
 
 -- of 46 bytes two stay, and of 43 all
-pub buffered : (bufferAfter reactor 256 (replicate 46 7) ≡ lines ++ (7 ∷ 7 ∷ [])) × (bufferAfter reactor 256 (replicate 43 7) ≡ replicate 43 7)
-    × (bufferAfter [] 256 (7 ∷ []) ≡ 7 ∷ [])
+pub buffered : (bufferAfter reactor (query 256 1) (replicate 46 7) ≡ lines ++ (7 ∷ 7 ∷ []))
+    × (bufferAfter reactor (query 256 1) (replicate 43 7) ≡ replicate 43 7)
+    × (bufferAfter [] (query 256 1) (7 ∷ []) ≡ 7 ∷ [])
 unfolding computed
 buffered = (refl, refl, refl)

@@ -8,8 +8,9 @@ use Rattle.fields.specs.Numbers.{number}
 use Rattle.records.specs.declared.Answer.{Answer}
 use Rattle.records.specs.declared.Answer.the-variants.{Accepted, Refused as Turned}
 use Rattle.records.specs.Answers.{orElse, refuseIf, isAccepted}
+use Rattle.station.specs.InForce.{Query, query}
 use Rattle.rules.specs.Fit.{energy, start, noLoad}
-use Rattle.formulas.specs.Levels.{parametersAt, profile, hourAnswer, levels, Shown, shown, retired}
+use Rattle.formulas.specs.Levels.{parametersAt, profile, queryAnswer, levels, Shown, shown, retired}
 use Rattle.layout.specs.declared.Written.{Written}
 use Rattle.layout.specs.declared.Written.the-variants.{Bytes, Refused}
 use Rattle.text.specs.Text.{decimal, tenths, hundredths, refusalLine, profileWord, energyWord, startWord, noLoadWord, reserveWord, retiredWord}
@@ -54,9 +55,9 @@ retiredLine n = numberLine retiredWord n
 unfoldable pub reportText : ℕ → List Shown → ℕ → List ℕ
 reportText p l n = profileLine p ++ levelLines l ++ retiredLine n
 
--- the report of a dossier at an hour, "a text report"
-unfoldable pub report : List ℕ → ℕ → List ℕ
-report d h = let s = parametersAt d h in reportText (profile s h) (map shown (levels d h)) (retired s (profile s h))
+-- the report of a dossier for a query, "a text report"
+unfoldable pub report : List ℕ → Query → List ℕ
+report d q = let s = parametersAt d q in reportText (profile s (q .hour)) (map shown (levels d q)) (retired s (profile s (q .hour)))
 
 -- ---- written to a lent buffer
 
@@ -83,12 +84,12 @@ writtenNumbers (Bytes n) = 0 ∷ n ∷ []
 writtenNumbers (Refused k p) = 2 ∷ k ∷ p ∷ []
 
 -- the answer to a report into a buffer of n bytes: "10, 11, 15"
-unfoldable pub reportAnswer : List ℕ → ℕ → ℕ → Answer
-reportAnswer d h n = orElse (hourAnswer d h) (shortFor (report d h) n)
+unfoldable pub reportAnswer : List ℕ → Query → ℕ → Answer
+reportAnswer d q n = orElse (queryAnswer d q) (shortFor (report d q) n)
 
 -- the buffer after it: "so does the report buffer to its last byte"
-unfoldable pub bufferAfter : List ℕ → ℕ → List ℕ → List ℕ
-bufferAfter d h buf = bufferWith (reportAnswer d h (length buf)) (report d h) buf
+unfoldable pub bufferAfter : List ℕ → Query → List ℕ → List ℕ
+bufferAfter d q buf = bufferWith (reportAnswer d q (length buf)) (report d q) buf
 
 -- ---- the program
 
@@ -97,6 +98,10 @@ unfoldable pub printed : Answer → List ℕ → List ℕ
 printed Accepted text = text
 printed (Turned n p) text = refusalLine n p
 
--- what `levels` prints for its standard input, "a big-endian 4-byte hour, then the dossier"; "16 under four bytes of input" comes first
+-- what its standard input asks for, "a big-endian 4-byte hour, then the dossier"; "the program names owner 1"
+abbrev pub programQuery : List ℕ → Query
+programQuery i = query (number 0 4 i) 1
+
+-- what `levels` prints for its standard input; "16 under four bytes of input" comes first
 unfoldable pub prints : List ℕ → List ℕ
-prints i = printed (orElse (refuseIf (ltb (length i) 4) 16 0) (hourAnswer (drop 4 i) (number 0 4 i))) (report (drop 4 i) (number 0 4 i))
+prints i = printed (orElse (refuseIf (ltb (length i) 4) 16 0) (queryAnswer (drop 4 i) (programQuery i))) (report (drop 4 i) (programQuery i))

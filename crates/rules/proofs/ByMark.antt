@@ -11,7 +11,7 @@ use Rattle.lists.specs.Tests.{allBelow, among, between}
 use Rattle.lists.proofs.Tests.{and-true, split, between-high}
 use Rattle.fields.specs.Numbers.{number}
 use Rattle.fields.proofs.Numbers.{number-drop}
-use Rattle.records.specs.Table.{table, rowOf, fieldOf, RS, HP, FU, AD, MM, RQ, HR, CH, TH, FP, LC, FV, AV, MV, marks}
+use Rattle.records.specs.Table.{table, rowOf, fieldOf, RS, HP, FU, AD, MM, RQ, HR, CH, TH, FP, LC, AO, FV, AV, MV, marks}
 use Rattle.records.specs.MarkShapes.{body}
 use Rattle.records.specs.Record.{mark, isDated, kindOf, kind, fieldsAt, offsetIn, offset, read, value, inRange, rangesHold}
 use Rattle.records.proofs.Record.{field-in}
@@ -98,6 +98,12 @@ module _ (t : ℕ) (s : List ℕ) (known : Known t) where
       by-technology (λ t. holds t (number 8 1 s) && (not (eqb (number 7 1 s) 5) || (eqb t 2 && eqb (number 8 1 s) 1)) ≡ fits t AD s)
       refl refl refl refl t known
 
+  pub fits-ao : holds t (number 9 1 s) && (not (eqb (number 8 1 s) 5) || (eqb t 2 && eqb (number 9 1 s) 1)) ≡ fits t AO s
+  unfolding fits ruleFits kindOf isDated fieldFits allBelow among value read offset fieldsAt offsetIn fieldOf rowOf table
+  fits-ao =
+      by-technology (λ t. holds t (number 9 1 s) && (not (eqb (number 8 1 s) 5) || (eqb t 2 && eqb (number 9 1 s) 1)) ≡ fits t AO s)
+      refl refl refl refl t known
+
   pub fits-mm : eqb t 1 || eqb (number 22 2 s) 0 ≡ fits t MM s
   unfolding fits ruleFits kindOf isDated fieldFits allBelow among value read offset fieldsAt offsetIn fieldOf rowOf table
   fits-mm = by-technology (λ t. eqb t 1 || eqb (number 22 2 s) 0 ≡ fits t MM s) refl (sym (and-true _)) (sym (and-true _)) (sym (and-true _)) t known
@@ -154,7 +160,7 @@ fits-rest t k r z l =
     by-mark (λ k. isDated k ≡ true → fits t k r ≡ fits t (kindOf k) (drop 4 r))
     (λ e. absurd (false≢true e)) (λ e. absurd (false≢true e)) (λ e. absurd (false≢true e)) (λ e. absurd (false≢true e)) (λ e. absurd (false≢true e))
     (λ e. absurd (false≢true e)) (λ e. absurd (false≢true e)) (λ e. absurd (false≢true e)) (λ e. absurd (false≢true e)) (λ e. absurd (false≢true e))
-    (λ e. absurd (false≢true e))
+    (λ e. absurd (false≢true e)) (λ e. absurd (false≢true e))
     (λ e. rw (number-drop 4 6 1 r, number-drop 4 7 4 r, number-drop 4 11 4 r) refl)
     (λ e. rw (number-drop 4 6 1 r, number-drop 4 7 1 r, number-drop 4 8 1 r, number-drop 4 9 8 r) refl)
     (λ e. rw (number-drop 4 6 1 r, number-drop 4 7 1 r, number-drop 4 8 8 r, number-drop 4 16 2 r, number-drop 4 18 4 r, number-drop 4 22 2 r) refl)
@@ -205,6 +211,16 @@ module _ (t : ℕ) (s : List ℕ) (known : Known t) where
       let c : number 10 3 s / 256 % 256 ≡ number 11 1 s = omega (arith, high, low) in
       let v : number 10 3 s % 256 ≡ number 12 1 s = omega (arith, low) in
       sym (fits-av t s known) ∙ rw (← c, ← v) (adder-held t (number 10 3 s) e f)
+
+  -- and AO, with an owner first in its key
+  pub held-ao : rangesHold AO s ≡ true → holds t (number 6 4 s % 256) ≡ true → (number 6 4 s / 256 % 256 ≡ 5 → t ≡ 2) → fits t AO s ≡ true
+  unfolding inRange value read offset fieldsAt offsetIn fieldOf rowOf table number
+  held-ao h e f =
+      let high = between-high 1 5 (number 8 1 s) (field-in AO 2 s h (lit< tt)) in
+      let low = between-high 1 4 (number 9 1 s) (field-in AO 3 s h (lit< tt)) in
+      let c : number 6 4 s / 256 % 256 ≡ number 8 1 s = omega (arith, high, low) in
+      let v : number 6 4 s % 256 ≡ number 9 1 s = omega (arith, low) in
+      sym (fits-ao t s known) ∙ rw (← c, ← v) (adder-held t (number 6 4 s) e f)
 
   -- TH fits if its level is held
   pub held-th : rangesHold TH s ≡ true → holds t (number 6 2 s % 256) ≡ true → fits t TH s ≡ true

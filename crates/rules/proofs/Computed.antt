@@ -14,7 +14,7 @@ use Rattle.records.specs.Record.{agrees, rangesHold, fault}
 use Rattle.records.specs.MarkShapes.{shape, shapes, shapeOf, keyField, keyFits, keyTest, body}
 use Rattle.records.specs.Table.{table, rowOf, fieldOf}
 use Rattle.station.specs.Current.{matches, better, currentFrom, current, startFrom, startOf, present, twin, anyTwin, twins, readable, lookup, lookupBytes}
-use Rattle.station.specs.InForce.{inForce, countsAt, counts}
+use Rattle.station.specs.InForce.{come, countsAt, counts, speaksTo, inForce}
 use Rattle.station.specs.Parameters.{parameters, amounts}
 use Rattle.station.specs.Week.{weekPrice, weekEnergy, weekPrices, weekEnergies}
 use Rattle.rules.specs.Answer.{unsupported, recordsAnswer, answer}
@@ -24,5 +24,5 @@ use Rattle.rules.specs.Week.{weekAnswer, pricesAfter, energiesAfter}
 
 -- how many definitions there are to open
 unfoldable pub computed : ℕ
-unfolding joined those upTo allBelow allTo countTo every everyOf among between number bytesOnto bytesOf signed biased biasedOf unbiased orElse refuseIf drawn isAccepted answerNumbers numberOf placeOf valuesIn made madeFrom pair firstOf restOf recordsIn records moneyAtIn moneyAt firstDrawn scan limitOf markIn mark issue isDated kindOf kind since fieldsAt told widths size offsetIn offset keyIn keyWidth keyOf moneyIn moneyByte read value inRange agrees rangesHold fault shape shapes shapeOf keyField keyFits keyTest body table rowOf fieldOf matches better currentFrom current startFrom startOf present twin anyTwin twins readable lookup lookupBytes inForce countsAt counts parameters amounts weekPrice weekEnergy weekPrices weekEnergies unsupported recordsAnswer answer points rise curveHolds curveFits fuelHolds fullHours hoursHold windowFits placesHold forecastFits levelsOf holds fieldFits ruleFits fits unfit weekAnswer pricesAfter energiesAfter
-computed = 115
+unfolding joined those upTo allBelow allTo countTo every everyOf among between number bytesOnto bytesOf signed biased biasedOf unbiased orElse refuseIf drawn isAccepted answerNumbers numberOf placeOf valuesIn made madeFrom pair firstOf restOf recordsIn records moneyAtIn moneyAt firstDrawn scan limitOf markIn mark issue isDated kindOf kind since fieldsAt told widths size offsetIn offset keyIn keyWidth keyOf moneyIn moneyByte read value inRange agrees rangesHold fault shape shapes shapeOf keyField keyFits keyTest body table rowOf fieldOf matches better currentFrom current startFrom startOf present twin anyTwin twins readable lookup lookupBytes come countsAt counts speaksTo inForce parameters amounts weekPrice weekEnergy weekPrices weekEnergies unsupported recordsAnswer answer points rise curveHolds curveFits fuelHolds fullHours hoursHold windowFits placesHold forecastFits levelsOf holds fieldFits ruleFits fits unfit weekAnswer pricesAfter energiesAfter
+computed = 117

@@ -9,12 +9,12 @@ use lib.ListN.{length}
 use borrow.Author.Tests.{eqb-true, eq-eqb, ltb-true, lt-ltb}
 use Rattle.lists.specs.Tests.{allBelow, among}
 use Rattle.lists.proofs.Tests.{split, and-left, and-right, and-both, below-at, at-below}
-use Rattle.records.specs.Table.{Field, table, rowOf, fieldOf, AD, TH}
+use Rattle.records.specs.Table.{Field, table, rowOf, fieldOf, AD, TH, AO}
 use Rattle.records.specs.Record.{mark, kindOf, isMoney, value}
 use Rattle.records.specs.Raise.{Rise, stays, rises, limitOf, Raised}
 use Rattle.records.proofs.Dated.{kind-field}
 use Rattle.records.proofs.Raise.{raised-same}
-use Rattle.rules.specs.Fit.{holds, fieldFits, ruleFits, fits}
+use Rattle.rules.specs.Fit.{holds, fieldFits, adderFits, ruleFits, fits}
 
 rise-fits : (t : ℕ) (f : Field) {a b : ℕ} → Rise (limitOf t f) a b → fieldFits t f a ≡ true → fieldFits t f b ≡ true
 unfolding fieldFits limitOf
@@ -38,20 +38,25 @@ module _ {t : ℕ} {r s : List ℕ} (q : Raised t r s) where
 
   rule-stays : ruleFits t (mark r) r ≡ true → ruleFits t (mark r) s ≡ true
   unfolding ruleFits
-  rule-stays = go (eqb (kindOf (mark r)) AD) refl (eqb (mark r) TH) refl
+  rule-stays = go (eqb (kindOf (mark r)) AD) refl (eqb (mark r) AO) refl (eqb (mark r) TH) refl
     where
       -- an adder's cost and level, and a threshold's level, are no money
       adders : (j : ℕ) → eqb (kindOf (mark r)) AD ≡ true → isMoney (fieldOf AD j .role) ≡ false → value (mark r) j r ≡ value (mark r) j s
       adders j e m = raised-same q j (rw (kind-field (mark r) AD j (eqb-true (kindOf (mark r)) AD e)) m)
 
-      go : (a : Bool) → eqb (kindOf (mark r)) AD ≡ a → (b : Bool) → eqb (mark r) TH ≡ b
-          → cond a (holds t (value (mark r) 2 r) && (not (eqb (value (mark r) 1 r) 5) || (eqb t 2 && eqb (value (mark r) 2 r) 1)))
-          (cond b (holds t (value TH 1 r)) true) ≡ true
-          → cond a (holds t (value (mark r) 2 s) && (not (eqb (value (mark r) 1 s) 5) || (eqb t 2 && eqb (value (mark r) 2 s) 1)))
-          (cond b (holds t (value TH 1 s)) true) ≡ true
-      go true e b f h = rw (← adders 1 e (unfold fieldOf rowOf table in refl), ← adders 2 e (unfold fieldOf rowOf table in refl)) h
-      go false e true f h = rw (← same-at TH 1 (eqb-true (mark r) TH f) (unfold fieldOf rowOf table in refl)) h
-      go false e false f h = refl
+      -- so are those of an owner's adder
+      own : (j : ℕ) → eqb (mark r) AO ≡ true → isMoney (fieldOf AO j .role) ≡ false → value AO j r ≡ value AO j s
+      own j e m = same-at AO j (eqb-true (mark r) AO e) m
+
+      go : (a : Bool) → eqb (kindOf (mark r)) AD ≡ a → (c : Bool) → eqb (mark r) AO ≡ c → (b : Bool) → eqb (mark r) TH ≡ b
+          → cond a (adderFits t (value (mark r) 1 r) (value (mark r) 2 r)) (cond c (adderFits t (value AO 2 r) (value AO 3 r))
+          (cond b (holds t (value TH 1 r)) true)) ≡ true
+          → cond a (adderFits t (value (mark r) 1 s) (value (mark r) 2 s)) (cond c (adderFits t (value AO 2 s) (value AO 3 s))
+          (cond b (holds t (value TH 1 s)) true)) ≡ true
+      go true e c w b f h = rw (← adders 1 e (unfold fieldOf rowOf table in refl), ← adders 2 e (unfold fieldOf rowOf table in refl)) h
+      go false e true w b f h = rw (← own 2 w (unfold fieldOf rowOf table in refl), ← own 3 w (unfold fieldOf rowOf table in refl)) h
+      go false e false w true f h = rw (← same-at TH 1 (eqb-true (mark r) TH f) (unfold fieldOf rowOf table in refl)) h
+      go false e false w false f h = refl
 
   pub fits-stays : fits t (mark r) r ≡ true → fits t (mark r) s ≡ true
   unfolding fits

@@ -6,7 +6,7 @@ use lib.Dec.{ltb, eqb}
 use lib.ListN.{length}
 use Rattle.lists.specs.Tests.{allBelow, among}
 use Rattle.records.specs.declared.Answer.{Answer}
-use Rattle.records.specs.Table.{Field, rowOf, fieldOf, thermal, nuclear, storage, hydro, AD, TH}
+use Rattle.records.specs.Table.{Field, rowOf, fieldOf, thermal, nuclear, storage, hydro, AD, TH, AO}
 use Rattle.records.specs.Record.{mark, kindOf, value}
 use Rattle.records.specs.Answers.{refuseIf}
 use Rattle.records.specs.Dossier.{firstDrawn}
@@ -53,11 +53,17 @@ holds t v = among v (levelsOf t)
 unfoldable pub fieldFits : ℕ → Field → ℕ → Bool
 fieldFits t f x = cond (among t (f .usedBy)) (not (f .positive) || ltb 0 x) (eqb x 0)
 
--- the level is held: "storage 1 and 4, for AD and TH alike", "levels 1 and 4 are held, for AD and TH alike"; "Cost 5 is nuclear and level 1"; of AV as of AD
+-- an adder of a cost and level: its level is held; "Cost 5 is nuclear and level 1"
+abbrev pub adderFits : ℕ → ℕ → ℕ → Bool
+adderFits t c v = holds t v && (not (eqb c 5) || (eqb t nuclear && eqb v energy))
+
+-- the level is held: "storage 1 and 4, for AD and TH alike", "levels 1 and 4 are held, for AD and TH alike"; of AV as of AD, and "AO, 18 bytes, is AD with an
+-- owner byte", whoever the owner
 unfoldable pub ruleFits : ℕ → ℕ → List ℕ → Bool
 ruleFits t k r =
-    cond (eqb (kindOf k) AD) (holds t (value k 2 r) && (not (eqb (value k 1 r) 5) || (eqb t nuclear && eqb (value k 2 r) energy)))
-    (cond (eqb k TH) (holds t (value TH 1 r)) true)
+    cond (eqb (kindOf k) AD) (adderFits t (value k 1 r) (value k 2 r))
+    (cond (eqb k AO) (adderFits t (value AO 2 r) (value AO 3 r))
+    (cond (eqb k TH) (holds t (value TH 1 r)) true))
 
 -- a record of mark k fits technology t: "HP is thermal only; HR and CH storage only"; "an FP at another technology is 6"; "LC is a storage record"; its
 -- fields and its level

@@ -9,7 +9,7 @@ use Rattle.fields.specs.Numbers.{number}
 use Rattle.records.specs.Table.{FU, LC, table, rowOf}
 use Rattle.records.specs.Record.{markIn, mark, isDated, kindOf, kind, since, fieldsAt, issue, keyIn, keyWidth, keyOf}
 use Rattle.station.specs.Current.{matches, better, currentFrom, current, twin}
-use Rattle.station.specs.InForce.{inForce, countsAt, counts}
+use Rattle.station.specs.InForce.{come, countsAt, counts}
 
 -- FU of profile 1 with fuel 4.00 dollars, issue 1
 older : List ℕ
@@ -62,16 +62,16 @@ earlier : List ℕ
 earlier = 70 ∷ 86 ∷ 0 ∷ 0 ∷ 0 ∷ 3 ∷ 0 ∷ 0 ∷ 0 ∷ 100 ∷ 1 ∷ 0 ∷ 76 ∷ 75 ∷ 64 ∷ 0 ∷ 0 ∷ 0 ∷ 0 ∷ []
 
 -- of FU and the later one, FU counts until hour 199, and each counts at some hour
-not-yet : (current FU 1 (inForce 199 (older ∷ later ∷ [])) ≡ older) × (current FU 1 (inForce 200 (older ∷ later ∷ [])) ≡ later) × (map (counts (older ∷
+not-yet : (current FU 1 (come 199 (older ∷ later ∷ [])) ≡ older) × (current FU 1 (come 200 (older ∷ later ∷ [])) ≡ later) × (map (counts (older ∷
     later ∷ [])) (older ∷ later ∷ []) ≡ true ∷ true ∷ [])
-unfolding counts countsAt inForce those since current currentFrom better matches kind kindOf isDated mark markIn table rowOf issue keyOf fieldsAt keyWidth
+unfolding counts countsAt come those since current currentFrom better matches kind kindOf isDated mark markIn table rowOf issue keyOf fieldsAt keyWidth
     keyIn number older later
 not-yet = (refl, refl, refl)
 
 -- with the earlier one, of a higher issue, the later one counts at no hour
-never : (current FU 1 (inForce 200 (earlier ∷ older ∷ later ∷ [])) ≡ earlier) × (map (counts (earlier ∷ older ∷ later ∷ [])) (earlier ∷ older ∷ later ∷ [])
+never : (current FU 1 (come 200 (earlier ∷ older ∷ later ∷ [])) ≡ earlier) × (map (counts (earlier ∷ older ∷ later ∷ [])) (earlier ∷ older ∷ later ∷ [])
     ≡ true ∷ true ∷ false ∷ [])
-unfolding counts countsAt inForce those since current currentFrom better matches kind kindOf isDated mark markIn table rowOf issue keyOf fieldsAt keyWidth
+unfolding counts countsAt come those since current currentFrom better matches kind kindOf isDated mark markIn table rowOf issue keyOf fieldsAt keyWidth
     keyIn number older later earlier
 never = (refl, refl)
 

@@ -4,7 +4,7 @@ use mathlib.Core.Bool.{false}
 use mathlib.Core.List.{List}
 use Prim.Native.Nat.{ℕ}
 use Rattle.fields.specs.Numbers.{number, biased}
-use Rattle.records.specs.Table.{table, rowOf, fieldOf, RS, HP, FU, AD, MM, RQ, HR, CH, TH, FP, LC}
+use Rattle.records.specs.Table.{table, rowOf, fieldOf, RS, HP, FU, AD, MM, RQ, HR, CH, TH, FP, LC, AO}
 use Rattle.records.specs.Record.{datable, fieldsAt, offsetIn, offset, read, value, told}
 use Rattle.records.specs.MarkShapes.{body}
 use Rattle.records.proofs.Dated.{told-value, told-nil, told-body, body-nil, other-mark}
@@ -15,7 +15,7 @@ use Rattle.station.proofs.Current.{current-found}
 use Rattle.station.specs.Parameters.{parameters, amounts, adderKey, itemKey, thresholdKey, technology, capacity, factor, startHeat}
 use Rattle.station.specs.Parameters.{noLoadHeat, incrementalFuel, charge, efficiency, window, output, heat, fuel, emission, adder, costC}
 use Rattle.station.specs.Parameters.{outputW, intervalT, hoursPerStartS, firstHour, lastHour, requested, hourPrice, chargePrice, chargeEnergy}
-use Rattle.station.specs.Parameters.{percent, margin, floor, placePrice, lastCost}
+use Rattle.station.specs.Parameters.{percent, margin, floor, placePrice, lastCost, ownKey, ownAdder}
 
 -- what the current record of a kind tells, read in its body
 body-of : (k n i : ℕ) (l : List (List ℕ)) → told k i (current k n l) ≡ value k i (body (current k n l))
@@ -149,3 +149,7 @@ module _ (l : List (List ℕ)) where
   pub lastCost-at : lastCost (amounts l) ≡ number 6 4 (current LC 0 l)
   unfolding datable among amounts value read offset fieldsAt offsetIn fieldOf rowOf table
   lastCost-at = plain-of LC 0 0 l refl
+
+  pub ownAdder-at : (o p c v : ℕ) → ownAdder (amounts l) o p c v ≡ number 10 8 (current AO (ownKey o p c v) l)
+  unfolding datable among amounts value read offset fieldsAt offsetIn fieldOf rowOf table
+  ownAdder-at o p c v = plain-of AO (ownKey o p c v) 4 l refl

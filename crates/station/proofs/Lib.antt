@@ -2,6 +2,7 @@ pub mod Cases
 pub mod Current
 pub mod Twins
 pub mod InForce
+pub mod Owners
 pub mod Undated
 pub mod Parameters
 pub mod Fields

@@ -1,5 +1,4 @@
--- What the current records say: the same in any order, the same parameters and no lower amounts in a raise, at every hour the same of kinds without first
--- hours, and within the table's bounds.
+-- What the current records say: the same in any order, the same parameters and no lower amounts in a raise, for every query the same of kinds that don't vary, and within the table's bounds.
 use mathlib.Core.Path.{_≡_, refl, ap, sym, _∙_}
 use mathlib.Core.Bool.{Bool, true, false, cond, _||_, not}
 use mathlib.Core.List.{List, [], _∷_}
@@ -16,18 +15,18 @@ use Rattle.lists.proofs.Lists.{member-each}
 use Rattle.fields.specs.Numbers.{number, biased}
 use Rattle.fields.proofs.Numbers.{number-nil}
 use Rattle.records.specs.Table.{Field, table, rowOf, fieldOf, noField}
-use Rattle.records.specs.Record.{datable, mark, kind, isMoney, offset, read, value, told, fault}
+use Rattle.records.specs.Record.{mark, kind, isMoney, offset, read, value, told, fault}
 use Rattle.records.specs.Raise.{Raised}
 use Rattle.records.proofs.Record.{by-table, faultless, field-range, range-high}
 use Rattle.records.proofs.Raise.{told-same, told-le}
 use Rattle.records.proofs.Dated.{kind-field, told-value, told-nil}
 use Rattle.station.specs.Current.{current, present}
-use Rattle.station.specs.InForce.{inForce}
+use Rattle.station.specs.InForce.{Query, inForce, varies}
 use Rattle.station.specs.Parameters.{parameters, amounts, Higher}
 use Rattle.station.specs.Declared.{CurrentOf, absent, standing, Distinct}
 use Rattle.station.proofs.Current.{current-found, current-raised}
 use Rattle.station.proofs.Twins.{current-permuted}
-use Rattle.station.proofs.InForce.{always-current}
+use Rattle.station.proofs.Owners.{always-current}
 
 -- ---- in another order
 
@@ -89,20 +88,20 @@ module _ {t : ℕ} {l m : List (List ℕ)} (a : Pairwise (Raised t) l m) where
       go true = field-le k n i
       go false = le-refl 0
 
--- ---- at an hour: what kinds without first hours say is the same at every hour
+-- ---- for a query: what kinds say of which every query sees the same
 
-module _ (h k : ℕ) (other : datable k ≡ false) (l : List (List ℕ)) where
-  pub has-always : (n : ℕ) → parameters (inForce h l) .has k n ≡ parameters l .has k n
+module _ (q : Query) (k : ℕ) (other : varies k ≡ false) (l : List (List ℕ)) where
+  pub has-always : (n : ℕ) → parameters (inForce q l) .has k n ≡ parameters l .has k n
   unfolding parameters
-  has-always n = ap present (always-current h k n other l)
+  has-always n = ap present (always-current q k n other l)
 
-  pub says-always : (n i : ℕ) → parameters (inForce h l) .says k n i ≡ parameters l .says k n i
+  pub says-always : (n i : ℕ) → parameters (inForce q l) .says k n i ≡ parameters l .says k n i
   unfolding parameters
-  says-always n i = ap (λ (r : List ℕ). cond (isMoney (fieldOf k i .role)) 0 (told k i r)) (always-current h k n other l)
+  says-always n i = ap (λ (r : List ℕ). cond (isMoney (fieldOf k i .role)) 0 (told k i r)) (always-current q k n other l)
 
-  pub of-always : (n i : ℕ) → amounts (inForce h l) .of k n i ≡ amounts l .of k n i
+  pub of-always : (n i : ℕ) → amounts (inForce q l) .of k n i ≡ amounts l .of k n i
   unfolding amounts
-  of-always n i = ap (λ (r : List ℕ). cond (isMoney (fieldOf k i .role)) (told k i r) 0) (always-current h k n other l)
+  of-always n i = ap (λ (r : List ℕ). cond (isMoney (fieldOf k i .role)) (told k i r) 0) (always-current q k n other l)
 
 -- ---- bounds: the 64-bit sums of the code rest on these
 

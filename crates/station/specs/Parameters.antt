@@ -2,7 +2,7 @@
 use mathlib.Core.Bool.{Bool, cond}
 use mathlib.Core.List.{List}
 use Prim.Native.Nat.{ℕ, _+_, _*_, _≤_}
-use Rattle.records.specs.Table.{fieldOf, RS, HP, FU, AD, MM, RQ, HR, CH, TH, FP, LC}
+use Rattle.records.specs.Table.{fieldOf, RS, HP, FU, AD, MM, RQ, HR, CH, TH, FP, LC, AO}
 use Rattle.records.specs.Record.{isMoney, told}
 use Rattle.station.specs.Current.{current, present}
 
@@ -182,3 +182,13 @@ placePrice m n = m .of FP n 1
 -- "holds that cost (4) in micro-dollars", per MWh
 abbrev pub lastCost : Amounts → ℕ
 lastCost m = m .of LC 0 0
+
+-- ---- AO, by owner, profile, cost and level
+
+-- "AD with an owner byte, 1 or 2, first in its key"
+abbrev pub ownKey : ℕ → ℕ → ℕ → ℕ → ℕ
+ownKey o p c v = o * 16777216 + adderKey p c v
+
+-- micro-dollars, as AD's amount
+abbrev pub ownAdder : Amounts → ℕ → ℕ → ℕ → ℕ → ℕ
+ownAdder m o p c v = m .of AO (ownKey o p c v) 4

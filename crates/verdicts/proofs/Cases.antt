@@ -13,6 +13,7 @@ use Rattle.fields.specs.Numbers.{bias}
 use Rattle.records.specs.declared.Answer.the-variants.{Accepted, Refused as Turned}
 use Rattle.records.specs.Table.{RS, HP, FU, AD, RQ, TH, FV}
 use Rattle.records.specs.Made.{minus, made, madeFrom, pair}
+use Rattle.station.specs.InForce.{query}
 use Rattle.station.specs.Parameters.{Parameters, thresholdKey}
 use Rattle.rules.specs.Fit.{energy, start, noLoad, reserve}
 use Rattle.formulas.specs.Exact.{whole}
@@ -260,14 +261,14 @@ abbrev unit : List ℕ
 unit = unitWith (made FU 1 (1 ∷ 0 ∷ 0 ∷ [])) (made FU 1 (2 ∷ 0 ∷ 0 ∷ []))
 
 -- at hour 4 the limit is 0.00, at hour 5 it is 1.50; a dossier that is refused comes first
-offers-of-unit : (onOffer unit 4 1 (pair 1000 1) ≡ Fails 1 1) × (onOffer unit 5 1 (pair 1000 150) ≡ Passes) × (onOffer unit 5 1 (pair 1000 151) ≡ Fails 1 1)
-    × (onOffer [] 0 4 [] ≡ Refused 5 0)
+offers-of-unit : (onOffer unit (query 4 1) 1 (pair 1000 1) ≡ Fails 1 1) × (onOffer unit (query 5 1) 1 (pair 1000 150) ≡ Passes) × (onOffer unit (query 5 1) 1 (pair 1000 151) ≡ Fails 1 1)
+    × (onOffer [] (query 0 1) 4 [] ≡ Refused 5 0)
 unfolding computed
 offers-of-unit = (refl, refl, refl, refl)
 
 -- reserve's limit is 0.37 with its fraction dropped; a price is signed
-prices-of-unit : (onPrice unit 4 4 1 (pos 37) ≡ Passes) × (onPrice unit 4 4 1 (pos 38) ≡ Fails 0 0) × (onPrice unit 4 4 1 (negsuc 37) ≡ Passes)
-    × (onPrice unit 5 4 1 (pos 1) ≡ Fails 0 0) × (onPrice [] 0 1 4 (pos 0) ≡ Refused 5 0)
+prices-of-unit : (onPrice unit (query 4 1) 4 1 (pos 37) ≡ Passes) × (onPrice unit (query 4 1) 4 1 (pos 38) ≡ Fails 0 0) × (onPrice unit (query 4 1) 4 1 (negsuc 37) ≡ Passes)
+    × (onPrice unit (query 5 1) 4 1 (pos 1) ≡ Fails 0 0) × (onPrice [] (query 0 1) 1 4 (pos 0) ≡ Refused 5 0)
 unfolding computed
 prices-of-unit = (refl, refl, refl, refl, refl)
 
@@ -276,12 +277,12 @@ abbrev lateUnit : List ℕ
 lateUnit = unitWith (madeFrom FV 1 3 (1 ∷ 0 ∷ 0 ∷ [])) (madeFrom FV 1 7 (2 ∷ 0 ∷ 0 ∷ []))
 
 -- 20 comes before 12, 14 and 10, and only in hours without fuel
-offers-of-late : (onOffer lateUnit 2 4 [] ≡ Refused 20 0) × (onOffer lateUnit 3 4 [] ≡ Refused 14 0) × (onOffer lateUnit 4 1 (pair 1000 1) ≡ Fails 1 1)
-    × (onOffer lateUnit 6 1 (pair 1000 150) ≡ Refused 20 0) × (onOffer lateUnit 7 1 (pair 1000 150) ≡ Passes)
+offers-of-late : (onOffer lateUnit (query 2 1) 4 [] ≡ Refused 20 0) × (onOffer lateUnit (query 3 1) 4 [] ≡ Refused 14 0) × (onOffer lateUnit (query 4 1) 1 (pair 1000 1) ≡ Fails 1 1)
+    × (onOffer lateUnit (query 6 1) 1 (pair 1000 150) ≡ Refused 20 0) × (onOffer lateUnit (query 7 1) 1 (pair 1000 150) ≡ Passes)
 unfolding computed
 offers-of-late = (refl, refl, refl, refl, refl)
 
-prices-of-late : (onPrice lateUnit 2 1 4 (pos 0) ≡ Refused 20 0) × (onPrice lateUnit 3 1 4 (pos 0) ≡ Refused 12 0) × (onPrice lateUnit 4 4 1 (pos 37) ≡ Passes)
-    × (onPrice lateUnit 6 4 1 (pos 0) ≡ Refused 20 0) × (onPrice [] 0 1 4 (pos 0) ≡ Refused 5 0)
+prices-of-late : (onPrice lateUnit (query 2 1) 1 4 (pos 0) ≡ Refused 20 0) × (onPrice lateUnit (query 3 1) 1 4 (pos 0) ≡ Refused 12 0) × (onPrice lateUnit (query 4 1) 4 1 (pos 37) ≡ Passes)
+    × (onPrice lateUnit (query 6 1) 4 1 (pos 0) ≡ Refused 20 0) × (onPrice [] (query 0 1) 1 4 (pos 0) ≡ Refused 5 0)
 unfolding computed
 prices-of-late = (refl, refl, refl, refl, refl)

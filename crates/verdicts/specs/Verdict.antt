@@ -6,8 +6,9 @@ use lib.ListN.{length}
 use Rattle.fields.specs.Numbers.{biasedOf}
 use Rattle.records.specs.declared.Answer.{Answer}
 use Rattle.records.specs.declared.Answer.the-variants.{Accepted, Refused as Turned}
+use Rattle.station.specs.InForce.{Query}
 use Rattle.station.specs.Parameters.{Parameters}
-use Rattle.formulas.specs.Levels.{parametersAt, hourAnswer, Line, levels}
+use Rattle.formulas.specs.Levels.{parametersAt, queryAnswer, Line, levels}
 use Rattle.verdicts.specs.declared.Verdict.{Verdict}
 use Rattle.verdicts.specs.declared.Verdict.the-variants.{Passes, Fails, Refused}
 use Rattle.verdicts.specs.Test.{offerFrom, priceTest}
@@ -32,10 +33,10 @@ offerVerdict s c l o = settle (offerRefusal s c o) (offerFrom s c l o 0 (length 
 unfoldable pub priceVerdict : Parameters → ℕ → ℕ → List Line → ℕ → Verdict
 priceVerdict s v c l price = settle (priceRefusal s v c) (priceTest s c v price l)
 
--- on an energy offer, of a dossier at an hour and under a condition: "the conduct test"
-unfoldable pub onOffer : List ℕ → ℕ → ℕ → List ℕ → Verdict
-onOffer d h c o = settle (hourAnswer d h) (offerVerdict (parametersAt d h) c (levels d h) o)
+-- on an energy offer, of a dossier for a query and under a condition: "the conduct test"
+unfoldable pub onOffer : List ℕ → Query → ℕ → List ℕ → Verdict
+onOffer d q c o = settle (queryAnswer d q) (offerVerdict (parametersAt d q) c (levels d q) o)
 
--- on a signed price in cents, of a dossier at an hour, for a level and under a condition: "An energy offer and a single price are both offers"
-unfoldable pub onPrice : List ℕ → ℕ → ℕ → ℕ → ℤ → Verdict
-onPrice d h v c price = settle (hourAnswer d h) (priceVerdict (parametersAt d h) v c (levels d h) (biasedOf price))
+-- on a signed price in cents, of a dossier for a query, for a level and under a condition: "An energy offer and a single price are both offers"
+unfoldable pub onPrice : List ℕ → Query → ℕ → ℕ → ℤ → Verdict
+onPrice d q v c price = settle (queryAnswer d q) (priceVerdict (parametersAt d q) v c (levels d q) (biasedOf price))
