@@ -18,11 +18,19 @@ use Rattle.records.specs.Record.{datable}
 use Rattle.index.specs.Slots.{slot}
 use Rattle.index.proofs.KeyBounds.{InKey}
 use Rattle.index.proofs.Slots.{low, high, limits}
-use Rattle.hours.specs.Filling.{firstDated, manyDated, clearedTo}
+use Rattle.hours.specs.Filling.{cleared}
 
 -- ---- where they lie
 
--- all of a kind's, or none
+-- the first of the slots of FU, AD and MM
+abbrev pub firstDated : ℕ
+firstDated = 22
+
+-- how many they are
+abbrev pub manyDated : ℕ
+manyDated = 116
+
+-- all of a kind's lie among them, or none
 inside : ℕ → Bool
 inside k = leb firstDated (low k) && ltb (high k) (firstDated + manyDated)
 
@@ -56,30 +64,30 @@ other-slot k n p h a b = go _ _ refl refl (rw h at (its-slots k n p))
     go false true e f w = omega (arith, b, limits k n p, leb-true (firstDated + manyDated) (low k) f)
     go false false e f w = false≢true w
 
--- ---- an index with the first of them emptied
+-- ---- an index with n slots from slot j on emptied
 
-pub cleared-length : (ix : List ℕ) (n : ℕ) → length (clearedTo ix n) ≡ length ix
-unfolding clearedTo
-cleared-length ix zero = refl
-cleared-length ix (suc n) = length-set (clearedTo ix n) (firstDated + n) 0 ∙ cleared-length ix n
+pub cleared-length : (ix : List ℕ) (j n : ℕ) → length (cleared ix j n) ≡ length ix
+unfolding cleared
+cleared-length ix j zero = refl
+cleared-length ix j (suc n) = length-set (cleared ix j n) (j + n) 0 ∙ cleared-length ix j n
 
-pub cleared-in : (ix : List ℕ) (n j : ℕ) → j < length ix → firstDated ≤ j → j < firstDated + n → getD (clearedTo ix n) j 0 ≡ 0
-unfolding clearedTo
-cleared-in ix zero j h a b = absurd (omega arith)
-cleared-in ix (suc n) j h a b = go (ℕ-discrete j (firstDated + n)) (λ q. cleared-in ix n j h a q)
+pub cleared-in : (ix : List ℕ) (j n i : ℕ) → i < length ix → j ≤ i → i < j + n → getD (cleared ix j n) i 0 ≡ 0
+unfolding cleared
+cleared-in ix j zero i h a b = absurd (omega arith)
+cleared-in ix j (suc n) i h a b = go (ℕ-discrete i (j + n)) (λ q. cleared-in ix j n i h a q)
   where
-    go : Dec (j ≡ firstDated + n) → (j < firstDated + n → getD (clearedTo ix n) j 0 ≡ 0) → getD (clearedTo ix (suc n)) j 0 ≡ 0
-    go (yes e) g = rw e (getD-set-same (clearedTo ix n) (firstDated + n) 0 0 (omega (arith, h, e, cleared-length ix n)))
-    go (no e) g = getD-set-other (clearedTo ix n) (firstDated + n) j 0 0 e ∙ g (lt-of-le-ne (omega arith) e)
+    go : Dec (i ≡ j + n) → (i < j + n → getD (cleared ix j n) i 0 ≡ 0) → getD (cleared ix j (suc n)) i 0 ≡ 0
+    go (yes e) g = rw e (getD-set-same (cleared ix j n) (j + n) 0 0 (omega (arith, h, e, cleared-length ix j n)))
+    go (no e) g = getD-set-other (cleared ix j n) (j + n) i 0 0 e ∙ g (lt-of-le-ne (omega arith) e)
 
-pub cleared-out : (ix : List ℕ) (n j : ℕ) → (firstDated ≤ j → j < firstDated + n → ⊥) → getD (clearedTo ix n) j 0 ≡ getD ix j 0
-unfolding clearedTo
-cleared-out ix zero j h = refl
-cleared-out ix (suc n) j h =
-    getD-set-other (clearedTo ix n) (firstDated + n) j 0 0 (λ e. h (omega (arith, e)) (omega (arith, e)))
-    ∙ cleared-out ix n j (λ a b. h a (omega (arith, b)))
+pub cleared-out : (ix : List ℕ) (j n i : ℕ) → (j ≤ i → i < j + n → ⊥) → getD (cleared ix j n) i 0 ≡ getD ix i 0
+unfolding cleared
+cleared-out ix j zero i h = refl
+cleared-out ix j (suc n) i h =
+    getD-set-other (cleared ix j n) (j + n) i 0 0 (λ e. h (omega (arith, e)) (omega (arith, e)))
+    ∙ cleared-out ix j n i (λ a b. h a (omega (arith, b)))
 
 -- one slot more
-pub cleared-next : (ix l : List ℕ) (i : ℕ) → l ≡ clearedTo ix i → set l (firstDated + i) 0 ≡ clearedTo ix (i + 1)
-unfolding clearedTo
-cleared-next ix l i e = rw (e, add-one i) refl
+pub cleared-next : (ix l : List ℕ) (j i : ℕ) → l ≡ cleared ix j i → set l (j + i) 0 ≡ cleared ix j (i + 1)
+unfolding cleared
+cleared-next ix l j i e = rw (e, add-one i) refl

@@ -1,4 +1,4 @@
--- What the slots hold, emptied and filled again with what has come by an hour: the current records in force.
+-- What the slots hold, emptied and filled again with what has come by an hour: the current ones of those.
 use mathlib.Core.Path.{_≡_, refl, ap, sym, _∙_}
 use mathlib.Core.Bool.{Bool, true, false, cond, _&&_, true≢false}
 use mathlib.Core.List.{List, [], _∷_, _++_, append-assoc}
@@ -16,16 +16,16 @@ use Rattle.records.specs.MarkShapes.{keyTest}
 use Rattle.records.specs.Table.{kinds}
 use Rattle.records.proofs.Dossier.{joined-records}
 use Rattle.station.specs.Current.{matches, better, currentFrom, current}
-use Rattle.station.specs.InForce.{inForce}
+use Rattle.station.specs.InForce.{come}
 use Rattle.station.proofs.Current.{matches-kind}
-use Rattle.station.proofs.InForce.{always-current}
+use Rattle.station.proofs.InForce.{come-always}
 use Rattle.index.specs.Slots.{slot, put}
 use Rattle.index.specs.Holding.{heldRecord, IndexOf}
 use Rattle.index.proofs.KeyBounds.{InKey, in-key, test-key}
 use Rattle.index.proofs.Holds.{Holds, absent, Good, put-length, later-holds, put-holds, good-records}
 use Rattle.index.proofs.Holding.{held-is, held-none}
-use Rattle.hours.specs.Filling.{manyDated, cleared, hourStep, filledAt}
-use Rattle.hours.proofs.Emptied.{dated-slot, other-slot, cleared-length, cleared-in, cleared-out}
+use Rattle.hours.specs.Filling.{cleared, hourStep, filledAt}
+use Rattle.hours.proofs.Emptied.{firstDated, manyDated, dated-slot, other-slot, cleared-length, cleared-in, cleared-out}
 
 module _ (h : ℕ) (d : List ℕ) where
   step-length : (ix : List ℕ) (p : ℕ) (r : List ℕ) → length (hourStep h d ix p r) ≡ length ix
@@ -97,31 +97,36 @@ module _ (h : ℕ) (d : List ℕ) where
         go false e true = (q, rw (no-match c r e) stays)
         go false e false = (q, stays)
 
-    force-step : (c r : List ℕ) (l : List (List ℕ)) → currentFrom k n c (inForce h (r ∷ l)) ≡ currentFrom k n (after c r) (inForce h l)
-    unfolding inForce those currentFrom
-    force-step c r l = go (leb (since r) h)
+    come-step : (c r : List ℕ) (l : List (List ℕ)) → currentFrom k n c (come h (r ∷ l)) ≡ currentFrom k n (after c r) (come h l)
+    unfolding come those currentFrom
+    come-step c r l = go (leb (since r) h)
       where
-        go : (b : Bool) → currentFrom k n c (cond b (r ∷ inForce h l) (inForce h l)) ≡ currentFrom k n (cond b (better k n c r) c) (inForce h l)
+        go : (b : Bool) → currentFrom k n c (cond b (r ∷ come h l) (come h l)) ≡ currentFrom k n (cond b (better k n c r) c) (come h l)
         go true = refl
         go false = refl
 
     dated-from : (front ix c : List ℕ) (q : ℕ) {l : List (List ℕ)} → front ++ joined l ≡ d → length ix ≡ w → Each Good l
         → Holds k d (length front) (getD ix (slot k n) 0) c q
-        → Held (getD (folded (hourStep h d) (length front) ix l) (slot k n) 0) (currentFrom k n c (inForce h l))
+        → Held (getD (folded (hourStep h d) (length front) ix l) (slot k n) 0) (currentFrom k n c (come h l))
     unfolding folded joined
-    dated-from front ix c q whole len done old = (length front, q, unfold inForce those currentFrom in old)
+    dated-from front ix c q whole len done old = (length front, q, unfold come those currentFrom in old)
     dated-from front ix c q whole len (also {a = r} {l = l} g e) old =
         let b : length (front ++ r) ≡ length front + length r = length-append front r in
         let z = step-holds front r (joined l) ix c q whole len g old in
         let y = dated-from (front ++ r) (hourStep h d ix (length front) r) (after c r) (z .0) (append-assoc front r (joined l) ∙ whole)
         (step-length ix (length front) r ∙ len) e (rw b (z .1)) in
-        rw (force-step c r l) (rw b at y)
+        rw (come-step c r l) (rw b at y)
 
 -- ---- the index of an hour
 
 module _ (h : ℕ) (d ix : List ℕ) (all : IndexOf (records d) d ix) where
+  -- with the slots of kinds that may have first hours emptied
+  abbrev emptied : List ℕ
+  emptied = cleared ix firstDated manyDated
+
+  -- and filled again
   abbrev made : List ℕ
-  made = filledAt h d (cleared ix)
+  made = filledAt h d emptied
 
   abbrev at : ℕ → ℕ → ℕ
   at k n = getD made (slot k n) 0
@@ -131,20 +136,20 @@ module _ (h : ℕ) (d ix : List ℕ) (all : IndexOf (records d) d ix) where
 
   long : length made ≡ length ix
   unfolding filledAt
-  long = fold-length h d 0 (cleared ix) (records d) ∙ cleared-length ix manyDated
+  long = fold-length h d 0 emptied (records d) ∙ cleared-length ix firstDated manyDated
 
-  dated-held : (k n : ℕ) → InKey k n → datable k ≡ true → slot k n < length ix → (p q : ℕ) × Holds k d p (at k n) (current k n (inForce h (records d))) q
+  dated-held : (k n : ℕ) → InKey k n → datable k ≡ true → slot k n < length ix → (p q : ℕ) × Holds k d p (at k n) (current k n (come h (records d))) q
   unfolding filledAt current
   dated-held k n i o c =
       let z = dated-slot k n i o in
-      dated-from h d k n i o (length ix) c [] (cleared ix) [] 0 (joined-records d) (cleared-length ix manyDated) good
-      (absent (cleared-in ix manyDated (slot k n) c (z .0) (z .1)) refl refl)
+      dated-from h d k n i o (length ix) c [] emptied [] 0 (joined-records d) (cleared-length ix firstDated manyDated) good
+      (absent (cleared-in ix firstDated manyDated (slot k n) c (z .0) (z .1)) refl refl)
 
   other-same : (k n : ℕ) → InKey k n → datable k ≡ false → at k n ≡ getD ix (slot k n) 0
   unfolding filledAt
-  other-same k n i o = other-from h d k n i o 0 (cleared ix) good ∙ cleared-out ix manyDated (slot k n) (other-slot k n i o)
+  other-same k n i o = other-from h d k n i o 0 emptied good ∙ cleared-out ix firstDated manyDated (slot k n) (other-slot k n i o)
 
-  hour-index : IndexOf (inForce h (records d)) d made
+  hour-index : IndexOf (come h (records d)) d made
   hour-index =
       record {
         roomy = omega (arith, long, all .roomy);
@@ -154,18 +159,18 @@ module _ (h : ℕ) (d ix : List ℕ) (all : IndexOf (records d) d ix) where
         none = none-at;
       }
     where
-      holds-at : (k n : ℕ) → k < kinds → keyTest k n ≡ true → slot k n < length made → heldRecord d (at k n) ≡ current k n (inForce h (records d))
+      holds-at : (k n : ℕ) → k < kinds → keyTest k n ≡ true → slot k n < length made → heldRecord d (at k n) ≡ current k n (come h (records d))
       holds-at k n a b c =
           split (datable k)
           (λ o. held-is d _ (dated-held k n (test-key k n a b) o (rw long at c) .2))
-          (λ o. ap (heldRecord d) (other-same k n (test-key k n a b) o) ∙ all .holds k n a b (rw long at c) ∙ sym (always-current h k n o (records d)))
+          (λ o. ap (heldRecord d) (other-same k n (test-key k n a b) o) ∙ all .holds k n a b (rw long at c) ∙ sym (come-always h k n o (records d)))
 
-      none-at : (k n : ℕ) → k < kinds → keyTest k n ≡ true → slot k n < length made → current k n (inForce h (records d)) ≡ [] → at k n ≡ 0
+      none-at : (k n : ℕ) → k < kinds → keyTest k n ≡ true → slot k n < length made → current k n (come h (records d)) ≡ [] → at k n ≡ 0
       none-at k n a b c e =
           split (datable k)
           (λ o. held-none d _ (dated-held k n (test-key k n a b) o (rw long at c) .2) e)
-          (λ o. other-same k n (test-key k n a b) o ∙ all .none k n a b (rw long at c) (sym (always-current h k n o (records d)) ∙ e))
+          (λ o. other-same k n (test-key k n a b) o ∙ all .none k n a b (rw long at c) (sym (come-always h k n o (records d)) ∙ e))
 
   -- as code makes it
-  pub made-index : {x y : List ℕ} → x ≡ cleared ix → y ≡ filledAt h d x → IndexOf (inForce h (records d)) d y
+  pub made-index : {x y : List ℕ} → x ≡ emptied → y ≡ filledAt h d x → IndexOf (come h (records d)) d y
   made-index ex ey = rw (ey, ex) hour-index

@@ -4,3 +4,4 @@ pub mod Turn
 pub mod Filled
 pub mod Undated
 pub mod Loop
+pub mod Owned

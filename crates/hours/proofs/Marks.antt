@@ -7,7 +7,7 @@ use native.Mathlib.Omega.{arith}
 use Rattle.lists.specs.Tests.{among}
 use Rattle.fields.specs.Numbers.{number}
 use Rattle.fields.proofs.Numbers.{number-join}
-use Rattle.records.specs.Table.{table, rowOf, marks, kinds, FU, AD, MM, LC}
+use Rattle.records.specs.Table.{table, rowOf, marks, kinds, FU, AD, MM, AO}
 use Rattle.records.specs.Record.{isDated, kindOf, datable, fieldsAt, keyIn, keyWidth}
 use Rattle.records.proofs.EveryMark.{by-mark, by-kind, kind-lt, kind-known, undated}
 use Rattle.records.proofs.Dated.{dated-at, undated-at, kind-fields}
@@ -16,15 +16,16 @@ use Rattle.hours.specs.Filling.{datedSlot}
 
 -- ---- the marks with a first hour come last
 
-pub low-undated : (k : ℕ) → k < marks → k ≤ LC → isDated k ≡ false
+pub low-undated : (k : ℕ) → k < marks → k ≤ AO → isDated k ≡ false
 low-undated k l h = undated k l (λ w. absurd (omega (arith, w))) (λ w. absurd (omega (arith, w))) (λ w. absurd (omega (arith, w)))
 
-pub high-dated : (k : ℕ) → k < marks → LC < k → isDated k ≡ true
+pub high-dated : (k : ℕ) → k < marks → AO < k → isDated k ≡ true
 unfolding isDated rowOf table
 high-dated k l h =
     by-mark (λ j. k ≡ j → isDated j ≡ true) (λ w. absurd (omega arith)) (λ w. absurd (omega arith)) (λ w. absurd (omega arith)) (λ w. absurd (omega arith))
     (λ w. absurd (omega arith)) (λ w. absurd (omega arith)) (λ w. absurd (omega arith)) (λ w. absurd (omega arith)) (λ w. absurd (omega arith))
-    (λ w. absurd (omega arith)) (λ w. absurd (omega arith)) (λ w. refl) (λ w. refl) (λ w. refl) k (λ z. absurd (omega arith)) l refl
+    (λ w. absurd (omega arith)) (λ w. absurd (omega arith)) (λ w. absurd (omega arith)) (λ w. refl) (λ w. refl) (λ w. refl) k
+    (λ z. absurd (omega arith)) l refl
 
 pub fields-most : (k : ℕ) → fieldsAt k ≤ 10
 fields-most k = go (isDated k) refl
@@ -44,7 +45,7 @@ pub not-datable : (k : ℕ) → 1 ≤ k → k < kinds → (k ≡ FU → ⊥) →
 unfolding datable among table
 not-datable k p q x y z =
     by-kind (λ j. k ≡ j → datable j ≡ false) (λ w. refl) (λ w. refl) (λ w. absurd (x w)) (λ w. absurd (y w)) (λ w. absurd (z w)) (λ w. refl) (λ w. refl)
-    (λ w. refl) (λ w. refl) (λ w. refl) (λ w. refl) k (λ w. omega (arith, w)) q refl
+    (λ w. refl) (λ w. refl) (λ w. refl) (λ w. refl) (λ w. refl) k (λ w. omega (arith, w)) q refl
 
 dated-slot-is : (m k w : ℕ) (s : List ℕ) → kindOf m ≡ k → datable k ≡ true → keyWidth k ≡ w → slot k (number (fieldsAt m) w s) ≡ datedSlot m s
 unfolding datedSlot slotAt

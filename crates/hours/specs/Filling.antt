@@ -10,22 +10,10 @@ use Rattle.records.specs.Dossier.{records}
 use Rattle.records.specs.Walk.{Step, folded}
 use Rattle.index.specs.Slots.{slotAt, heldIssue, newer, put}
 
--- the first of the slots of FU, AD and MM, which lie together
-abbrev pub firstDated : ℕ
-firstDated = 22
-
--- how many they are
-abbrev pub manyDated : ℕ
-manyDated = 116
-
--- an index with the first n of them emptied
-unfoldable pub clearedTo : List ℕ → ℕ → List ℕ
-clearedTo ix zero = ix
-clearedTo ix (suc n) = set (clearedTo ix n) (firstDated + n) 0
-
--- with all of them
-abbrev pub cleared : List ℕ → List ℕ
-cleared ix = clearedTo ix manyDated
+-- an index with n slots from slot j on emptied
+unfoldable pub cleared : List ℕ → ℕ → ℕ → List ℕ
+cleared ix j zero = ix
+cleared ix j (suc n) = set (cleared ix j n) (j + n) 0
 
 -- the slot of a record of mark k at the front of a rest, if its kind may have first hours; else 0, which is RS's
 unfoldable pub datedSlot : ℕ → List ℕ → ℕ

@@ -1,8 +1,10 @@
 // The index of an hour, made of that of all records. Only kinds that may have first hours have other current records at another hour, and their slots lie
 // together.
+pub mod owners;
+
 ghost use mathlib.Core.Path.{_≡_};
 ghost use mathlib.Core.Bool.{true, false, cond};
-ghost use Prim.Native.Nat.{ℕ, _<_, _≤_};
+ghost use Prim.Native.Nat.{ℕ, _+_, _<_, _≤_};
 ghost use lib.Dec.{leb};
 ghost use lib.ListN.{length};
 ghost use Rattle.fields.specs.Numbers.{number};
@@ -10,25 +12,25 @@ ghost use Rattle.records.specs.declared.Answer.the-variants.{Accepted};
 ghost use Rattle.records.specs.Table.{marks};
 ghost use Rattle.records.specs.Record.{mark, isDated, size, fieldsAt};
 ghost use Rattle.records.specs.Dossier.{records, scan};
-ghost use Rattle.station.specs.InForce.{inForce};
+ghost use Rattle.station.specs.InForce.{come};
 ghost use Rattle.index.specs.Slots.{short};
 ghost use Rattle.index.specs.Holding.{IndexOf};
 ghost use Rattle.hours.specs.Filling.{cleared, datedSlot, putAt, hourAt, filledAt};
 use records::marks;
 
-// The slots of FU, AD and MM, from the first to the last.
+// The slots of FU, AD and MM: the first, and how many.
 const FIRST: usize = 22;
 
 const COUNT: usize = 116;
 
-// Empties them.
-fn clear_dated(index: &mut [u16])
-    requires { ⌜ short ≤ length (now index) ⌝ }
-    ensures { λ r. ⌜ now (index .exit) ≡ cleared (now (index .entry)) ⌝ }
+// Empties n slots from slot j on. Nothing is asked of each, so that the compiler takes several at a time.
+fn clear(index: &mut [u16], j: usize, n: usize)
+    requires { ⌜ j + n ≤ length (now index) ⌝ }
+    ensures { λ r. ⌜ now (index .exit) ≡ cleared (now (index .entry)) j n ⌝ }
 {
     let mut i = 0;
-    while i < COUNT {
-        index[FIRST + i] = 0;
+    while i < n {
+        index[j + i] = 0;
         i += 1;
     }
 }
@@ -38,7 +40,7 @@ fn fields_at(mark: usize) -> usize
     requires { ⌜ mark < marks ⌝ }
     ensures { λ r. ⌜ r ≡ fieldsAt mark ⌝ }
 {
-    if mark <= marks::LC { 6 } else { 10 }
+    if mark <= marks::AO { 6 } else { 10 }
 }
 
 // The slot of a record of a mark whose kind may have first hours; 0, which is RS's, of any other.
@@ -143,8 +145,8 @@ fn put_record(d: &[u8], index: &mut [u16], hour: u32, at: usize, s: &[u8]) -> us
     put_undated(d, index, at, s)
 }
 
-// Fills them again with the records that have come. The search for twins keeps `index::reader::entry_at` for itself, so that the compiler puts it in
-// line there.
+// Fills the slots of FU, AD and MM with the records that have come. The search for twins keeps `index::reader::entry_at` for itself, so that the compiler
+// puts it in line there.
 fn fill_dated(d: &[u8], index: &mut [u16], hour: u32)
     requires { ⌜ (short ≤ length (now index)) × (length (now d) ≤ 60000) × (scan 0 (records (now d)) ≡ Accepted) ⌝ }
     ensures { λ r. ⌜ now (index .exit) ≡ filledAt hour (now (d .entry)) (now (index .entry)) ⌝ }
@@ -163,8 +165,8 @@ fn fill_dated(d: &[u8], index: &mut [u16], hour: u32)
 // An index of all records becomes that of an hour: the slots of kinds that may have first hours are emptied and filled again with what has come.
 pub fn at_hour(d: &[u8], index: &mut [u16], hour: u32)
     requires { ⌜ IndexOf (records (now d)) (now d) (now index) ⌝ }
-    ensures { λ r. ⌜ IndexOf (inForce hour (records (now (d .entry)))) (now (d .entry)) (now (index .exit)) ⌝ }
+    ensures { λ r. ⌜ IndexOf (come hour (records (now (d .entry)))) (now (d .entry)) (now (index .exit)) ⌝ }
 {
-    clear_dated(index);
+    clear(index, FIRST, COUNT);
     fill_dated(d, index, hour);
 }

@@ -22,13 +22,17 @@ use Rattle.index.specs.declared.Reading.the-variants.{Whole, Dated, Faul
 use Rattle.index.specs.Slots.{slotAt}
 use Rattle.index.specs.Entries.{entry, entryAs, wholeAs, placed, readingOf, readingAs}
 
--- ---- a key of two and three one-byte fields, from byte o on
+-- ---- a key of two to four one-byte fields, from byte o on
 
 pub two-fields : (o : ℕ) (s : List ℕ) → number o 1 s * 256 + number (o + 1) 1 s ≡ number o 2 s
 two-fields o s = sym (number-join o 1 1 s)
 
 pub three-fields : (o : ℕ) (s : List ℕ) → number o 1 s * 65536 + number (o + 1) 1 s * 256 + number (o + 2) 1 s ≡ number o 3 s
 three-fields o s = omega (arith, number-join o 2 1 s, number-join o 1 1 s)
+
+pub four-fields : (o : ℕ) (s : List ℕ)
+    → number o 1 s * 16777216 + number (o + 1) 1 s * 65536 + number (o + 2) 1 s * 256 + number (o + 3) 1 s ≡ number o 4 s
+four-fields o s = omega (arith, number-join o 3 1 s, three-fields o s)
 
 -- ---- the arm of mark k
 

@@ -11,7 +11,7 @@ use Rattle.records.specs.Walk.{Step, Walked, ended, stopped}
 use Rattle.index.specs.declared.Passed.{Passed}
 use Rattle.index.specs.declared.Passed.the-variants.{Ended, Stopped}
 
--- ---- the slot of a kind and key: mixed radix, the kinds one after the other; HR, CH and LC come behind those that every station may have, FP last
+-- ---- the slot of a kind and key: mixed radix, the kinds one after the other; behind those that every station may have HR, AO, CH and LC, FP last
 
 -- by the key as a number; key fields count from 1, so no field is lessened
 unfoldable pub slot : ℕ → ℕ → ℕ
@@ -23,22 +23,23 @@ slot (suc (suc (suc (suc zero)))) n = 1 + n / 65536 * 20 + n / 256 % 256 * 4 + n
 slot (suc (suc (suc (suc (suc zero))))) n = 97 + n / 256 * 8 + n % 256
 slot (suc (suc (suc (suc (suc (suc zero)))))) n = 137 + n
 slot (suc (suc (suc (suc (suc (suc (suc zero))))))) n = 165 + n
-slot (suc (suc (suc (suc (suc (suc (suc (suc zero)))))))) n = 333 + n
+slot (suc (suc (suc (suc (suc (suc (suc (suc zero)))))))) n = 493 + n
 slot (suc (suc (suc (suc (suc (suc (suc (suc (suc zero))))))))) n = 149 + n / 256 * 4 + n % 256
-slot (suc (suc (suc (suc (suc (suc (suc (suc (suc (suc zero)))))))))) n = 2350 + n
-slot (suc (suc (suc (suc (suc (suc (suc (suc (suc (suc (suc k))))))))))) n = 2350
+slot (suc (suc (suc (suc (suc (suc (suc (suc (suc (suc zero)))))))))) n = 2510 + n
+slot (suc (suc (suc (suc (suc (suc (suc (suc (suc (suc (suc zero))))))))))) n = 2510
+slot (suc (suc (suc (suc (suc (suc (suc (suc (suc (suc (suc (suc k)))))))))))) n = 229 + n / 16777216 * 80 + n / 65536 % 256 * 20 + n / 256 % 256 * 4 + n % 256
 
--- the slots of marks that every station may have, which come first, and of HR: an index may end behind them
+-- the slots of marks that every station may have, which come first, of HR and of AO: an index may end behind them
 abbrev pub short : ℕ
-short = 334
+short = 494
 
 -- the slots of all marks but FP, whose slots come last: an index may do without them
 abbrev pub narrow : ℕ
-narrow = 2351
+narrow = 2511
 
 -- and with them
 abbrev pub wide : ℕ
-wide = 6351
+wide = 6511
 
 -- of a record of mark k at the front of the rest of a dossier, read in place
 unfoldable pub slotAt : ℕ → List ℕ → ℕ

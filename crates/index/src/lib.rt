@@ -16,12 +16,12 @@ ghost use Rattle.index.specs.Slots.{heldIssue, newer, higher, kept, keep
 use crate::charging::Run;
 use crate::reader::read;
 
-// The slots of marks that every station may have and of HR; of all marks but FP; and with them.
-pub const SHORT: usize = 334;
+// The slots of marks that every station may have, of HR and of AO; of all marks but FP; and with them.
+pub const SHORT: usize = 494;
 
-pub const NARROW: usize = 2351;
+pub const NARROW: usize = 2511;
 
-pub const WIDE: usize = 6351;
+pub const WIDE: usize = 6511;
 
 // Before the first record.
 const START: Run = Run {

@@ -4,7 +4,7 @@ ghost use mathlib.Core.Bool.{true, false, cond, _&&_};
 ghost use Prim.Native.Nat.{ℕ, _≤_};
 ghost use lib.Dec.{leb};
 ghost use lib.ListN.{length, getD};
-ghost use Rattle.records.specs.Table.{RS, HP, FU, AD, MM, RQ, HR, CH, TH, FP, LC, FV, AV, MV};
+ghost use Rattle.records.specs.Table.{RS, HP, FU, AD, MM, RQ, HR, CH, TH, FP, LC, AO, FV, AV, MV};
 ghost use Rattle.records.specs.Record.{mark};
 ghost use Rattle.records.specs.MarkShapes.{rare, begins};
 ghost use Rattle.index.specs.Intervals.{isInterval};
@@ -13,6 +13,7 @@ ghost use Rattle.index.specs.Entries.{entryAs, readingAs, readingOf};
 use crate::Entry;
 use crate::Reading;
 use crate::keys::slot_ad;
+use crate::keys::slot_ao;
 use crate::keys::slot_ch;
 use crate::keys::slot_fp;
 use crate::keys::slot_fu;
@@ -258,6 +259,30 @@ fn read_lc(s: &[u8]) -> Reading
     checked(records::lc_ok(s), entry_lc(s))
 }
 
+// AO
+fn entry_ao(s: &[u8]) -> Entry
+    ensures { λ r. ⌜ r ≡ entryAs AO (now (s .entry)) ⌝ }
+{
+    Entry {
+        len: records::AO.length,
+        slot: slot_ao(
+            fields::u8_at(s, 6) as usize,
+            fields::u8_at(s, 7) as usize,
+            fields::u8_at(s, 8) as usize,
+            fields::u8_at(s, 9) as usize,
+        ),
+    }
+}
+
+fn read_ao(s: &[u8]) -> Reading
+    ensures { λ r. ⌜ r ≡ readingAs AO (now (s .entry)) ⌝ }
+{
+    if s.len() < records::AO.length {
+        return Reading::Fault(2);
+    }
+    checked(records::ao_ok(s), entry_ao(s))
+}
+
 // FV
 fn entry_fv(s: &[u8]) -> Entry
     ensures { λ r. ⌜ r ≡ entryAs FV (now (s .entry)) ⌝ }
@@ -319,16 +344,16 @@ fn read_mv(s: &[u8]) -> Reading
     checked_dated(records::mv_ok(s), entry_mv(s))
 }
 
-// Of a rest whose mark has a first hour or no key, or is unknown.
+// Of a rest whose mark has a first hour, no key or an owner, or is unknown; RS, of which every dossier has one, is tried before.
 fn read_rare(rest: &[u8]) -> Reading
-    requires { ⌜ (2 ≤ length (now rest)) × (rare (mark (now rest)) ≡ true) ⌝ }
+    requires { ⌜ (2 ≤ length (now rest)) × (rare (mark (now rest)) ≡ true) × (begins (now rest) 82 83 ≡ false) ⌝ }
     ensures { λ r. ⌜ r ≡ readingOf (now (rest .entry)) ⌝ }
 {
-    if records::is_mark(rest, b"RS") {
-        return read_rs(rest);
-    }
     if records::is_mark(rest, b"LC") {
         return read_lc(rest);
+    }
+    if records::is_mark(rest, b"AO") {
+        return read_ao(rest);
     }
     if records::is_mark(rest, b"FV") {
         return read_fv(rest);
@@ -352,6 +377,9 @@ fn entry_rare(rest: &[u8]) -> Entry
     }
     if records::is_mark(rest, b"LC") {
         return entry_lc(rest);
+    }
+    if records::is_mark(rest, b"AO") {
+        return entry_ao(rest);
     }
     if records::is_mark(rest, b"FV") {
         return entry_fv(rest);
@@ -446,6 +474,9 @@ pub fn read(rest: &[u8]) -> Reading
     }
     if records::is_mark(rest, b"RQ") {
         return read_rq(rest);
+    }
+    if records::is_mark(rest, b"RS") {
+        return read_rs(rest);
     }
     read_rare(rest)
 }

@@ -1,42 +1,43 @@
 -- The records that the index at hand is of: all that the layers above know of them.
 use mathlib.Core.Path.{_≡_, refl, ap, ap₂, sym, subst, _∙_}
-use mathlib.Core.Bool.{Bool, true, false, cond, not, false≢true}
+use mathlib.Core.Bool.{Bool, true, false, cond, _&&_, not, false≢true}
 use mathlib.Core.List.{List, []}
 use Prim.Native.Nat.{ℕ, _≤_, _<_, _+_}
 use native.Mathlib.Omega.{arith}
 use lib.Dec.{leb, ltb, eqb, lit<}
 use lib.ListN.{length, getD}
-use borrow.Author.Tests.{eqb-true, le-leb}
+use borrow.Author.Tests.{eqb-true}
 use Rattle.lists.specs.Lists.{Each, those}
-use Rattle.lists.specs.Tests.{among, same}
+use Rattle.lists.specs.Tests.{among}
 use Rattle.lists.proofs.Lists.{each-map, each-of, those-each, those-all, member-those}
-use Rattle.lists.proofs.Tests.{split}
-use Rattle.records.specs.Table.{table, fieldOf, kinds, FU, AD, MM}
-use Rattle.records.specs.Record.{mark, kind, datable, since, size, isMoney, told, fault, keyOf}
+use Rattle.lists.proofs.Tests.{split, or-false-left}
+use Rattle.records.specs.Table.{table, fieldOf, kinds, FU, AD, MM, AO}
+use Rattle.records.specs.Record.{mark, kind, datable, since, size, isMoney, told, fault}
 use Rattle.records.specs.MarkShapes.{keyTest, body}
 use Rattle.records.specs.Dossier.{records}
 use Rattle.records.proofs.Dossier.{scan-each}
 use Rattle.records.proofs.Record.{size-ge}
-use Rattle.records.proofs.Dated.{since-zero}
 use Rattle.station.specs.Current.{matches, currentFrom, current, present}
-use Rattle.station.specs.InForce.{inForce}
+use Rattle.station.specs.InForce.{speaksTo, Query, inForce, varies}
 use Rattle.station.specs.Parameters.{parameters, amounts}
 use Rattle.station.specs.Declared.{CurrentOf, absent, standing}
 use Rattle.station.proofs.Current.{current-found, matches-kind, matches-key, matches-self}
+use Rattle.station.proofs.InForce.{current-those}
+use Rattle.station.proofs.Owners.{force-those, varies-not}
 use Rattle.index.specs.Slots.{slot, slotsEmpty}
 use Rattle.index.specs.Holding.{heldRecord, IndexOf}
 use Rattle.index.proofs.KeyBounds.{InKey, key-test, test-key}
 use Rattle.index.proofs.Slots.{early}
 use Rattle.index.proofs.Holds.{Good, good-records}
-use Rattle.lookup.specs.Parts.{partAt, bodyAt, RecordIn, BodyIn, Whole, AtHour, Indexed, stands, held, parametersHeld, amountsHeld}
+use Rattle.lookup.specs.Parts.{partAt, bodyAt, RecordIn, BodyIn, Whole, AtQuery, Indexed, stands, held, parametersHeld, amountsHeld}
 use Rattle.lookup.proofs.Parts.{fits, none-current, unmatched, index-part, index-inside, index-body, index-body-inside, index-tells, index-in-empty}
 use Rattle.lookup.proofs.Parts.{whole-index}
-use Rattle.lookup.proofs.Those.{all-those, Tells, found, nothing}
+use Rattle.lookup.proofs.Those.{Tells, found, nothing}
 
--- a kind that may have first hours has slots in every index
-datable-early : (k : ℕ) → datable k ≡ true → (k < kinds) × (early k ≡ true)
+-- a kind of which queries may see other records has slots in every index
+varies-early : (k : ℕ) → varies k ≡ true → (k < kinds) × (early k ≡ true)
 unfolding datable among table
-datable-early k e =
+varies-early k e =
     split (eqb k 0)
     (λ a. rw (eqb-true k 0 a) (lit< tt, refl))
     (λ a. split (eqb k FU)
@@ -45,7 +46,9 @@ datable-early k e =
     (λ c. rw (eqb-true k AD c) (lit< tt, refl))
     (λ c. split (eqb k MM)
     (λ m. rw (eqb-true k MM m) (lit< tt, refl))
-    (λ m. absurd (false≢true (sym (rw (a, b, c, m) refl) ∙ e))))))
+    (λ m. split (eqb k AO)
+    (λ o. rw (eqb-true k AO o) (lit< tt, refl))
+    (λ o. absurd (false≢true (sym (rw (a, b, c, m, o) refl) ∙ e)))))))
 
 module _ {d ix : List ℕ} (h : Indexed d ix) where
   abbrev some : List (List ℕ)
@@ -66,18 +69,17 @@ module _ {d ix : List ℕ} (h : Indexed d ix) where
   held-clean = those-each (stands d ix) (scan-each 0 (records d) (h .index .clean))
 
   module _ (k n : ℕ) where
-    -- of a kind without first hours, no test takes any away
-    always : datable k ≡ false → (f : List ℕ → Bool) → ((r : List ℕ) → datable (kind r) ≡ false → f r ≡ true)
+    -- of a kind of which every query sees the same, no test takes any away
+    always : varies k ≡ false → (f : List ℕ → Bool) → ((r : List ℕ) → varies (kind r) ≡ false → f r ≡ true)
         → current k n (those f (records d)) ≡ current k n (records d)
-    unfolding current
-    always e f o = all-those k n f [] (each-of (records d) (λ r m. o r (ap datable (matches-kind k n r m) ∙ e)))
+    always e f o = current-those k n f (λ r w. o r (ap varies w ∙ e)) (records d)
 
-    stands-other : (r : List ℕ) → datable (kind r) ≡ false → stands d ix r ≡ true
+    stands-other : (r : List ℕ) → varies (kind r) ≡ false → stands d ix r ≡ true
     unfolding stands
     stands-other r e = rw e refl
 
     -- of any other, the record in its slot stays
-    module _ (e : datable k ≡ true) (i : InKey k n) (fit : slot k n < length ix) where
+    module _ (e : varies k ≡ true) (i : InKey k n) (fit : slot k n < length ix) where
       tells : (c : List ℕ) → heldRecord d (getD ix (slot k n) 0) ≡ c → (r : List ℕ) → 0 < length r → Tells k n (stands d ix) c r
       unfolding stands
       tells c p r l = (l, λ m. rw (matches-kind k n r m, matches-key k n r m, e, p) refl)
@@ -101,17 +103,17 @@ module _ {d ix : List ℕ} (h : Indexed d ix) where
     pub current-some : current k n (held d ix) ≡ current k n some
     unfolding held
     current-some =
-        split (datable k)
+        split (varies k)
         (λ e. split (keyTest k n)
-        (λ t. let z = datable-early k e in let i = test-key k n (z .0) t in slotted e i (fits ix (h .index .roomy) k n i (z .1)))
+        (λ t. let z = varies-early k e in let i = test-key k n (z .0) t in slotted e i (fits ix (h .index .roomy) k n i (z .1)))
         (λ f. keyless f (stands d ix) ∙ sym (keyless f (h .keep))))
         (λ e. always e (stands d ix) stands-other ∙ sym (always e (h .keep) (h .others)))
 
-    -- of kinds without first hours they are the dossier's
-    pub held-always : datable k ≡ false → current k n (held d ix) ≡ current k n (records d)
+    -- of kinds of which every query sees the same they are the dossier's
+    pub held-always : varies k ≡ false → current k n (held d ix) ≡ current k n (records d)
     held-always e = current-some ∙ always e (h .keep) (h .others)
 
-    module _ (e : datable k ≡ false) where
+    module _ (e : varies k ≡ false) where
       pub has-always : parametersHeld d ix .has k n ≡ parameters (records d) .has k n
       unfolding parameters
       has-always = ap present (held-always e)
@@ -124,9 +126,14 @@ module _ {d ix : List ℕ} (h : Indexed d ix) where
       unfolding amounts
       of-always i = ap (λ (r : List ℕ). cond (isMoney (fieldOf k i .role)) (told k i r) 0) (held-always e)
 
-    -- a slot has the current record of a kind without first hours
-    pub part-is : InKey k n → slot k n < length ix → datable k ≡ false → {j len : ℕ} → j ≡ slot k n → len ≡ size k → partAt d ix j len ≡ current k n (records d)
-    part-is i fit u p q = index-part (h .index) some-good k n i fit u p q ∙ always u (h .keep) (h .others)
+    -- a slot has the current record held of a kind without first hours
+    pub part-held : InKey k n → slot k n < length ix → datable k ≡ false → {j len : ℕ} → j ≡ slot k n → len ≡ size k
+        → partAt d ix j len ≡ current k n (held d ix)
+    part-held i fit u p q = index-part (h .index) some-good k n i fit u p q ∙ sym current-some
+
+    -- which is the dossier's where every query sees the same
+    pub part-is : InKey k n → slot k n < length ix → varies k ≡ false → {j len : ℕ} → j ≡ slot k n → len ≡ size k → partAt d ix j len ≡ current k n (records d)
+    part-is i fit u p q = part-held i fit (or-false-left (datable k) (eqb k AO) u) p q ∙ held-always u
 
     -- and it lies in the dossier
     pub record-in : InKey k n → slot k n < length ix → datable k ≡ false → {j len : ℕ} → j ≡ slot k n → len ≡ size k → RecordIn d (getD ix j 0) len
@@ -136,7 +143,7 @@ module _ {d ix : List ℕ} (h : Indexed d ix) where
       pub slot-fits : {j : ℕ} → j ≡ slot k n → j < length ix
       slot-fits a = rw a (fits ix (h .index .roomy) k n i b)
 
-      pub part-found : datable k ≡ false → {j len : ℕ} → j ≡ slot k n → len ≡ size k → partAt d ix j len ≡ current k n (records d)
+      pub part-found : varies k ≡ false → {j len : ℕ} → j ≡ slot k n → len ≡ size k → partAt d ix j len ≡ current k n (records d)
       part-found = part-is i (slot-fits refl)
 
       pub record-inside : datable k ≡ false → {j len : ℕ} → j ≡ slot k n → len ≡ size k → RecordIn d (getD ix j 0) len
@@ -149,13 +156,13 @@ module _ {d ix : List ℕ} (h : Indexed d ix) where
       body-found p q = index-body (h .index) some-good k n i (slot-fits refl) p q ∙ ap body (sym current-some)
 
       -- a slot that is not empty tells that there is one
-      pub slot-says : datable k ≡ false → ltb 0 (length (current k n (records d))) ≡ not (eqb (getD ix (slot k n) 0) 0)
+      pub slot-says : varies k ≡ false → ltb 0 (length (current k n (records d))) ≡ not (eqb (getD ix (slot k n) 0) 0)
       slot-says u = ap (λ (c : List ℕ). ltb 0 (length c)) (sym (always u (h .keep) (h .others))) ∙ index-tells (h .index) some-good k n i (slot-fits refl)
 
       pub held-in-empty : (j m : ℕ) → slotsEmpty ix j m ≡ true → j ≤ slot k n → slot k n < j + m → current k n (held d ix) ≡ []
       held-in-empty j m e x y = current-some ∙ index-in-empty (h .index) some-good k n i (slot-fits refl) j m e x y
 
--- ---- where the index was filled for all records, or for an hour; here two layers meet
+-- ---- where the index was filled for all records, or for a query; here two layers meet
 
 unfoldable pub whole-indexed : {d ix : List ℕ} → Whole d ix → Indexed d ix
 whole-indexed {d} {ix} h =
@@ -165,26 +172,25 @@ whole-indexed {d} {ix} h =
       index = subst (λ (l : List (List ℕ)). IndexOf l d ix) (sym (those-all (λ r. true) (each-of (records d) (λ r. refl)))) (whole-index d ix h);
     }
 
-unfoldable pub hour-indexed : (h : ℕ) {d ix : List ℕ} → AtHour h d ix → Indexed d ix
-unfolding inForce
-hour-indexed h i =
+unfoldable pub query-indexed : (q : Query) {d ix : List ℕ} → AtQuery q d ix → Indexed d ix
+query-indexed q {d} {ix} i =
     record {
-      keep = λ r. leb (since r) h;
-      others = λ r e. rw (since-zero r e) (le-leb 0 h (omega arith));
-      index = i;
+      keep = λ r. leb (since r) (q .hour) && speaksTo (q .owner) r;
+      others = varies-not q;
+      index = subst (λ (l : List (List ℕ)). IndexOf l d ix) (force-those q (records d)) i;
     }
 
-module _ (h : ℕ) {d ix : List ℕ} (i : AtHour h d ix) where
-  pub current-held : (k n : ℕ) → current k n (held d ix) ≡ current k n (inForce h (records d))
-  unfolding inForce hour-indexed
-  current-held k n = current-some (hour-indexed h i) k n
+module _ (q : Query) {d ix : List ℕ} (i : AtQuery q d ix) where
+  pub current-held : (k n : ℕ) → current k n (held d ix) ≡ current k n (inForce q (records d))
+  unfolding query-indexed
+  current-held k n = current-some (query-indexed q i) k n ∙ ap (current k n) (sym (force-those q (records d)))
 
-  pub parameters-held : parametersHeld d ix ≡ parameters (inForce h (records d))
+  pub parameters-held : parametersHeld d ix ≡ parameters (inForce q (records d))
   unfolding parameters
   parameters-held =
       λ j. record { has = λ k n. present (current-held k n j); says = λ k n m. cond (isMoney (fieldOf k m .role)) 0 (told k m (current-held k n j)) }
 
-  pub amounts-held : amountsHeld d ix ≡ amounts (inForce h (records d))
+  pub amounts-held : amountsHeld d ix ≡ amounts (inForce q (records d))
   unfolding amounts
   amounts-held = λ j. record { of = λ k n m. cond (isMoney (fieldOf k m .role)) (told k m (current-held k n j)) 0 }
 

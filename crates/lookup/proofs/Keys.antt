@@ -5,7 +5,7 @@ use Prim.Native.Nat.{ℕ, _+_, _*_, _/_, _%_, _≤_, _<_}
 use native.Mathlib.Omega.{arith}
 use lib.Dec.{eqb, lit≤, lit<}
 use lib.ListN.{getD}
-use Rattle.records.specs.Table.{table, rowOf, kinds, RS, HP, FU, AD, MM, RQ, HR, TH, FP, LC}
+use Rattle.records.specs.Table.{table, rowOf, kinds, RS, HP, FU, AD, MM, RQ, HR, TH, FP, LC, AO}
 use Rattle.records.specs.MarkShapes.{shape, shapeOf}
 use Rattle.index.proofs.KeyBounds.{InKey, Spans}
 
@@ -60,7 +60,7 @@ pub place-key : (n : ℕ) → 1 ≤ n → n ≤ 4000 → InKey FP n
 unfolding shapeOf shape rowOf table
 place-key n a b = one-field FP n (lit≤ tt) (lit< tt) refl a b
 
--- ---- two and three fields
+-- ---- two fields and more
 
 pub item-key : (p j : ℕ) → 1 ≤ p → p ≤ 4 → 1 ≤ j → j ≤ 8 → InKey MM (p * 256 + j)
 unfolding shapeOf shape rowOf table
@@ -74,3 +74,12 @@ pub adder-key : (p c v : ℕ) → 1 ≤ p → p ≤ 4 → 1 ≤ c → c ≤ 5 �
 unfolding Spans shapeOf shape rowOf table
 adder-key p c v a b x y z w =
     record { known = lit≤ tt; low = lit< tt; spans = ((omega arith, omega arith), (omega arith, omega arith), (omega arith, omega arith)) }
+
+pub owner-key : (o p c v : ℕ) → 1 ≤ o → o ≤ 2 → 1 ≤ p → p ≤ 4 → 1 ≤ c → c ≤ 5 → 1 ≤ v → v ≤ 4 → InKey AO (o * 16777216 + p * 65536 + c * 256 + v)
+unfolding Spans shapeOf shape rowOf table
+owner-key o p c v a b d e x y z w =
+    record {
+      known = lit≤ tt;
+      low = lit< tt;
+      spans = ((omega arith, omega arith), (omega arith, omega arith), (omega arith, omega arith), (omega arith, omega arith));
+    }

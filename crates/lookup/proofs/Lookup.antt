@@ -38,10 +38,10 @@ number-at l w e h = rw e h
 pub number-3 : (l : List ℕ) {b c : ℕ} → length l ≡ 3 → b ≡ number 0 2 l → c ≡ number 2 1 l → b * 256 + c ≡ number 0 (length l) l
 number-3 l e h g = rw (e, h, g) (sym (number-join 0 2 1 l))
 
--- no key is wider than three bytes
-pub width-le : (k : ℕ) → keyWidth k ≤ 3
+-- no key is wider than four bytes
+pub width-le : (k : ℕ) → keyWidth k ≤ 4
 unfolding keyWidth rowOf table everyOf keyIn
-width-le k = leb-true (keyWidth k) 3 (everyOf-at (λ (x : Row). leb (keyIn (x .fields)) 3) (noRow ∷ table) noRow refl refl k)
+width-le k = leb-true (keyWidth k) 4 (everyOf-at (λ (x : Row). leb (keyIn (x .fields)) 4) (noRow ∷ table) noRow refl refl k)
 
 -- ---- the lookup by start and length
 

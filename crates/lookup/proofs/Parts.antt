@@ -2,10 +2,10 @@
 use mathlib.Core.Path.{_≡_, refl, ap, ap₂, sym, subst, _∙_}
 use mathlib.Core.Bool.{Bool, true, false, cond, true≢false, _||_, not}
 use mathlib.Core.List.{List, []}
-use Prim.Native.Nat.{ℕ, _+_, _-_, _≤_, _<_}
+use Prim.Native.Nat.{ℕ, _+_, _-_, _^_, _≤_, _<_}
 use native.Mathlib.Nat.{add-sub-cancel-left}
 use native.Mathlib.Omega.{arith}
-use lib.Dec.{ltb, eqb, lit<, lit≤}
+use lib.Dec.{ltb, eqb, lit≤}
 use lib.ListN.{length, getD, take, drop, length-take, length-drop}
 use lib.Seq.{getD-take, getD-drop, drop-drop, drop-at, take-add}
 use borrow.Author.Tests.{ne-eqb, lt-ltb, le-ltb, eqb-true, eqb-false, ltb-false}
@@ -13,8 +13,8 @@ use Rattle.lists.specs.Lists.{Each, done, also}
 use Rattle.lists.proofs.Lists.{each-map, member-each}
 use Rattle.lists.specs.Tests.{allBelow}
 use Rattle.lists.proofs.Tests.{split, or-false-right, below-at}
-use Rattle.records.specs.Table.{table, rowOf, CH, FP, LC, kinds, HP, FU, AD, MM, RQ, HR, TH}
-use Rattle.records.specs.Record.{mark, isDated, kind, datable, size, fieldsAt, keyOf, widths}
+use Rattle.records.specs.Table.{table, rowOf, CH, FP, LC, AO, kinds, HP, FU, AD, MM, RQ, HR, TH}
+use Rattle.records.specs.Record.{mark, isDated, kind, datable, size, keyOf, keyIn, keyWidth}
 use Rattle.records.specs.MarkShapes.{shape, shapeOf, keyTest, body}
 use Rattle.records.specs.declared.Answer.the-variants.{Accepted}
 use Rattle.records.specs.Dossier.{firstOf, records, scan}
@@ -347,26 +347,25 @@ module _ (d ix : List ℕ) (h : Whole d ix) where
         (λ f. omega (arith, ap (λ (p : Part). p .start) (no-key k n f), ap (λ (p : Part). p .length) (no-key k n f))))
 
 -- no record has a slot beyond the widest index
-pub wide-up-to : (d : List ℕ) → scan 0 (records d) ≡ Accepted → UpTo d 6350
+pub wide-up-to : (d : List ℕ) → scan 0 (records d) ≡ Accepted → UpTo d 6510
 wide-up-to d h = each-map (λ r g. omega (arith, slot-lt (kind r) (keyOf r) (in-key r (g .0)))) (good-records d h)
 
 -- every record has a slot in an index of all slots
 pub wide-complete : (d ix : List ℕ) → Whole d ix → wide ≤ length ix → Complete d ix
 wide-complete d ix h w = each-map (λ r g. omega (arith, w, g)) (wide-up-to d (h .clean))
 
--- ---- keys and sizes fit
+-- ---- a key has no more bytes than its kind says
 
-pub key-small : (k n : ℕ) → InKey k n → n < 16777216
-unfolding Spans shapeOf shape rowOf table
+pub key-small : (k n : ℕ) → InKey k n → n < 256 ^ keyWidth k
+unfolding Spans shapeOf shape keyWidth keyIn rowOf table
 key-small k n p =
-    at-kind (λ j. InKey j n → n < 16777216) k n p (λ q. omega (arith, q .spans)) (λ q. omega (arith, q .spans)) (λ q. omega (arith, q .spans))
+    at-kind (λ j. InKey j n → n < 256 ^ keyWidth j) k n p (λ q. omega (arith, q .spans)) (λ q. omega (arith, q .spans)) (λ q. omega (arith, q .spans))
     (λ q. omega (arith, q .spans)) (λ q. omega (arith, q .spans)) (λ q. omega (arith, q .spans)) (λ q. omega (arith, q .spans)) (λ q. omega (arith, q .spans))
-    (λ q. omega (arith, q .spans)) (λ q. omega (arith, q .spans)) (λ q. omega (arith, q .spans)) p
+    (λ q. omega (arith, q .spans)) (λ q. omega (arith, q .spans)) (λ q. omega (arith, q .spans)) (λ q. omega (arith, q .spans)) p
 
-pub size-small : (k n : ℕ) → InKey k n → size k < 65536
-unfolding size fieldsAt widths rowOf table
-size-small k n p =
-    at-kind (λ j. size j < 65536) k n p (lit< tt) (lit< tt) (lit< tt) (lit< tt) (lit< tt) (lit< tt) (lit< tt) (lit< tt) (lit< tt) (lit< tt) (lit< tt)
+-- by a kind's name and how many bytes its keys have
+pub at-width : (j w : ℕ) {k n : ℕ} → keyWidth j ≡ w → k ≡ j → n < 256 ^ keyWidth k → n < 256 ^ w
+at-width j w e f h = rw (f, e) at h
 
 -- ---- the slot by kind
 
@@ -374,10 +373,11 @@ pub slot-kind : {k j n m r : ℕ} → r ≡ slot k m → m ≡ n → j ≡ k →
 slot-kind e f g = e ∙ ap₂ slot (sym g) f
 
 pub slot-none : (k n : ℕ) → k < kinds → (k ≡ HP → ⊥) → (k ≡ FU → ⊥) → (k ≡ AD → ⊥) → (k ≡ MM → ⊥) → (k ≡ RQ → ⊥) → (k ≡ HR → ⊥) → (k ≡ CH → ⊥) → (k ≡ TH → ⊥)
-    → (k ≡ FP → ⊥) → (k ≡ LC → ⊥) → 0 ≡ slot k n
+    → (k ≡ FP → ⊥) → (k ≡ LC → ⊥) → (k ≡ AO → ⊥) → 0 ≡ slot k n
 unfolding slot
-slot-none k n l a b c d e f g h i j =
+slot-none k n l a b c d e f g h i j o =
     split (eqb k 0)
     (λ z. rw (eqb-true k 0 z) refl)
     (λ z. by-kind (λ m. k ≡ m → 0 ≡ slot m n) (λ w. refl) (λ w. absurd (a w)) (λ w. absurd (b w)) (λ w. absurd (c w)) (λ w. absurd (d w)) (λ w. absurd (e w))
-    (λ w. absurd (f w)) (λ w. absurd (g w)) (λ w. absurd (h w)) (λ w. absurd (i w)) (λ w. absurd (j w)) k (eqb-false k 0 z) l refl)
+    (λ w. absurd (f w)) (λ w. absurd (g w)) (λ w. absurd (h w)) (λ w. absurd (i w)) (λ w. absurd (j w)) (λ w. absurd (o w)) k
+    (eqb-false k 0 z) l refl)

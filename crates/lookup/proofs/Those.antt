@@ -1,12 +1,12 @@
 -- The current record among those that pass a test.
-use mathlib.Core.Path.{_≡_, refl, ap, ap₂, sym, subst, _∙_}
-use mathlib.Core.Bool.{Bool, true, false, cond, _&&_, false≢true}
+use mathlib.Core.Path.{_≡_, refl, ap, sym, _∙_}
+use mathlib.Core.Bool.{Bool, true, false, cond, _&&_}
 use mathlib.Core.List.{List, [], _∷_}
 use Prim.Native.Nat.{ℕ, _<_}
 use native.Mathlib.Omega.{arith}
-use lib.Dec.{leb, eqb}
+use lib.Dec.{leb}
 use lib.ListN.{length}
-use borrow.Author.Tests.{eqb-true, eq-eqb, le-leb}
+use borrow.Author.Tests.{le-leb}
 use Rattle.lists.specs.Lists.{Each, done, also, Member, here, there, those}
 use Rattle.lists.proofs.Tests.{same-true, same-self}
 use Rattle.fields.proofs.Numbers.{number-nil}
@@ -26,19 +26,6 @@ module _ (k n : ℕ) (f : List ℕ → Bool) where
   taken : (b r : List ℕ) → matches k n r ≡ true → leb (issue b) (issue r) ≡ true → better k n b r ≡ r
   unfolding better
   taken b r q p = rw (q, p) refl
-
-  -- where every record that matches passes
-  pub all-those : (b : List ℕ) {l : List (List ℕ)} → Each (λ r. matches k n r ≡ true → f r ≡ true) l → currentFrom k n b (those f l) ≡ currentFrom k n b l
-  unfolding currentFrom those better
-  all-those b done = refl
-  all-those b (also {a = r} {l = l} t e) = go (f r) refl (matches k n r) refl (all-those b e) (all-those (better k n b r) e)
-    where
-      go : (x : Bool) → f r ≡ x → (m : Bool) → matches k n r ≡ m → currentFrom k n b (those f l) ≡ currentFrom k n b l
-          → currentFrom k n (better k n b r) (those f l) ≡ currentFrom k n (better k n b r) l
-          → currentFrom k n b (cond x (r ∷ those f l) (those f l)) ≡ currentFrom k n (better k n b r) l
-      go true p m q u v = v
-      go false p true q u v = absurd (false≢true (sym p ∙ t q))
-      go false p false q u v = u ∙ sym (ap (λ (z : List ℕ). currentFrom k n z l) (past b r q))
 
   -- where one that matches passes if it is c
   module _ (c : List ℕ) where

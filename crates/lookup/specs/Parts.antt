@@ -9,12 +9,12 @@ use Rattle.lists.specs.Lists.{Each, those}
 use Rattle.lists.specs.Tests.{everyOf, same}
 use Rattle.records.specs.declared.Answer.the-variants.{Accepted}
 use Rattle.records.specs.Table.{CH, FP, LC}
-use Rattle.records.specs.Record.{mark, kind, datable, size, keyOf}
+use Rattle.records.specs.Record.{mark, kind, size, keyOf}
 use Rattle.records.specs.Answers.{isAccepted}
 use Rattle.records.specs.Dossier.{records, scan}
 use Rattle.records.specs.Walk.{folded, walk}
 use Rattle.station.specs.Current.{current, startOf, longest, readable}
-use Rattle.station.specs.InForce.{inForce}
+use Rattle.station.specs.InForce.{Query, inForce, varies}
 use Rattle.station.specs.Parameters.{Parameters, Amounts, parameters, amounts}
 use Rattle.index.specs.declared.Passed.{Passed}
 use Rattle.index.specs.declared.Passed.the-variants.{Stopped}
@@ -108,19 +108,19 @@ pub record Whole (d ix : List ℕ) : Type 0 where
   pub clean : scan 0 (records d) ≡ Accepted
   pub here : ix ≡ indexOf (length ix) d
 
--- with an index of the records in force at an hour
-abbrev pub AtHour : ℕ → List ℕ → List ℕ → Type 0
-AtHour h d ix = IndexOf (inForce h (records d)) d ix
+-- with an index of the records in force for a query
+abbrev pub AtQuery : Query → List ℕ → List ℕ → Type 0
+AtQuery q d ix = IndexOf (inForce q (records d)) d ix
 
--- with an index of some of its records: of kinds that may have first hours those that a test holds of, which no contract names, and of others all
+-- with an index of some of its records: of kinds of which queries may see other records those that a test holds of, which no contract names, and of others all
 pub record Indexed (d ix : List ℕ) : Type 0 where
   pub keep : List ℕ → Bool
-  pub others : (r : List ℕ) → datable (kind r) ≡ false → keep r ≡ true
+  pub others : (r : List ℕ) → varies (kind r) ≡ false → keep r ≡ true
   pub index : IndexOf (those keep (records d)) d ix
 
--- a record of a kind that may have first hours stands in its slot
+-- a record stands in its slot, if queries may see other records of its kind
 unfoldable pub stands : List ℕ → List ℕ → List ℕ → Bool
-stands d ix r = not (datable (kind r)) || same r (heldRecord d (getD ix (slot (kind r) (keyOf r)) 0))
+stands d ix r = not (varies (kind r)) || same r (heldRecord d (getD ix (slot (kind r) (keyOf r)) 0))
 
 -- the records of which the index at hand holds the current ones
 unfoldable pub held : List ℕ → List ℕ → List (List ℕ)

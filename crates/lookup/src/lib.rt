@@ -2,13 +2,13 @@
 ghost use mathlib.Core.Path.{_≡_};
 ghost use mathlib.Core.Bool.{Bool, false};
 ghost use mathlib.Core.List.{[], _∷_};
-ghost use Prim.Native.Nat.{ℕ, _+_, _*_, _/_, _%_, _<_, _≤_};
+ghost use Prim.Native.Nat.{ℕ, _+_, _*_, _/_, _%_, _^_, _<_, _≤_};
 ghost use lib.Dec.{ltb};
 ghost use lib.ListN.{length, getD};
 ghost use Rattle.fields.specs.Numbers.{number};
 ghost use Rattle.records.specs.declared.Answer.the-variants.{Accepted};
-ghost use Rattle.records.specs.Table.{RS, HP, FU, AD, MM, RQ, HR, TH, FP, LC, kinds};
-ghost use Rattle.records.specs.Record.{mark, kindOf};
+ghost use Rattle.records.specs.Table.{RS, HP, FU, AD, MM, RQ, HR, TH, FP, LC, AO, kinds};
+ghost use Rattle.records.specs.Record.{mark, kindOf, keyWidth};
 ghost use Rattle.records.specs.MarkShapes.{body};
 ghost use Rattle.records.specs.Dossier.{records, scan};
 ghost use Rattle.station.specs.Current.{longest, current, readable, lookupBytes};
@@ -265,6 +265,19 @@ pub fn ad<'a>(d: &'a [u8], index: &[u16], p: usize, c: usize, v: usize) -> &'a [
     body_at(d, index, index::keys::slot_ad(p, c, v), records::AD.length)
 }
 
+// The current AO of an owner, profile, cost and level, which has no first hour.
+pub fn ao<'a>(d: &'a [u8], index: &[u16], o: usize, p: usize, c: usize, v: usize) -> &'a [u8]
+    requires { ⌜ Indexed (now d) (now index) × (1 ≤ o) × (o ≤ 2) × (1 ≤ p) × (p ≤ 4) × (1 ≤ c) × (c ≤ 5) × (1 ≤ v) × (v ≤ 4) ⌝ }
+    ensures { λ r. ⌜ now r ≡ current AO (o * 16777216 + p * 65536 + c * 256 + v) (held (now (d .entry)) (now (index .entry))) ⌝ }
+{
+    record_at(
+        d,
+        index,
+        index::keys::slot_ao(o, p, c, v),
+        records::AO.length,
+    )
+}
+
 // The same of the current MM of a profile and item.
 pub fn mm<'a>(d: &'a [u8], index: &[u16], p: usize, j: usize) -> &'a [u8]
     requires { ⌜ Indexed (now d) (now index) × (1 ≤ p) × (p ≤ 4) × (1 ≤ j) × (j ≤ 8) ⌝ }
@@ -317,9 +330,9 @@ pub fn fp<'a>(d: &'a [u8], index: &[u16], n: usize) -> &'a [u8]
     record_at(d, index, j, records::FP.length)
 }
 
-// The slot of a kind and key.
+// The slot of a kind and key; the number has no more bytes than its keys have.
 pub fn slot_of(kind: usize, n: usize) -> usize
-    requires { ⌜ (n < 16777216) × (kind < kinds) ⌝ }
+    requires { ⌜ (n < 256 ^ keyWidth kind) × (kind < kinds) ⌝ }
     ensures { λ r. ⌜ r ≡ slot kind n ⌝ }
 {
     if kind == records::marks::HP {
@@ -351,6 +364,9 @@ pub fn slot_of(kind: usize, n: usize) -> usize
     }
     if kind == records::marks::LC {
         return index::keys::slot_lc();
+    }
+    if kind == records::marks::AO {
+        return index::keys::slot_ao(n / 16777216, n / 65536 % 256, n / 256 % 256, n % 256);
     }
     0
 }
@@ -455,7 +471,7 @@ fn lookup_part(d: &[u8], kind: usize, n: usize) -> Part
 
 // A key's bytes as a number.
 fn key_number(key: &[u8]) -> usize
-    requires { ⌜ length (now key) ≤ 3 ⌝ }
+    requires { ⌜ length (now key) ≤ 4 ⌝ }
     ensures { λ r. ⌜ r ≡ number 0 (length (now (key .entry))) (now (key .entry)) ⌝ }
 {
     if key.len() == 0 {
@@ -467,7 +483,10 @@ fn key_number(key: &[u8]) -> usize
     if key.len() == 2 {
         return fields::u16_at(key, 0) as usize;
     }
-    (fields::u16_at(key, 0) as usize) * 256 + (fields::u8_at(key, 2) as usize)
+    if key.len() == 3 {
+        return (fields::u16_at(key, 0) as usize) * 256 + (fields::u8_at(key, 2) as usize);
+    }
+    fields::u32_at(key, 0) as usize
 }
 
 // The lookup: the part of the dossier that holds the current record of a mark and key is handed back, be it of that mark or of the one with or without a

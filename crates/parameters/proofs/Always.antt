@@ -1,4 +1,4 @@
--- What is worked out of RS and HP, which are not dated, is the same of the index at hand and of the dossier.
+-- What is worked out of RS and HP, of which every query sees the same, is the same of the index at hand and of the dossier.
 use Rattle.records.specs.Record.{datable}
 use mathlib.Core.Path.{_≡_, refl}
 use mathlib.Core.List.{List}

@@ -8,7 +8,7 @@ ghost use lib.Dec.{eqb};
 ghost use Rattle.records.specs.Dossier.{records};
 ghost use Rattle.station.specs.Parameters.{parameters, amounts, technology, capacity, factor, startHeat, noLoadHeat, incrementalFuel, charge, efficiency};
 ghost use Rattle.station.specs.Parameters.{window, output, heat, fuel, emission, adder, costC, outputW, intervalT, hoursPerStartS, firstHour, lastHour};
-ghost use Rattle.station.specs.Parameters.{requested, percent, margin, floor, hourPrice, placePrice, lastCost};
+ghost use Rattle.station.specs.Parameters.{requested, percent, margin, floor, hourPrice, placePrice, lastCost, ownAdder};
 ghost use Rattle.index.specs.Slots.{narrow};
 ghost use Rattle.lookup.specs.Parts.{Indexed, Complete, parametersHeld, amountsHeld};
 ghost use Rattle.rules.specs.Curve.{points, fullHours};
@@ -142,6 +142,13 @@ pub fn adder(d: &[u8], index: &[u16], p: usize, c: usize, v: usize) -> u64
     ensures { λ r. ⌜ (r ≡ adder (amountsHeld (now (d .entry)) (now (index .entry))) p c v) × (r ≤ 1000000000000) ⌝ }
 {
     fields::u64_at(lookup::ad(d, index, p, c, v), 9)
+}
+
+pub fn own_adder(d: &[u8], index: &[u16], o: usize, p: usize, c: usize, v: usize) -> u64
+    requires { ⌜ Indexed (now d) (now index) × (1 ≤ o) × (o ≤ 2) × (1 ≤ p) × (p ≤ 4) × (1 ≤ c) × (c ≤ 5) × (1 ≤ v) × (v ≤ 4) ⌝ }
+    ensures { λ r. ⌜ (r ≡ ownAdder (amountsHeld (now (d .entry)) (now (index .entry))) o p c v) × (r ≤ 1000000000000) ⌝ }
+{
+    fields::u64_at(lookup::ao(d, index, o, p, c, v), 10)
 }
 
 pub fn item_cost(d: &[u8], index: &[u16], p: usize, j: usize) -> u64

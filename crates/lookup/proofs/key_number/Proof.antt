@@ -14,7 +14,12 @@ returns-3 : tie.Need-returns-3
 returns-3 c = number-at (c .before .before .before .before .before .args .key .now) 2 (c .before .if3 .taken) (c .u16-at .ensures)
 
 returns-4 : tie.Need-returns-4
-returns-4 c = number-3 (c .before .before .before .before .before .before .args .key .now) (omega arith) (c .before .u16-at2 .ensures) (c .u8-at2 .ensures)
+returns-4 c =
+    number-3 (c .before .before .before .before .before .before .before .args .key .now) (c .before .before .if4 .taken) (c .before .u16-at2 .ensures)
+    (c .u8-at2 .ensures)
+
+returns-5 : tie.Need-returns-5
+returns-5 c = number-at (c .before .before .before .before .before .before .args .key .now) 4 (omega arith) (c .u32-at .ensures)
 
 pub key-number-spec : {M : Type 1} → statement M
 key-number-spec =
@@ -33,4 +38,7 @@ key-number-spec =
     (λ c κs. search needs)
     (λ c. search needs)
     (λ c. search needs)
-    returns-4)
+    returns-4
+    (λ c κs. search needs)
+    (λ c. search needs)
+    returns-5)

@@ -1,10 +1,60 @@
 use mathlib.Core.Path.{refl}
 use native.Mathlib.Omega.{arith}
+use Rattle.records.specs.Table.{table, rowOf, HP, FU, AD, MM, RQ, HR, CH, TH, FP, AO}
+use Rattle.records.specs.Record.{keyIn, keyWidth}
 use Rattle.index.specs.Slots.{slot}
-use Rattle.lookup.proofs.Parts.{slot-kind, slot-none}
+use Rattle.lookup.proofs.Parts.{at-width, slot-kind, slot-none}
 use borrow.Author.Needs.{needs}
 use Rattle.lookup.proofs.slot_of.Statement.{statement}
 use Rattle.lookup.proofs.slot_of.Tie as tie
+
+slot-hp-requires : tie.Need-slot-hp-requires
+unfolding keyWidth keyIn rowOf table
+slot-hp-requires c κs = omega (arith, at-width HP 1 refl (c .if1 .taken) (c .before .pre .0))
+
+slot-fu-requires : tie.Need-slot-fu-requires
+unfolding keyWidth keyIn rowOf table
+slot-fu-requires c κs = omega (arith, at-width FU 1 refl (c .if2 .taken) (c .before .before .pre .0))
+
+slot-ad-requires : tie.Need-slot-ad-requires
+unfolding keyWidth keyIn rowOf table
+slot-ad-requires c κs = (omega (arith, at-width AD 3 refl (c .if3 .taken) (c .before .before .before .pre .0)), search needs, search needs)
+
+slot-mm-requires : tie.Need-slot-mm-requires
+unfolding keyWidth keyIn rowOf table
+slot-mm-requires c κs = (omega (arith, at-width MM 2 refl (c .if4 .taken) (c .before .before .before .before .pre .0)), search needs)
+
+slot-rq-requires : tie.Need-slot-rq-requires
+unfolding keyWidth keyIn rowOf table
+slot-rq-requires c κs = omega (arith, at-width RQ 1 refl (c .if5 .taken) (c .before .before .before .before .before .pre .0))
+
+slot-hr-requires : tie.Need-slot-hr-requires
+unfolding keyWidth keyIn rowOf table
+slot-hr-requires c κs = omega (arith, at-width HR 1 refl (c .if6 .taken) (c .before .before .before .before .before .before .pre .0))
+
+slot-ch-requires : tie.Need-slot-ch-requires
+unfolding keyWidth keyIn rowOf table
+slot-ch-requires c κs = omega (arith, at-width CH 2 refl (c .if7 .taken) (c .before .before .before .before .before .before .before .pre .0))
+
+slot-th-requires : tie.Need-slot-th-requires
+unfolding keyWidth keyIn rowOf table
+slot-th-requires c κs = (
+  omega (arith, at-width TH 2 refl (c .if8 .taken) (c .before .before .before .before .before .before .before .before .pre .0)),
+  search needs,
+)
+
+slot-fp-requires : tie.Need-slot-fp-requires
+unfolding keyWidth keyIn rowOf table
+slot-fp-requires c κs = omega (arith, at-width FP 2 refl (c .if9 .taken) (c .before .before .before .before .before .before .before .before .before .pre .0))
+
+slot-ao-requires : tie.Need-slot-ao-requires
+unfolding keyWidth keyIn rowOf table
+slot-ao-requires c κs = (
+  omega (arith, at-width AO 4 refl (c .if11 .taken) (c .before .before .before .before .before .before .before .before .before .before .before .pre .0)),
+  search needs,
+  search needs,
+  search needs,
+)
 
 returns : tie.Need-returns
 returns c = slot-kind (c .slot-hp .ensures) refl (c .before .if1 .taken)
@@ -38,36 +88,40 @@ unfolding slot
 returns-10 c = slot-kind (c .slot-lc .ensures) refl (c .before .if10 .taken)
 
 returns-11 : tie.Need-returns-11
-returns-11 c =
-    slot-none _ _ (c .before .before .before .before .before .before .before .before .before .before .pre .1)
-    (c .before .before .before .before .before .before .before .before .before .if1 .left)
-    (c .before .before .before .before .before .before .before .before .if2 .left) (c .before .before .before .before .before .before .before .if3 .left)
-    (c .before .before .before .before .before .before .if4 .left) (c .before .before .before .before .before .if5 .left)
-    (c .before .before .before .before .if6 .left) (c .before .before .before .if7 .left) (c .before .before .if8 .left) (c .before .if9 .left)
-    (c .if10 .left)
+returns-11 c = slot-kind (c .slot-ao .ensures) (omega arith) (c .before .if11 .taken)
+
+returns-12 : tie.Need-returns-12
+returns-12 c =
+    let d = c .before .before .before .before .before in
+    slot-none _ _ (d .before .before .before .before .before .before .pre .1)
+    (d .before .before .before .before .before .if1 .left) (d .before .before .before .before .if2 .left) (d .before .before .before .if3 .left)
+    (d .before .before .if4 .left) (d .before .if5 .left) (d .if6 .left) (c .before .before .before .before .if7 .left) (c .before .before .before .if8 .left)
+    (c .before .before .if9 .left) (c .before .if10 .left) (c .if11 .left)
 
 pub slot-of-spec : {M : Type 1} → statement M
 slot-of-spec =
     tie.close
     (tie.spec
-    (λ c κs. search needs)
+    slot-hp-requires
     returns
-    (λ c κs. search needs)
+    slot-fu-requires
     returns-2
-    (λ c κs. search needs)
+    slot-ad-requires
     returns-3
-    (λ c κs. search needs)
+    slot-mm-requires
     returns-4
-    (λ c κs. search needs)
+    slot-rq-requires
     returns-5
-    (λ c κs. search needs)
+    slot-hr-requires
     returns-6
-    (λ c κs. search needs)
+    slot-ch-requires
     returns-7
-    (λ c κs. search needs)
+    slot-th-requires
     returns-8
-    (λ c κs. search needs)
+    slot-fp-requires
     returns-9
     (λ c κs. search needs)
     returns-10
-    returns-11)
+    slot-ao-requires
+    returns-11
+    returns-12)

@@ -1,5 +1,5 @@
 use mathlib.Core.Path.{refl, sym, _∙_}
-use Rattle.records.specs.Table.{HP, FU, AD, MM, RQ, HR, CH, TH, FP, table}
+use Rattle.records.specs.Table.{RS, HP, FU, AD, MM, RQ, HR, CH, TH, FP, table}
 use Rattle.records.specs.Record.{markIn}
 use Rattle.records.proofs.EveryMark.{letters-rare}
 use Rattle.index.proofs.Entries.{reading-short, reading-as}
@@ -75,9 +75,19 @@ returns-10 c =
     c .read-rq .ensures ∙ reading-as 82 81 RQ _ refl refl
     (b .before .before .before .before .before .before .before .before .if1 .left) (sym (c .before .before .is-mark8 .ensures) ∙ c .before .if10 .taken)
 
+returns-11 : tie.Need-returns-11
+unfolding markIn table
+returns-11 c =
+    let a = c .before .before .before .before .before .before .before .before .before .before in
+    let b = a .before .before .before .before .before .before .before .before .before .before in
+    c .read-rs .ensures ∙ reading-as 82 83 RS _ refl refl
+    (b .before .before .before .before .before .before .before .before .before .before .before .if1 .left)
+    (sym (c .before .before .is-mark9 .ensures) ∙ c .before .if11 .taken)
+
 read-rare-requires : tie.Need-read-rare-requires
 read-rare-requires c κs =
-    let c8 = c .before .before .before in
+    let c9 = c .before .before .before in
+    let c8 = c9 .before .before .before in
     let c7 = c8 .before .before .before in
     let c6 = c7 .before .before .before in
     let c5 = c6 .before .before .before in
@@ -88,13 +98,14 @@ read-rare-requires c κs =
       c1 .before .before .before .if1 .left,
       letters-rare _ (sym (c2 .before .is-mark .ensures) ∙ c2 .if3 .left)
           (sym (c6 .before .is-mark5 .ensures) ∙ c6 .if7 .left) (sym (c7 .before .is-mark6 .ensures) ∙ c7 .if8 .left)
-          (sym (c8 .before .is-mark7 .ensures) ∙ c8 .if9 .left) (sym (c .before .is-mark8 .ensures) ∙ c .if10 .left)
+          (sym (c8 .before .is-mark7 .ensures) ∙ c8 .if9 .left) (sym (c9 .before .is-mark8 .ensures) ∙ c9 .if10 .left)
           (sym (c4 .before .is-mark3 .ensures) ∙ c4 .if5 .left) (sym (c1 .before .begins-with .ensures) ∙ c1 .if2 .left)
           (sym (c3 .before .is-mark2 .ensures) ∙ c3 .if4 .left) (sym (c5 .before .is-mark4 .ensures) ∙ c5 .if6 .left),
+      sym (c .before .is-mark9 .ensures) ∙ c .if11 .left,
     )
 
-returns-11 : tie.Need-returns-11
-returns-11 c = c .read-rare .ensures
+returns-12 : tie.Need-returns-12
+returns-12 c = c .read-rare .ensures
 
 pub read-spec : {M : Type 1} → statement M
 read-spec =
@@ -128,5 +139,8 @@ read-spec =
     (λ c κs. search needs)
     (λ c κs. search needs)
     returns-10
+    (λ c κs. search needs)
+    (λ c κs. search needs)
+    returns-11
     read-rare-requires
-    returns-11)
+    returns-12)
