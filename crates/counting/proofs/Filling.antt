@@ -24,12 +24,13 @@ use Rattle.records.proofs.Read.{number-take}
 use Rattle.records.proofs.Dossier.{scan-each}
 use Rattle.records.proofs.Over.{tail, Over, begins, ends, its-known, its-fault, its-mark, its-length, its-found, within, goes-on}
 use Rattle.index.specs.Slots.{slot, slotAt}
+use Rattle.index.proofs.KeyBounds.{in-key}
 use Rattle.index.proofs.Turn.{its-slot}
 use Rattle.lookup.specs.Parts.{Whole, Complete}
 use Rattle.trials.specs.Trials.{valued}
 use Rattle.counting.specs.Sweep.{hidden, shown, hidesAt, hiddenAt, group, groupAt, packed, idsFrom, placeIn, recordAt, Numbered}
 use Rattle.counting.proofs.Least.{each-append}
-use Rattle.counting.proofs.Group.{its-group, its-bound, group-lt}
+use Rattle.counting.proofs.Group.{its-group, group-lt}
 use Rattle.counting.proofs.Loops.{since-first}
 use Rattle.counting.proofs.Held.{valued-size, hides-is}
 
@@ -101,7 +102,7 @@ module _ (all : Bool) (d ix a : List ℕ) (count p : ℕ) (h : p < length d) (o 
         ∙ sym (its-group s n size-is same)
 
     pub fill-low : g < 65536
-    fill-low = rw group-is (group-lt (kind r) (keyOf r) (its-bound r clean))
+    fill-low = rw group-is (group-lt (kind r) (keyOf r) (in-key r clean))
 
     module _ {i : ℕ} (ei : i ≡ number 2 4 (take (length d - p) (drop p d))) (li : i < 4294967296) where
       issue-here : number 2 4 s ≡ issue r

@@ -25,10 +25,11 @@ use Rattle.station.specs.Declared.{Distinct, Counting}
 use Rattle.station.proofs.Current.{matches-kind, matches-key, matches-self}
 use Rattle.station.proofs.InForce.{counts-permuted, counts-declared, declared-counts}
 use Rattle.station.proofs.Twins.{twins-distinct, distinct-permuted, distinct-those}
+use Rattle.index.proofs.KeyBounds.{in-key}
 use Rattle.rules.specs.Fit.{fits, unfit}
 use Rattle.counting.specs.Sweep.{shown, group, idsFrom, groupIn, placeIn, recordAt, Numbered, keptBy, Thinned, whole, without, Clean, Sought}
 use Rattle.counting.specs.Sweep.{never, nowhere, leastOf, sweptBy, stepped, sweptIn, answerAt}
-use Rattle.counting.proofs.Group.{group-apart, its-bound}
+use Rattle.counting.proofs.Group.{group-apart}
 use Rattle.counting.proofs.Least.{leastSince, least-none, least-more, each-append, counts-least}
 use Rattle.counting.proofs.Hidden.{same-truth, counts-shown, unshown-fits}
 use Rattle.counting.proofs.Loops.{since-first, fits-first}
@@ -68,7 +69,7 @@ module _ (d : List ℕ) where
   group-in x n = omega (arith, n .number, n .narrow)
 
   same-kind : (x y : ℕ) → Numbered d x → Numbered d y → groupOf x ≡ groupOf y → (kind (rec x) ≡ kind (rec y)) × (keyOf (rec x) ≡ keyOf (rec y))
-  same-kind x y n m e = group-apart _ _ _ _ (its-bound (rec x) (n .clean)) (its-bound (rec y) (m .clean)) e
+  same-kind x y n m e = group-apart _ _ _ _ (in-key (rec x) (n .clean)) (in-key (rec y) (m .clean)) e
 
   matches-group : (x y : ℕ) → matches (kind (rec x)) (keyOf (rec x)) (rec y) ≡ true → groupOf y ≡ groupOf x
   matches-group x y e = rw (matches-kind (kind (rec x)) (keyOf (rec x)) (rec y) e, matches-key (kind (rec x)) (keyOf (rec x)) (rec y) e) refl

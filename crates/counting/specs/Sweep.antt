@@ -11,7 +11,7 @@ use Rattle.lists.specs.Lists.{Member, those}
 use Rattle.fields.specs.Numbers.{number}
 use Rattle.records.specs.declared.Answer.{Answer}
 use Rattle.records.specs.declared.Answer.the-variants.{Accepted, Refused}
-use Rattle.records.specs.Table.{AD}
+use Rattle.records.specs.Table.{AD, AO}
 use Rattle.records.specs.Record.{mark, kindOf, kind, fieldsAt, keyWidth, keyOf, issue, since, fault}
 use Rattle.records.specs.MarkShapes.{shortest}
 use Rattle.records.specs.Dossier.{firstOf, records}
@@ -44,9 +44,12 @@ hiddenAt d ix k s = not (not (valued k) || ltb (length s) 15) && hidesAt d (getD
 
 -- ---- a number for each record
 
--- kind and key in 16 bits: four for the kind, and one more kind for each profile of AD; the law `group-apart` says that no two share it
+-- kind and key in 16 bits: four for the kind, one more kind for each profile of AD, and for AO that of AD, with its key in mixed radix; the law
+-- `group-apart` says that no two share it
 unfoldable pub group : ℕ → ℕ → ℕ
-group k n = cond (eqb k AD) (11 + n / 65536) k * 4096 + n % 65536
+group k n =
+    cond (eqb k AO) (AD * 4096 + (n / 16777216 * 80 + n / 65536 % 256 * 20 + n / 256 % 256 * 4 + n % 256))
+    (cond (eqb k AD) (11 + n / 65536) k * 4096 + n % 65536)
 
 -- of a record of mark k at the front of s, read in place
 unfoldable pub groupAt : ℕ → List ℕ → ℕ

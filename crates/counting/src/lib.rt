@@ -37,14 +37,14 @@ fn fields_from(k: usize) -> usize
     requires { ⌜ k < marks ⌝ }
     ensures { λ r. ⌜ r ≡ fieldsAt k ⌝ }
 {
-    if k <= marks::LC { 6 } else { 10 }
+    if k <= marks::AO { 6 } else { 10 }
 }
 
 // The first hour of the record at the front.
 fn since_at(s: &[u8]) -> u32
     ensures { λ r. ⌜ r ≡ since (now (s .entry)) ⌝ }
 {
-    if records::mark_at(s) <= marks::LC {
+    if records::mark_at(s) <= marks::AO {
         0
     } else {
         fields::u32_at(s, 6)
@@ -64,6 +64,13 @@ fn group_at(k: usize, s: &[u8]) -> usize
     }
     if (kind == 0) | (kind == marks::RS) | (kind == marks::LC) {
         return kind * 4096;
+    }
+    if kind == marks::AO {
+        return marks::AD * 4096
+            + (fields::u8_at(s, from) as usize) * 80
+            + (fields::u8_at(s, from + 1) as usize) * 20
+            + (fields::u8_at(s, from + 2) as usize) * 4
+            + (fields::u8_at(s, from + 3) as usize);
     }
     if (kind == marks::HP) | (kind == marks::FU) | (kind == marks::RQ) | (kind == marks::HR) {
         return kind * 4096 + (fields::u8_at(s, from) as usize);

@@ -2,14 +2,13 @@
 use mathlib.Core.Path.{_≡_, refl, ap, ap₂, sym, _∙_}
 use mathlib.Core.Bool.{Bool, true, false, _&&_, not}
 use mathlib.Core.List.{List}
-use Prim.Native.Nat.{ℕ, _+_, _-_, _*_, _≤_, _<_}
+use Prim.Native.Nat.{ℕ, _+_, _-_, _^_, _≤_, _<_}
 use native.Mathlib.Omega.{arith}
 use lib.Dec.{eqb}
 use lib.ListN.{length, take, drop}
 use Rattle.lists.proofs.Lists.{each-map, each-both}
 use Rattle.lists.proofs.Tests.{and-true}
 use Rattle.fields.specs.Numbers.{number}
-use Rattle.fields.proofs.Numbers.{number-join}
 use Rattle.records.specs.declared.Answer.{Answer}
 use Rattle.records.specs.declared.Answer.the-variants.{Accepted, Refused}
 use Rattle.records.specs.declared.MarkShape.{MarkShape}
@@ -48,16 +47,8 @@ fit-passes d ix s f e = rw e (go (eqb (number 2 4 s) (number 2 4 (partAt d ix (s
     go false = refl
 
 -- the key of a record, by its width
-module _ (s : List ℕ) (w : ℕ) where
-  pub key-none : w ≡ 0 → 0 ≡ number 6 w s
-  unfolding number
-  key-none e = rw e refl
-
-  pub key-of : {n x : ℕ} → w ≡ n → x ≡ number 6 n s → x ≡ number 6 w s
-  key-of e q = rw e q
-
-  pub key-long : {a b : ℕ} → w ≡ 3 → a ≡ number 6 2 s → b ≡ number 8 1 s → a * 256 + b ≡ number 6 w s
-  key-long e p q = rw (e, p, q) (sym (number-join 6 2 1 s))
+pub key-of : (s : List ℕ) (w n x : ℕ) → w ≡ n → x ≡ number 6 n s → x < 256 ^ n → (x ≡ number 6 w s) × (x < 256 ^ w)
+key-of s w n x e q b = rw e (q, b)
 
 -- the slot of a record, by the row of its mark
 pub slot-here : (s : List ℕ) → isDated (mark s) ≡ false → {k n j : ℕ} {m : MarkShape} → k ≡ mark s → m ≡ shapeOf k → n ≡ number 6 (m .width) s → j ≡ slot k n

@@ -1,5 +1,5 @@
 -- 6 by the slots of the index, and by what FU and MM say: where no slot has a record that does not fit, none does.
-use mathlib.Core.Path.{_≡_, refl, ap, ap₂, sym, subst, _∙_}
+use mathlib.Core.Path.{_≡_, refl, ap₂, sym, subst, _∙_}
 use mathlib.Core.Bool.{Bool, true, false, _&&_, _||_, not, false≢true}
 use mathlib.Core.List.{List, [], _∷_}
 use Prim.Native.Nat.{ℕ, _+_, _-_, _*_, _/_, _%_, _≤_, _<_}
@@ -8,14 +8,14 @@ use native.Mathlib.Omega.{arith}
 use lib.Bits.{bitOr}
 use lib.Dec.{ltb, eqb}
 use lib.ListN.{length, getD, List·getD-eq-default}
-use borrow.Author.Tests.{ltb-true, ltb-false, lt-ltb, eqb-true, eq-eqb, not-true}
+use borrow.Author.Tests.{ltb-false, lt-ltb, le-ltb, eqb-true, eq-eqb, not-true}
 use Rattle.lists.specs.Lists.{Each, done, also, Member, here, there}
 use Rattle.lists.specs.Tests.{allBelow, allTo, among, everyOf}
 use Rattle.lists.proofs.Lists.{each-map, each-both, each-of, member-each, members}
 use Rattle.lists.proofs.Tests.{and-true, and-left, and-right, split, below-at, to-at, at-to, or-none}
 use Rattle.fields.specs.Numbers.{number}
 use Rattle.records.specs.declared.Answer.the-variants.{Accepted}
-use Rattle.records.specs.Table.{table, rowOf, thermal, nuclear, storage, hydro, marks, RS, HP, FU, AD, MM, RQ, HR, CH, TH, FP, LC, AV}
+use Rattle.records.specs.Table.{table, rowOf, thermal, nuclear, storage, hydro, marks, RS, HP, FU, AD, MM, RQ, HR, CH, TH, FP, LC, AO, AV}
 use Rattle.records.specs.MarkShapes.{shape, shapeOf, body}
 use Rattle.records.specs.Record.{mark, isDated, kindOf, kind, datable, issue, fieldsAt, keyIn, keyWidth, keyOf, rangesHold, fault}
 use Rattle.records.specs.Answers.{refuseIf}
@@ -31,7 +31,7 @@ use Rattle.station.specs.Declared.{CurrentOf, absent, standing, Distinct}
 use Rattle.station.proofs.Current.{current-found, matches-self}
 use Rattle.station.proofs.InForce.{counts-other}
 use Rattle.station.proofs.Twins.{twins-distinct}
-use Rattle.index.specs.Slots.{narrow, slot, slotsEmpty}
+use Rattle.index.specs.Slots.{short, narrow, slot, slotsEmpty}
 use Rattle.index.proofs.KeyBounds.{Spans, InKey, in-key, at-kind}
 use Rattle.index.proofs.Slots.{low, high, limits, in-empty}
 use Rattle.lookup.specs.Parts.{Whole, Complete, UpTo}
@@ -40,8 +40,9 @@ use Rattle.lookup.proofs.Keys.{item-key}
 use Rattle.lookup.proofs.Parts.{current-in-empty, slot-tells, fits as roomy-fits}
 use Rattle.rules.specs.Fit.{Known, holds, fits, unfit}
 use Rattle.trials.specs.Trials.{valued, valueFits, KeysFit}
-use Rattle.fit.specs.BySlots.{fourthsEmpty, pointsFit, itemsFit, profilesFit, levelFits, proratedFit, pricedFit, slotsFit, valuesFit}
-use Rattle.rules.proofs.ByMark.{fits-rs, fits-hp, fits-fu, fits-mm, fits-rq, fits-hr, fits-ch, fits-fp, fits-lc, fits-body, held-ad, held-av, held-th}
+use Rattle.fit.specs.BySlots.{fourthsEmpty, pointsFit, itemsFit, profilesFit, levelFits, proratedFit, ownLevelFits, ownProratedFit, ownersFit}
+use Rattle.fit.specs.BySlots.{pricedFit, slotsFit, valuesFit}
+use Rattle.rules.proofs.ByMark.{fits-rs, fits-hp, fits-fu, fits-mm, fits-rq, fits-hr, fits-ch, fits-fp, fits-lc, fits-body, held-ad, held-av, held-th, held-ao}
 use Rattle.station.proofs.Undated.{undated-counts}
 
 -- ---- where no two records are twins, one that has the current one's issue is the current one
@@ -134,6 +135,11 @@ three true true c h = (refl, refl, h)
 three true false c h = absurd (false≢true h)
 three false b c h = absurd (false≢true h)
 
+four : (a b c d : Bool) → a && b && c && d ≡ true → (a ≡ true) × (b ≡ true) × (c ≡ true) × (d ≡ true)
+four a b c d h =
+    let t = three (a && b) c d h in
+    (and-left a b (t .0), and-right a b (t .0), t .1, t .2)
+
 module _ (ix : List ℕ) where
   in-fourths : (a n i j : ℕ) → fourthsEmpty ix a n ≡ true → i < n → a + 4 * i ≡ j → eqb (getD ix j 0) 0 ≡ true
   unfolding fourthsEmpty
@@ -154,12 +160,12 @@ module _ (t : ℕ) (ix rs : List ℕ) (top : ℕ) where
     unfolding slotsFit
     placed = and-left _ _ e
 
-    parts : (fits t RS rs && pointsFit t ix && allTo 4 (levelFits t ix) ≡ true) × (proratedFit t ix ≡ true) × (pricedFit t ix top ≡ true)
+    parts : (fits t RS rs && pointsFit t ix && allTo 4 (levelFits t ix) && proratedFit t ix ≡ true) × (ownersFit t ix top ≡ true) × (pricedFit t ix top ≡ true)
     unfolding slotsFit
     parts = three _ _ _ (and-right (eqb t hydro || not (ltb narrow (length ix))) _ e)
 
-    first-parts : (fits t RS rs ≡ true) × (pointsFit t ix ≡ true) × (allTo 4 (levelFits t ix) ≡ true)
-    first-parts = three _ _ _ (parts .0)
+    first-parts : (fits t RS rs ≡ true) × (pointsFit t ix ≡ true) × (allTo 4 (levelFits t ix) ≡ true) × (proratedFit t ix ≡ true)
+    first-parts = four _ _ _ _ (parts .0)
 
     fit-hp : (n : ℕ) → InKey HP n → Fit HP n
     unfolding low high
@@ -189,27 +195,68 @@ module _ (t : ℕ) (ix rs : List ℕ) (top : ℕ) where
     unfolding slot Spans shapeOf shape rowOf table
     prorated w n q five =
         let p = n / 65536 - 1 in
-        in-empty ix (42 + 20 * p) 4 (slot AD n) (below-at 4 (λ p. slotsEmpty ix (42 + 20 * p) 4) (or-right (eqb t nuclear) _ w (parts .1)) p
+        in-empty ix (42 + 20 * p) 4 (slot AD n) (below-at 4 (λ p. slotsEmpty ix (42 + 20 * p) 4) (or-right (eqb t nuclear) _ w (first-parts .3)) p
         (omega (arith, q .spans))) (omega (arith, q .spans, five)) (omega (arith, q .spans, five))
 
-    -- of an adder's key that has a slot the level is held, and cost 5 is nuclear
-    adder-key : (n : ℕ) → InKey AD n → eqb (getD ix (slot AD n) 0) 0 ≡ false → (holds t (n % 256) ≡ true) × (n / 256 % 256 ≡ 5 → t ≡ 2)
-    unfolding slot Spans shapeOf shape rowOf table
-    adder-key n q z = (
-      split (holds t (n % 256)) (λ w. w) (λ w. absurd (false≢true (sym z ∙ in-fourths ix (25 + n % 256) 20 (5 * (n / 65536 - 1) + (n / 256 % 256 - 1))
-          (slot AD n) (unheld (n % 256) w (omega (arith, q .spans)) (omega (arith, q .spans)) .0) (omega (arith, q .spans)) (omega (arith, q .spans))))),
-      λ five. split (eqb t nuclear) (eqb-true t nuclear) (λ x. absurd (false≢true (sym z ∙ prorated x n q five))),
+    -- a slot that is not empty tells that its level is held and that cost 5 is nuclear, where it would else be empty
+    cost-there : (j c v : ℕ) → (holds t v ≡ false → eqb (getD ix j 0) 0 ≡ true) → (eqb t nuclear ≡ false → c ≡ 5 → eqb (getD ix j 0) 0 ≡ true)
+        → eqb (getD ix j 0) 0 ≡ false → (holds t v ≡ true) × (c ≡ 5 → t ≡ 2)
+    cost-there j c v level five z = (
+      split (holds t v) (λ w. w) (λ w. absurd (false≢true (sym z ∙ level w))),
+      λ f. split (eqb t nuclear) (eqb-true t nuclear) (λ w. absurd (false≢true (sym z ∙ five w f))),
     )
 
+    -- of AD
+    adder-key : (n : ℕ) → InKey AD n → eqb (getD ix (slot AD n) 0) 0 ≡ false → (holds t (n % 256) ≡ true) × (n / 256 % 256 ≡ 5 → t ≡ 2)
+    unfolding slot Spans shapeOf shape rowOf table
+    adder-key n q =
+        cost-there (slot AD n) (n / 256 % 256) (n % 256)
+        (λ w. in-fourths ix (25 + n % 256) 20 (5 * (n / 65536 - 1) + (n / 256 % 256 - 1)) (slot AD n)
+        (unheld (n % 256) w (omega (arith, q .spans)) (omega (arith, q .spans)) .0) (omega (arith, q .spans)) (omega (arith, q .spans)))
+        (λ w five. prorated w n q five)
+
+    -- where a slot of AO is not empty, its levels and costs fit
+    owners : (j : ℕ) → 334 ≤ j → j < short → j ≤ top → eqb (getD ix j 0) 0 ≡ false
+        → (allTo 4 (ownLevelFits t ix) ≡ true) × (ownProratedFit t ix ≡ true)
+    unfolding ownersFit
+    owners j a b c z =
+        let some : slotsEmpty ix 334 160 ≡ false = split (slotsEmpty ix 334 160) (λ e. absurd (false≢true (sym z ∙ in-empty ix 334 160 j e a b))) (λ e. e) in
+        let w = or-right (ltb top 334 || slotsEmpty ix 334 160) _ (rw (le-ltb top 334 (omega (arith, a, c)), some) refl) (parts .1) in
+        (and-left _ _ w, and-right (allTo 4 (ownLevelFits t ix)) _ w)
+
+    -- so does a record of AO, whoever the owner
+    fit-ao : (n : ℕ) → InKey AO n → Fit AO n
+    unfolding slot keyWidth keyIn Spans shapeOf shape rowOf table ownLevelFits
+    fit-ao n q s g i b z =
+        let o = owners (slot AO n) (omega (arith, q .spans)) (omega (arith, q .spans)) b z in
+        let p = (n / 16777216 - 1) * 4 + (n / 65536 % 256 - 1) in
+        let h = cost-there (slot AO n) (n / 256 % 256) (n % 256)
+        (λ w. in-fourths ix (333 + n % 256) 40 (5 * p + (n / 256 % 256 - 1)) (slot AO n)
+        (or-right (holds t (n % 256)) _ w (to-at 4 (ownLevelFits t ix) (o .0) (n % 256) (omega (arith, q .spans)) (omega (arith, q .spans))))
+        (omega (arith, q .spans)) (omega (arith, q .spans)))
+        (λ w five. in-empty ix (350 + 20 * p) 4 (slot AO n) (below-at 8 (λ p. slotsEmpty ix (350 + 20 * p) 4) (or-right (eqb t nuclear) _ w (o .1)) p
+        (omega (arith, q .spans))) (omega (arith, q .spans, five)) (omega (arith, q .spans, five))) z in
+        held-ao t s known g (rw (← i) at (h .0)) (rw (← i) at (h .1))
+
     -- HR, CH and LC: storage, or there is none
-    fit-priced : (k n : ℕ) → ((s : List ℕ) → eqb t storage ≡ fits t k s) → 166 ≤ slot k n → slot k n < 2351 → Fit k n
-    fit-priced k n f a b =
-        split (ltb top 166)
-        (λ w s _ _ g _. absurd (omega (arith, a, g, ltb-true top 166 w)))
-        (λ w.
-        split (eqb t storage)
-        (λ x s _ _ _ _. sym (f s) ∙ x)
-        (λ x. empty-fit k n (in-empty ix 166 2185 (slot k n) (and-right (not (ltb (length ix) narrow)) _ (rw (w, x) at (parts .2))) a b)))
+    fit-priced : (k n : ℕ) → ((s : List ℕ) → eqb t storage ≡ fits t k s)
+        → (eqb t storage ≡ false → slot k n ≤ top → eqb (getD ix (slot k n) 0) 0 ≡ true) → Fit k n
+    fit-priced k n f g s _ _ b z = split (eqb t storage) (λ w. sym (f s) ∙ w) (λ w. absurd (false≢true (sym z ∙ g w b)))
+
+    module _ (other : eqb t storage ≡ false) (j : ℕ) (below : j ≤ top) where
+      -- at another station their slots are empty
+      priced : 166 ≤ j → slotsEmpty ix 166 168 && (ltb top short || (not (ltb (length ix) narrow) && slotsEmpty ix short 2017)) ≡ true
+      priced a = or-right (ltb top 166 || eqb t storage) _ (rw (le-ltb top 166 (omega (arith, a, below)), other) refl) (parts .2)
+
+      -- of HR
+      no-hour : 166 ≤ j → j < 334 → eqb (getD ix j 0) 0 ≡ true
+      no-hour a b = in-empty ix 166 168 j (and-left _ _ (priced a)) a b
+
+      -- of CH and LC
+      no-charge : short ≤ j → j < narrow → eqb (getD ix j 0) 0 ≡ true
+      no-charge a b =
+          let w = or-right (ltb top short) _ (le-ltb top short (omega (arith, a, below))) (and-right (slotsEmpty ix 166 168) _ (priced (omega (arith, a)))) in
+          in-empty ix short 2017 j (and-right (not (ltb (length ix) narrow)) _ w) a b
 
     -- a slot beyond the index is empty
     fit-fp : (n : ℕ) → InKey FP n → Fit FP n
@@ -257,11 +304,15 @@ module _ (t : ℕ) (ix rs : List ℕ) (top : ℕ) where
           adder
           (λ q. absurd (false≢true (sym other ∙ kinds-valued r q)))
           (λ q. plainly RQ refl q (λ _ s _ _ _ _. sym (fits-rq t s known)))
-          (λ q. plainly HR refl q (λ i. fit-priced HR n (λ s. fits-hr t s known) (omega (arith, limits HR n i)) (omega (arith, limits HR n i))))
-          (λ q. plainly CH refl q (λ i. fit-priced CH n (λ s. fits-ch t s known) (omega (arith, limits CH n i)) (omega (arith, limits CH n i))))
+          (λ q. plainly HR refl q (λ i. fit-priced HR n (λ s. fits-hr t s known) (λ w b. no-hour w (slot HR n) b (omega (arith, limits HR n i))
+          (omega (arith, limits HR n i)))))
+          (λ q. plainly CH refl q (λ i. fit-priced CH n (λ s. fits-ch t s known) (λ w b. no-charge w (slot CH n) b (omega (arith, limits CH n i))
+          (omega (arith, limits CH n i)))))
           (λ q. plainly TH refl q (fit-th n))
           (λ q. plainly FP refl q (fit-fp n))
-          (λ q. plainly LC refl q (λ i. fit-priced LC n (λ s. fits-lc t s known) (omega (arith, limits LC n i)) (omega (arith, limits LC n i))))
+          (λ q. plainly LC refl q (λ i. fit-priced LC n (λ s. fits-lc t s known) (λ w b. no-charge w (slot LC n) b (omega (arith, limits LC n i))
+          (omega (arith, limits LC n i)))))
+          (λ q. plainly AO refl q (fit-ao n))
           refl
 
     -- ---- of a dossier
@@ -388,7 +439,7 @@ fourths-next ix j i a e = or-none a (getD ix (j + 4 * i) 0) ∙ rw (e, add-one i
 
 module _ (t : ℕ) (ix rs : List ℕ) (top : ℕ) where
   abbrev slotTests : Bool
-  slotTests = fits t RS rs && pointsFit t ix && allTo 4 (levelFits t ix) && proratedFit t ix && pricedFit t ix top
+  slotTests = fits t RS rs && pointsFit t ix && allTo 4 (levelFits t ix) && proratedFit t ix && ownersFit t ix top && pricedFit t ix top
 
   -- an index with slots for FP, of another station than a hydroelectric one
   pub other-wide : not (eqb t hydro) && ltb narrow (length ix) ≡ true → false ≡ slotsFit t ix rs top

@@ -12,7 +12,7 @@ use Rattle.records.specs.Table.{RS, FU, MM, thermal, nuclear, storage, hydro}
 use Rattle.records.specs.Record.{mark, size}
 use Rattle.records.specs.Dossier.{records}
 use Rattle.station.specs.Current.{current}
-use Rattle.index.specs.Slots.{narrow, slotAt, slotsEmpty}
+use Rattle.index.specs.Slots.{short, narrow, slotAt, slotsEmpty}
 use Rattle.lookup.specs.Parts.{partAt}
 use Rattle.rules.specs.Fit.{fits, holds}
 use Rattle.trials.specs.Trials.{valueFits}
@@ -43,16 +43,30 @@ levelFits t ix v = holds t v || (fourthsEmpty ix (25 + v) 20 && fourthsEmpty ix 
 abbrev pub proratedFit : ℕ → List ℕ → Bool
 proratedFit t ix = eqb t nuclear || allBelow 4 (λ p. slotsEmpty ix (42 + 20 * p) 4)
 
--- HR, CH and LC are there at storage alone; the highest slot m of a record tells at once that none is, else the index must have their slots
+-- AO of level v, of either owner, is there only where it is held
+unfoldable pub ownLevelFits : ℕ → List ℕ → ℕ → Bool
+ownLevelFits t ix v = holds t v || fourthsEmpty ix (333 + v) 40
+
+-- AO of cost 5, four slots in each profile of each owner, is there at a nuclear station alone
+abbrev pub ownProratedFit : ℕ → List ℕ → Bool
+ownProratedFit t ix = eqb t nuclear || allBelow 8 (λ p. slotsEmpty ix (350 + 20 * p) 4)
+
+-- so AO fits; the highest slot m of a record tells at once that there is none, and else empty slots do
+unfoldable pub ownersFit : ℕ → List ℕ → ℕ → Bool
+ownersFit t ix m = ltb m 334 || slotsEmpty ix 334 160 || (allTo 4 (ownLevelFits t ix) && ownProratedFit t ix)
+
+-- HR, CH and LC are there at storage alone; the highest slot m of a record tells at once that none is, or that CH and LC are not, else the index must have
+-- their slots
 abbrev pub pricedFit : ℕ → List ℕ → ℕ → Bool
-pricedFit t ix m = ltb m 166 || eqb t storage || (not (ltb (length ix) narrow) && slotsEmpty ix 166 2185)
+pricedFit t ix m =
+    ltb m 166 || eqb t storage || (slotsEmpty ix 166 168 && (ltb m short || (not (ltb (length ix) narrow) && slotsEmpty ix short 2017)))
 
 -- every slot but those of FU and MM fits, r being the current RS, which tells `KeysFit`; FP has slots where there is an FP, and fits a hydroelectric
 -- station alone
 unfoldable pub slotsFit : ℕ → List ℕ → List ℕ → ℕ → Bool
 slotsFit t ix r m =
     (eqb t hydro || not (ltb narrow (length ix)))
-    && (fits t RS r && pointsFit t ix && allTo 4 (levelFits t ix) && proratedFit t ix && pricedFit t ix m)
+    && (fits t RS r && pointsFit t ix && allTo 4 (levelFits t ix) && proratedFit t ix && ownersFit t ix m && pricedFit t ix m)
 
 -- what all of some records say fits, FU and MM at a thermal station whatever they say
 unfoldable pub valuesFit : ℕ → List (List ℕ) → Bool

@@ -1,7 +1,7 @@
 // 6: whether the records that count fit the technology, told by the index, and by what FU and MM say. The definitions are in specs/, their laws in proofs/.
 ghost use mathlib.Core.Path.{_≡_};
 ghost use mathlib.Core.Bool.{true, false, _&&_};
-ghost use Prim.Native.Nat.{_+_, _*_, _<_, _≤_};
+ghost use Prim.Native.Nat.{_+_, _*_, _^_, _<_, _≤_};
 ghost use lib.ListN.{length};
 ghost use Rattle.fields.specs.Numbers.{number};
 ghost use Rattle.records.specs.declared.Answer.the-variants.{Accepted};
@@ -13,8 +13,8 @@ ghost use Rattle.station.specs.Current.{readable};
 ghost use Rattle.lookup.specs.Parts.{Whole, Complete};
 ghost use Rattle.station.specs.InForce.{Undated};
 ghost use Rattle.rules.specs.Fit.{Known, fits, unfit};
-ghost use Rattle.fit.specs.BySlots.{fourthsEmpty, pointsFit, itemsFit, profilesFit, levelFits, proratedFit, pricedFit, slotsFit};
-ghost use Rattle.fit.specs.BySlots.{valuesFit, notFit};
+ghost use Rattle.fit.specs.BySlots.{fourthsEmpty, pointsFit, itemsFit, profilesFit, levelFits, proratedFit, ownLevelFits, ownProratedFit, ownersFit};
+ghost use Rattle.fit.specs.BySlots.{pricedFit, slotsFit, valuesFit, notFit};
 ghost use Rattle.trials.specs.Trials.{KeysFit};
 use index::slots_empty;
 use records::Answer;
@@ -132,17 +132,82 @@ fn points_fit(index: &[u16], t: u8) -> bool
     slots_empty(index, 1, 21)
 }
 
-// Whether HR, CH and LC are there at storage alone; the highest slot of a record tells at once that none is. A short index does not tell.
+// Whether AO of a level, of either owner, is there only where it is held.
+fn own_level_fits(index: &[u16], t: u8, v: u8) -> bool
+    requires { ⌜ (short ≤ length (now index)) × (v ≤ 4) ⌝ }
+    ensures { λ r. ⌜ r ≡ ownLevelFits t (now (index .entry)) v ⌝ }
+{
+    if level_held(t, v) {
+        return true;
+    }
+    fourths_empty(index, 333 + (v as usize), 40)
+}
+
+// Whether AO of cost 5 is there at a nuclear station alone: four slots in each profile of each owner.
+fn own_prorated_fit(index: &[u16], t: u8) -> bool
+    requires { ⌜ short ≤ length (now index) ⌝ }
+    ensures { λ r. ⌜ r ≡ ownProratedFit t (now (index .entry)) ⌝ }
+{
+    if t == 2 {
+        return true;
+    }
+    let mut ok = true;
+    let mut p = 0;
+    while p < 8 {
+        ok = ok & slots_empty(index, 350 + 20 * p, 4);
+        p += 1;
+    }
+    ok
+}
+
+// Whether AO fits. The highest slot of a record tells at once that there is none, and else mostly empty slots do.
+fn owners_fit(index: &[u16], t: u8, top: usize) -> bool
+    requires { ⌜ short ≤ length (now index) ⌝ }
+    ensures { λ r. ⌜ r ≡ ownersFit t (now (index .entry)) top ⌝ }
+{
+    if top < 334 {
+        return true;
+    }
+    if slots_empty(index, 334, 160) {
+        return true;
+    }
+    (own_level_fits(index, t, 1)
+        & own_level_fits(index, t, 2)
+        & own_level_fits(index, t, 3)
+        & own_level_fits(index, t, 4))
+        & own_prorated_fit(index, t)
+}
+
+// Whether HR, CH and LC are there at storage alone; the highest slot of a record tells at once that none is, or that CH and LC are not. A short index does
+// not tell.
 fn priced_fit(index: &[u16], t: u8, top: usize) -> bool
+    requires { ⌜ short ≤ length (now index) ⌝ }
     ensures { λ r. ⌜ r ≡ pricedFit t (now (index .entry)) top ⌝ }
 {
     if (top < 166) | (t == 3) {
         return true;
     }
+    if !slots_empty(index, 166, 168) {
+        return false;
+    }
+    if top < index::SHORT {
+        return true;
+    }
     if index.len() < index::NARROW {
         return false;
     }
-    slots_empty(index, 166, 2185)
+    slots_empty(index, index::SHORT, 2017)
+}
+
+// Whether both hold; mostly the highest slot of a record tells at once that there is none of these.
+fn later_fit(index: &[u16], t: u8, top: usize) -> bool
+    requires { ⌜ short ≤ length (now index) ⌝ }
+    ensures { λ r. ⌜ r ≡ (ownersFit t (now (index .entry)) top && pricedFit t (now (index .entry)) top) ⌝ }
+{
+    if top < 166 {
+        return true;
+    }
+    owners_fit(index, t, top) & priced_fit(index, t, top)
 }
 
 // Whether every record that counts fits, FU and MM aside. An index has slots for FP where there is one, and only a hydroelectric station may have it.
@@ -160,7 +225,7 @@ fn slots_fit(index: &[u16], rs: &[u8], t: u8, top: usize) -> bool
             & level_fits(index, t, 3)
             & level_fits(index, t, 4))
         & prorated_fit(index, t)
-        & priced_fit(index, t, top)
+        & later_fit(index, t, top)
 }
 
 // The same where it is worth asking. It has one caller, so that the compiler puts it in line there.
@@ -193,8 +258,8 @@ pub fn values_fit(d: &[u8], t: u8) -> bool
 
 // The key of the record at the front of s, as a number.
 fn key_at(s: &[u8], width: usize) -> usize
-    requires { ⌜ width ≤ 3 ⌝ }
-    ensures { λ r. ⌜ (r ≡ number 6 width (now (s .entry))) × (r < 16777216) ⌝ }
+    requires { ⌜ width ≤ 4 ⌝ }
+    ensures { λ r. ⌜ (r ≡ number 6 width (now (s .entry))) × (r < 256 ^ width) ⌝ }
 {
     if width == 0 {
         return 0;
@@ -205,7 +270,10 @@ fn key_at(s: &[u8], width: usize) -> usize
     if width == 2 {
         return fields::u16_at(s, 6) as usize;
     }
-    (fields::u16_at(s, 6) as usize) * 256 + (fields::u8_at(s, 8) as usize)
+    if width == 3 {
+        return (fields::u16_at(s, 6) as usize) * 256 + (fields::u8_at(s, 8) as usize);
+    }
+    fields::u32_at(s, 6) as usize
 }
 
 // Whether the record at the front of s is current and does not fit. The search for twins keeps `entry_at` for itself, so that the compiler

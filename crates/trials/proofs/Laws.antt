@@ -1,6 +1,6 @@
 -- A record tried against the technology, by its mark.
 use mathlib.Core.Path.{_≡_, refl, ap, ap₂, sym, _∙_}
-use mathlib.Core.Bool.{Bool, true, false, cond, _&&_, _||_, not}
+use mathlib.Core.Bool.{Bool, true, false, cond, _||_, not}
 use mathlib.Core.List.{List}
 use Prim.Native.Nat.{ℕ, _<_}
 use lib.Dec.{eqb}
@@ -8,10 +8,10 @@ use lib.ListN.{length, take}
 use borrow.Author.Tests.{eqb-true, ne-eqb}
 use Rattle.lists.specs.Tests.{allBelow}
 use Rattle.lists.proofs.Tests.{below-at, below-same}
-use Rattle.records.specs.Table.{table, rowOf, fieldOf, nuclear, marks, FU, AD, MM, TH, FV, MV}
+use Rattle.records.specs.Table.{table, rowOf, fieldOf, marks, FU, AD, MM, TH, AO, FV, MV}
 use Rattle.records.specs.Record.{mark, isDated, kindOf, size, value}
 use Rattle.records.proofs.Read.{value-take}
-use Rattle.rules.specs.Fit.{energy, holds, fieldFits, ruleFits, fits}
+use Rattle.rules.specs.Fit.{holds, fieldFits, adderFits, ruleFits, fits}
 use Rattle.trials.specs.declared.Tried.{Tried}
 use Rattle.trials.specs.Trials.{tried, triedAs, valued, valueFits}
 
@@ -30,18 +30,27 @@ at-mark t k m n s z e p q = of-mark t s (at-kind t k m n s z e q) p
 
 rule-take : (t k : ℕ) (s : List ℕ) → ruleFits t k (take (size k) s) ≡ ruleFits t k s
 unfolding ruleFits
-rule-take t k s = rw (value-take k 1 s, value-take k 2 s) (go (eqb (kindOf k) AD) (eqb k TH) refl)
+rule-take t k s = rw (value-take k 1 s, value-take k 2 s) (go (eqb (kindOf k) AD) (eqb k AO) (eqb k TH) refl refl)
   where
-    level : eqb k TH ≡ true → value TH 1 (take (size k) s) ≡ value TH 1 s
-    level e = rw (eqb-true k TH e) (value-take TH 1 s)
+    -- a field of mark m, if the record is one
+    same : (m i : ℕ) → eqb k m ≡ true → value m i (take (size k) s) ≡ value m i s
+    same m i e = rw (eqb-true k m e) (value-take m i s)
 
-    held : Bool
-    held = holds t (value k 2 s) && (not (eqb (value k 1 s) 5) || (eqb t nuclear && eqb (value k 2 s) energy))
+    adder : Bool
+    adder = adderFits t (value k 1 s) (value k 2 s)
 
-    go : (a b : Bool) → eqb k TH ≡ b → cond a held (cond b (holds t (value TH 1 (take (size k) s))) true) ≡ cond a held (cond b (holds t (value TH 1 s)) true)
-    go true b e = refl
-    go false true e = rw (level e) refl
-    go false false e = refl
+    owned : List ℕ → Bool
+    owned r = adderFits t (value AO 2 r) (value AO 3 r)
+
+    level : List ℕ → Bool
+    level r = holds t (value TH 1 r)
+
+    go : (a b c : Bool) → eqb k AO ≡ b → eqb k TH ≡ c → cond a adder (cond b (owned (take (size k) s)) (cond c (level (take (size k) s)) true))
+        ≡ cond a adder (cond b (owned s) (cond c (level s) true))
+    go true b c e f = refl
+    go false true c e f = rw (same AO 2 e, same AO 3 e) refl
+    go false false true e f = rw (same TH 1 f) refl
+    go false false false e f = refl
 
 pub fits-take : (t k : ℕ) (s : List ℕ) → fits t k (take (size k) s) ≡ fits t k s
 unfolding fits

@@ -3,10 +3,10 @@ ghost use mathlib.Core.Path.{_≡_};
 ghost use mathlib.Core.Bool.{true, cond, _&&_, _||_, not};
 ghost use Prim.Native.Nat.{_<_};
 ghost use lib.Dec.{ltb, eqb};
-ghost use Rattle.records.specs.Table.{RS, FU, AD, MM, FV, AV, MV, nuclear, thermal, hydro, marks};
+ghost use Rattle.records.specs.Table.{RS, FU, AD, MM, AO, FV, AV, MV, thermal, hydro, marks};
 ghost use Rattle.records.specs.Record.{mark};
 ghost use Rattle.records.specs.MarkShapes.{rare};
-ghost use Rattle.rules.specs.Fit.{Known, fits, holds, energy};
+ghost use Rattle.rules.specs.Fit.{Known, adderFits, fits};
 ghost use Rattle.trials.specs.Trials.{tried, triedAs, valued, valueFits};
 use records::marks;
 use rules::level_held;
@@ -47,7 +47,7 @@ fn fuel_fits(t: u8, fuel: u32, emission: u32) -> bool
 
 // An adder's level is held, and cost 5 is nuclear and level 1.
 fn adder_fits(t: u8, cost: u8, level: u8) -> bool
-    ensures { λ r. ⌜ r ≡ (holds t level && (not (eqb cost 5) || (eqb t nuclear && eqb level energy))) ⌝ }
+    ensures { λ r. ⌜ r ≡ adderFits t cost level ⌝ }
 {
     level_held(t, level) & ((cost != 5) | ((t == 2) & (level == 1)))
 }
@@ -81,7 +81,15 @@ pub fn mm_fits(t: u8, s: &[u8]) -> bool
     hours_fit(t, fields::u16_at(s, 22))
 }
 
-// The same with a first hour, four bytes further on.
+// AO, with an owner first in its key, as AD.
+fn ao_fits(t: u8, s: &[u8]) -> bool
+    requires { ⌜ Known t ⌝ }
+    ensures { λ r. ⌜ r ≡ fits t AO (now (s .entry)) ⌝ }
+{
+    adder_fits(t, fields::u8_at(s, 8), fields::u8_at(s, 9))
+}
+
+// FV, AV and MV as FU, AD and MM, with a first hour, four bytes further on.
 fn fv_fits(t: u8, s: &[u8]) -> bool
     requires { ⌜ Known t ⌝ }
     ensures { λ r. ⌜ r ≡ fits t FV (now (s .entry)) ⌝ }
@@ -123,6 +131,9 @@ fn tried_rare(t: u8, k: usize, s: &[u8]) -> Tried
     }
     if k == marks::MV {
         return trial(records::MV.length, mv_fits(t, s));
+    }
+    if k == marks::AO {
+        return trial(records::AO.length, ao_fits(t, s));
     }
     if k == marks::RS {
         return trial(records::RS.length, rs_fits(t, s));

@@ -22,7 +22,7 @@ key-at-requires c κs = omega (arith, shape-width _ (c .mark-shape .ensures), wi
 slot-of-requires : tie.Need-slot-of-requires
 slot-of-requires c κs =
     let u = c .before .before .before .before .before .before .before .pre .2 in
-    (c .key-at .ensures .1, rw (c .before .before .mark-at .ensures) (plain-lt _ u))
+    (rw (← shape-width _ (c .before .mark-shape .ensures)) (c .key-at .ensures .1), rw (c .before .before .mark-at .ensures) (plain-lt _ u))
 
 part-at-requires : tie.Need-part-at-requires
 part-at-requires c κs =

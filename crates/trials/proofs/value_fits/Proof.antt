@@ -1,4 +1,5 @@
 use mathlib.Core.Path.{_∙_}
+use Rattle.records.specs.Table.{FV, MV}
 use Rattle.rules.proofs.ByMark.{fits-fv, fits-mv}
 use Rattle.trials.proofs.Laws.{asked, not-asked, fv-asked, mv-asked, fu-asked, mm-asked}
 use borrow.Author.Needs.{needs}
@@ -6,21 +7,21 @@ use Rattle.trials.proofs.value_fits.Statement.{statement}
 use Rattle.trials.proofs.value_fits.Tie as tie
 
 returns : tie.Need-returns
-returns c = asked _ _ 12 _ fv-asked (c .fv-fits .ensures) (c .before .before .before .if1 .taken)
+returns c = asked _ _ FV _ fv-asked (c .fv-fits .ensures) (c .before .before .before .if1 .taken)
 
 returns-2 : tie.Need-returns-2
 returns-2 c =
-    asked _ _ 12 _ fv-asked
+    asked _ _ FV _ fv-asked
     (c .fuel-fits .ensures
     ∙ simp (c .before .u32-at2 .ensures, c .before .before .u32-at .ensures) (fits-fv _ _ (c .before .before .before .before .before .before .before .pre
     .0))) (c .before .before .before .before .before .if1 .taken)
 
 returns-3 : tie.Need-returns-3
-returns-3 c = asked _ _ 14 _ mv-asked (c .mv-fits .ensures) (c .before .before .before .if3 .taken)
+returns-3 c = asked _ _ MV _ mv-asked (c .mv-fits .ensures) (c .before .before .before .if3 .taken)
 
 returns-4 : tie.Need-returns-4
 returns-4 c =
-    asked _ _ 14 _ mv-asked
+    asked _ _ MV _ mv-asked
     (c .hours-fit .ensures ∙ simp (c .before .u16-at .ensures) (fits-mv _ _ (c .before .before .before .before .before .before .before .pre .0)))
     (c .before .before .before .before .if3 .taken)
 
