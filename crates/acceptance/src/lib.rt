@@ -9,7 +9,7 @@ ghost use Rattle.records.specs.Dossier.{records, scan};
 ghost use Rattle.station.specs.Current.{current, twins, readable};
 ghost use Rattle.station.specs.Week.{WeekIn};
 ghost use Rattle.lookup.specs.Parts.{Empty, Whole, Complete, UpTo};
-ghost use Rattle.station.specs.InForce.{Undated};
+ghost use Rattle.station.specs.InForce.{Undated, Unowned};
 ghost use Rattle.rules.specs.Fit.{Known, unfit};
 ghost use Rattle.trials.specs.Trials.{KeysFit};
 ghost use Rattle.records.specs.Table.{RS};
@@ -19,11 +19,15 @@ use lookup::Room;
 use records::Answer;
 use requirements::unsupported_of;
 
-// The answer to a dossier, and whether a record may have a first hour.
+// The answer to a dossier, and whether a record may have a first hour, or name an owner.
 pub struct Judged {
     pub answer: Answer,
     pub dated: bool,
+    pub owned: bool,
 }
+
+// The first slot of an owner's records: where no record has a slot so high, none is an owner's.
+const FIRST_OWNED: usize = 334;
 
 // 6 where a record may have a first hour: told by what FU and MM say if it is known that others fit, else by what counts at some hour. That search is
 // called twice, so that the compiler keeps its arrays out of the frames of its callers.
@@ -86,7 +90,7 @@ fn answer_in(d: &[u8], index: &mut [u16], sums: &mut [u64], top: usize, dated: b
 }
 
 // The answer to a dossier with a record that the index at hand has no slot for: it is read once more, with as many slots as the highest wants.
-// No slot is above 6,350, the last of the widest index. The sums start again.
+// No slot is above 6,510, the last of the widest index. The sums start again.
 fn judge_with_wider_index(d: &[u8], sums: &mut [u64], top: usize, dated: bool) -> Answer
     requires { ⌜ (length (now sums) ≡ 2) × (scan 0 (records (now d)) ≡ Accepted) × UpTo (now d) top × (dated ≡ false → Undated (now d)) ⌝ }
     ensures { λ r. ⌜ (r ≡ answer (now (d .entry))) × (r ≡ Accepted → WeekIn (now (d .entry)) (now (sums .exit))) ⌝ }
@@ -98,7 +102,7 @@ fn judge_with_wider_index(d: &[u8], sums: &mut [u64], top: usize, dated: bool) -
         return answer_in(d, &mut index, sums, top, dated);
     }
     let mut index = [0u16; index::WIDE];
-    answer_in(d, &mut index, sums, 6350, dated)
+    answer_in(d, &mut index, sums, 6510, dated)
 }
 
 // The answer to a dossier that draws none of 13 and 1 to 3, with an index of all its records, given what the pass says.
@@ -121,16 +125,25 @@ pub fn judge(d: &[u8], index: &mut [u16], sums: &mut [u64]) -> Judged
     requires { ⌜ Empty (now index) × (now sums ≡ 0 ∷ 0 ∷ []) ⌝ }
     ensures { λ r. ⌜ (r .answer ≡ answer (now (d .entry)))
         × (r .answer ≡ Accepted → Whole (now (d .entry)) (now (index .exit)) × WeekIn (now (d .entry)) (now (sums .exit))
-        × (r .dated ≡ false → Undated (now (d .entry)))) ⌝ }
+        × (r .dated ≡ false → Undated (now (d .entry))) × (r .owned ≡ false → Unowned (now (d .entry)))) ⌝ }
 {
     match lookup::scan(d, index, sums) {
         Passed::Ended { rising, top, dated } => {
+            let owned = FIRST_OWNED <= top;
             if top < index.len() {
                 let answer = indexed_answer(d, index, rising, top, dated);
-                Judged { answer, dated }
+                Judged {
+                    answer,
+                    dated,
+                    owned,
+                }
             } else {
                 let answer = judge_with_wider_index(d, sums, top, dated);
-                Judged { answer, dated }
+                Judged {
+                    answer,
+                    dated,
+                    owned,
+                }
             }
         }
         Passed::Stopped { number, place } => {
@@ -138,6 +151,7 @@ pub fn judge(d: &[u8], index: &mut [u16], sums: &mut [u64]) -> Judged
             Judged {
                 answer,
                 dated: false,
+                owned: false,
             }
         }
     }

@@ -4,6 +4,7 @@ use mathlib.Core.List.{List, [], _∷_, _++_, map}
 use Prim.Native.Nat.{ℕ, zero, suc, _+_}
 use lib.Dec.{eqb}
 use lib.ListN.{length, getD, replicate}
+use Rattle.station.specs.InForce.{Query}
 use Rattle.station.specs.Parameters.{Parameters, Amounts, technology}
 use Rattle.rules.specs.Fit.{energy, start, noLoad, reserve, holds}
 use Rattle.arrays.specs.declared.HourLevels.{HourLevels}
@@ -91,9 +92,9 @@ packed t p l =
     (amountOf noLoad l)
     (amountOf reserve l)
 
--- the levels of dossier d at hour h, packed
-abbrev pub packedAt : List ℕ → ℕ → HourLevels
-packedAt d h = packed (technology (parametersAt d h)) (profile (parametersAt d h) h) (levels d h)
+-- the levels of a dossier for a query, packed
+abbrev pub packedAt : List ℕ → Query → HourLevels
+packedAt d q = packed (technology (parametersAt d q)) (profile (parametersAt d q) (q .hour)) (levels d q)
 
 -- the sum of a level v without laminations, where it is held
 unfoldable pub singleSum : Parameters → Amounts → ℕ → ℕ → Sum

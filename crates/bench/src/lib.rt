@@ -3,6 +3,7 @@ ghost use mathlib.Core.Path.{_≡_};
 ghost use mathlib.Core.List.{[], _∷_};
 ghost use Prim.Native.Nat.{_/_, _%_, _<_};
 ghost use lib.ListN.{length};
+ghost use Rattle.station.specs.InForce.{query};
 ghost use Rattle.records.specs.Record.{mark, kindOf};
 ghost use Rattle.lookup.specs.Parts.{lookupPart};
 ghost use Rattle.rules.specs.Answer.{answer};
@@ -47,11 +48,11 @@ pub extern "C" fn bench_current(dossier: &[u8], letters: u16, key: u32) -> u64
 
 // The levels at an hour, as words in a lent list; class 0 with 66.
 #[no_mangle]
-pub extern "C" fn bench_levels(dossier: &[u8], hour: u32, words: &mut [u64]) -> u64
-    ensures answer { λ r. ⌜ r ≡ wordsCode (wordsAnswer (now (dossier .entry)) hour (length (now (words .entry)))) ⌝ }
-    ensures words { λ r. ⌜ now (words .exit) ≡ wordsAfter (now (dossier .entry)) hour (now (words .entry)) ⌝ }
+pub extern "C" fn bench_levels(dossier: &[u8], hour: u32, owner: u8, words: &mut [u64]) -> u64
+    ensures answer { λ r. ⌜ r ≡ wordsCode (wordsAnswer (now (dossier .entry)) (query hour owner) (length (now (words .entry)))) ⌝ }
+    ensures words { λ r. ⌜ now (words .exit) ≡ wordsAfter (now (dossier .entry)) (query hour owner) (now (words .entry)) ⌝ }
 {
-    match words::levels_words(dossier, hour, words) {
+    match words::levels_words(dossier, hour, owner, words) {
         Answer::Accepted => 66,
         Answer::Refused { number, place } => code(2, number as usize, place),
     }
@@ -59,10 +60,16 @@ pub extern "C" fn bench_levels(dossier: &[u8], hour: u32, words: &mut [u64]) -> 
 
 // The conduct test of an energy offer.
 #[no_mangle]
-pub extern "C" fn bench_energy_test(dossier: &[u8], hour: u32, condition: u8, offer: &[u8]) -> u64
-    ensures { λ r. ⌜ r ≡ verdictCode (onOffer (now (dossier .entry)) hour condition (now (offer .entry))) ⌝ }
+pub extern "C" fn bench_energy_test(
+    dossier: &[u8],
+    hour: u32,
+    owner: u8,
+    condition: u8,
+    offer: &[u8],
+) -> u64
+    ensures { λ r. ⌜ r ≡ verdictCode (onOffer (now (dossier .entry)) (query hour owner) condition (now (offer .entry))) ⌝ }
 {
-    match conduct::energy_test(dossier, hour, condition, offer) {
+    match conduct::energy_test(dossier, hour, owner, condition, offer) {
         Verdict::Passes => 0,
         Verdict::Fails { pair, lamination } => code(1, pair, lamination),
         Verdict::Refused { number, place } => code(2, number as usize, place),
@@ -74,13 +81,14 @@ pub extern "C" fn bench_energy_test(dossier: &[u8], hour: u32, condition: u8, of
 pub extern "C" fn bench_price_test(
     dossier: &[u8],
     hour: u32,
+    owner: u8,
     level: u8,
     condition: u8,
     price: i32,
 ) -> u64
-    ensures { λ r. ⌜ r ≡ verdictCode (onPrice (now (dossier .entry)) hour level condition price) ⌝ }
+    ensures { λ r. ⌜ r ≡ verdictCode (onPrice (now (dossier .entry)) (query hour owner) level condition price) ⌝ }
 {
-    match conduct::price_test(dossier, hour, level, condition, price) {
+    match conduct::price_test(dossier, hour, owner, level, condition, price) {
         Verdict::Passes => 0,
         Verdict::Fails { pair, lamination } => code(1, pair, lamination),
         Verdict::Refused { number, place } => code(2, number as usize, place),
@@ -89,12 +97,12 @@ pub extern "C" fn bench_price_test(
 
 // The report, written to a lent buffer.
 #[no_mangle]
-pub extern "C" fn bench_report(dossier: &[u8], hour: u32, buffer: &mut [u8]) -> u64
-    ensures answer { λ r. ⌜ r ≡ writtenCode (written (reportAnswer (now (dossier .entry)) hour (length (now (buffer .entry))))
-        (length (report (now (dossier .entry)) hour))) ⌝ }
-    ensures buffer { λ r. ⌜ now (buffer .exit) ≡ bufferAfter (now (dossier .entry)) hour (now (buffer .entry)) ⌝ }
+pub extern "C" fn bench_report(dossier: &[u8], hour: u32, owner: u8, buffer: &mut [u8]) -> u64
+    ensures answer { λ r. ⌜ r ≡ writtenCode (written (reportAnswer (now (dossier .entry)) (query hour owner) (length (now (buffer .entry))))
+        (length (report (now (dossier .entry)) (query hour owner)))) ⌝ }
+    ensures buffer { λ r. ⌜ now (buffer .exit) ≡ bufferAfter (now (dossier .entry)) (query hour owner) (now (buffer .entry)) ⌝ }
 {
-    match report::report(dossier, hour, buffer) {
+    match report::report(dossier, hour, owner, buffer) {
         Written::Bytes(n) => code(0, 0, n),
         Written::Refused { number, place } => code(2, number as usize, place),
     }

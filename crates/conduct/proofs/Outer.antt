@@ -6,6 +6,7 @@ use lib.IntN.{ℤ}
 use lib.ListN.{length}
 use Rattle.fields.specs.Numbers.{biasedOf}
 use Rattle.records.specs.declared.Answer.the-variants.{Accepted}
+use Rattle.station.specs.InForce.{Query}
 use Rattle.station.specs.Parameters.{Parameters, Amounts}
 use Rattle.lookup.specs.Parts.{parametersHeld}
 use Rattle.lookup.proofs.Held.{parameters-held}
@@ -23,7 +24,7 @@ use Rattle.limits.proofs.Laminations.{laminations-alone, offer-shown}
 use Rattle.limits.proofs.Single.{single-tested}
 use Rattle.query.proofs.Asking.{Ready}
 use Rattle.reference.specs.Held.{linesHeld}
-use Rattle.reference.proofs.AtHour.{lines-held}
+use Rattle.reference.proofs.AtQuery.{lines-held}
 
 -- the levels r were handed over for l; their laminations alone are tested
 pub offer-tested :
@@ -48,16 +49,16 @@ price-tested s m p v c price t a e f g =
     let q = price-accepted s v c a in
     settle-accepted a (rw (e, f) at g ∙ single-tested s m p c price v (q .1) (q .2) (q .0))
 
--- ---- in the profile of an hour that is answered, these are the dossier's at the hour
+-- ---- in the profile of a query that is answered, these are the dossier's for it
 
-module _ {d : List ℕ} {h p : ℕ} {ix : List ℕ} (g : Ready d h p ix) where
-  pub offer-at : (c : ℕ) (o : List ℕ) {w : Verdict} → w ≡ offerVerdict (parametersHeld d ix) c (linesHeld d ix p) o → w ≡ onOffer d h c o
+module _ {d : List ℕ} {q : Query} {p : ℕ} {ix : List ℕ} (g : Ready d q p ix) where
+  pub offer-at : (c : ℕ) (o : List ℕ) {w : Verdict} → w ≡ offerVerdict (parametersHeld d ix) c (linesHeld d ix p) o → w ≡ onOffer d q c o
   offer-at c o e =
-      on-offer d h c o (g .drawn)
-      (e ∙ ap₂ (λ (s : Parameters) (l : List Line). offerVerdict s c l o) (parameters-held h (g .index)) (lines-held g))
+      on-offer d q c o (g .drawn)
+      (e ∙ ap₂ (λ (s : Parameters) (l : List Line). offerVerdict s c l o) (parameters-held q (g .index)) (lines-held g))
 
   pub price-at : (v c : ℕ) (price : ℤ) {w : Verdict} → w ≡ priceVerdict (parametersHeld d ix) v c (linesHeld d ix p) (biasedOf price)
-      → w ≡ onPrice d h v c price
+      → w ≡ onPrice d q v c price
   price-at v c price e =
-      on-price d h v c price (g .drawn)
-      (e ∙ ap₂ (λ (s : Parameters) (l : List Line). priceVerdict s v c l (biasedOf price)) (parameters-held h (g .index)) (lines-held g))
+      on-price d q v c price (g .drawn)
+      (e ∙ ap₂ (λ (s : Parameters) (l : List Line). priceVerdict s v c l (biasedOf price)) (parameters-held q (g .index)) (lines-held g))

@@ -7,15 +7,17 @@ ghost use lib.ListN.{length};
 ghost use Rattle.station.specs.Week.{WeekIn};
 ghost use Rattle.records.specs.declared.Answer.the-variants.{Accepted};
 ghost use Rattle.rules.specs.Answer.{answer};
+ghost use Rattle.station.specs.InForce.{query};
 ghost use Rattle.lookup.specs.Parts.{Indexed, Empty, parametersHeld};
+ghost use Rattle.formulas.specs.Levels.{IsOwner};
 ghost use Rattle.reference.specs.Held.{linesHeld};
 ghost use Rattle.limits.specs.Thresholds.{thresholdOf};
 ghost use Rattle.verdicts.specs.Verdict.{offerVerdict, priceVerdict, onOffer, onPrice};
 use crate::refusals::offer_refusal;
 use crate::refusals::price_refusal;
 use limits::Threshold;
-use lookup::Room;
 use query::Asked;
+use query::Way;
 use records::Answer;
 use verdicts::Verdict;
 
@@ -79,37 +81,41 @@ fn price_verdict(d: &[u8], index: &[u16], p: usize, level: u8, condition: u8, pr
 }
 
 // The conduct test of an energy offer, at an hour and under a condition, worked out in an empty index.
-fn energy_test_in(d: &[u8], index: &mut [u16], hour: u32, condition: u8, offer: &[u8]) -> Verdict
-    requires { ⌜ Empty (now index) ⌝ }
-    ensures { λ r. ⌜ r ≡ onOffer (now (d .entry)) hour condition (now (offer .entry)) ⌝ }
+fn energy_test_in(
+    d: &[u8],
+    index: &mut [u16],
+    hour: u32,
+    owner: u8,
+    condition: u8,
+    offer: &[u8],
+) -> Verdict
+    requires { ⌜ Empty (now index) × IsOwner owner ⌝ }
+    ensures { λ r. ⌜ r ≡ onOffer (now (d .entry)) (query hour owner) condition (now (offer .entry)) ⌝ }
 {
     let mut sums = [0u64; 2];
-    match query::judge_at(d, hour, index, &mut sums) {
+    match query::judge_at(d, hour, owner, index, &mut sums) {
         Asked::Refused { number, place } => Verdict::Refused { number, place },
         Asked::Answered { profile } => offer_verdict(d, index, &sums, profile, condition, offer),
     }
 }
 
 // The same of a dossier.
-pub fn energy_test(d: &[u8], hour: u32, condition: u8, offer: &[u8]) -> Verdict
-    ensures { λ r. ⌜ r ≡ onOffer (now (d .entry)) hour condition (now (offer .entry)) ⌝ }
+pub fn energy_test(d: &[u8], hour: u32, owner: u8, condition: u8, offer: &[u8]) -> Verdict
+    ensures { λ r. ⌜ r ≡ onOffer (now (d .entry)) (query hour owner) condition (now (offer .entry)) ⌝ }
 {
-    match lookup::room_for(d) {
-        Room::TooLong => Verdict::Refused {
-            number: 13,
-            place: 0,
-        },
-        Room::Short => {
+    match query::way_in(d, owner) {
+        Way::Closed { number } => Verdict::Refused { number, place: 0 },
+        Way::Short => {
             let mut index = [0u16; index::SHORT];
-            energy_test_in(d, &mut index, hour, condition, offer)
+            energy_test_in(d, &mut index, hour, owner, condition, offer)
         }
-        Room::Narrow => {
+        Way::Narrow => {
             let mut index = [0u16; index::NARROW];
-            energy_test_in(d, &mut index, hour, condition, offer)
+            energy_test_in(d, &mut index, hour, owner, condition, offer)
         }
-        Room::Wide => {
+        Way::Wide => {
             let mut index = [0u16; index::WIDE];
-            energy_test_in(d, &mut index, hour, condition, offer)
+            energy_test_in(d, &mut index, hour, owner, condition, offer)
         }
     }
 }
@@ -119,15 +125,16 @@ fn price_test_in(
     d: &[u8],
     index: &mut [u16],
     hour: u32,
+    owner: u8,
     level: u8,
     condition: u8,
     price: i32,
 ) -> Verdict
-    requires { ⌜ Empty (now index) ⌝ }
-    ensures { λ r. ⌜ r ≡ onPrice (now (d .entry)) hour level condition price ⌝ }
+    requires { ⌜ Empty (now index) × IsOwner owner ⌝ }
+    ensures { λ r. ⌜ r ≡ onPrice (now (d .entry)) (query hour owner) level condition price ⌝ }
 {
     let mut sums = [0u64; 2];
-    match query::judge_at(d, hour, index, &mut sums) {
+    match query::judge_at(d, hour, owner, index, &mut sums) {
         Asked::Refused { number, place } => Verdict::Refused { number, place },
         Asked::Answered { profile } => {
             price_verdict(d, index, profile, level, condition, limits::biased(price))
@@ -136,25 +143,22 @@ fn price_test_in(
 }
 
 // The same of a dossier.
-pub fn price_test(d: &[u8], hour: u32, level: u8, condition: u8, price: i32) -> Verdict
-    ensures { λ r. ⌜ r ≡ onPrice (now (d .entry)) hour level condition price ⌝ }
+pub fn price_test(d: &[u8], hour: u32, owner: u8, level: u8, condition: u8, price: i32) -> Verdict
+    ensures { λ r. ⌜ r ≡ onPrice (now (d .entry)) (query hour owner) level condition price ⌝ }
 {
-    match lookup::room_for(d) {
-        Room::TooLong => Verdict::Refused {
-            number: 13,
-            place: 0,
-        },
-        Room::Short => {
+    match query::way_in(d, owner) {
+        Way::Closed { number } => Verdict::Refused { number, place: 0 },
+        Way::Short => {
             let mut index = [0u16; index::SHORT];
-            price_test_in(d, &mut index, hour, level, condition, price)
+            price_test_in(d, &mut index, hour, owner, level, condition, price)
         }
-        Room::Narrow => {
+        Way::Narrow => {
             let mut index = [0u16; index::NARROW];
-            price_test_in(d, &mut index, hour, level, condition, price)
+            price_test_in(d, &mut index, hour, owner, level, condition, price)
         }
-        Room::Wide => {
+        Way::Wide => {
             let mut index = [0u16; index::WIDE];
-            price_test_in(d, &mut index, hour, level, condition, price)
+            price_test_in(d, &mut index, hour, owner, level, condition, price)
         }
     }
 }

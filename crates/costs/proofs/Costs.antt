@@ -1,12 +1,22 @@
 -- The formulas over numbers that were read are the paper's.
 use mathlib.Core.Path.{_≡_, refl}
+use mathlib.Core.Bool.{cond}
 use Prim.Native.Nat.{ℕ, _+_, _*_}
-use Rattle.station.specs.Parameters.{Parameters, Amounts, factor, startHeat, noLoadHeat, incrementalFuel, output, heat, fuel, emission}
+use native.Mathlib.Omega.{arith}
+use lib.Dec.{eqb}
+use Rattle.lists.specs.Sums.{sumTo}
+use Rattle.station.specs.Parameters.{Parameters, Amounts, factor, startHeat, noLoadHeat, incrementalFuel, output, heat, fuel, emission, adder, ownAdder}
 use Rattle.rules.specs.Fit.{start, noLoad}
 use Rattle.rules.specs.Curve.{rise}
 use Rattle.formulas.specs.Exact.{quotient, microDollars}
 use Rattle.formulas.specs.Levels.{adders, additions, startMaintenance, thermalEnergy, heatCost, startCost, noLoadCost, nuclearEnergy, forecastPrice}
-use Rattle.formulas.specs.Levels.{hydroEnergy}
+use Rattle.formulas.specs.Levels.{hydroEnergy, thirdParty}
+
+-- the costs of a level, the common ones and the owners' summed apart
+pub all-adders : (m : Amounts) (p v : ℕ) {a b : ℕ} → a ≡ sumTo 5 (λ i. cond (eqb i thirdParty) 0 (adder m p i v))
+    → b ≡ sumTo 5 (λ i. cond (eqb i thirdParty) 0 (ownAdder m 1 p i v + ownAdder m 2 p i v)) → a + b ≡ microDollars (adders m p v)
+unfolding microDollars adders sumTo
+all-adders m p v e f = omega (arith, e, f)
 
 module _ (s : Parameters) (m : Amounts) (p : ℕ) {f e k : ℕ} (fuel-is : f ≡ fuel m p) (emission-is : e ≡ emission m p) (factor-is : k ≡ factor s) where
   pub heat-costs : (h : ℕ) {r : ℕ} → r ≡ quotient (h * f * k) 1000000 + quotient (h * e) 1000 → r ≡ microDollars (heatCost s m p h)

@@ -58,7 +58,7 @@ fn output_rise(d: &[u8], index: &[u16], i: usize) -> u64
 // The level of lamination i in cents, given what AD and MM add.
 pub fn lamination(d: &[u8], index: &[u16], p: usize, i: usize, more: u64) -> u64
     requires { ⌜ Indexed (now d) (now index) × (1 ≤ p) × (p ≤ 4) × (1 ≤ i) × (i ≤ 20)
-        × (more ≡ microDollars (additions (parametersHeld (now d) (now index)) (amountsHeld (now d) (now index)) p)) × (more ≤ 80005000000000000) ⌝ }
+        × (more ≡ microDollars (additions (parametersHeld (now d) (now index)) (amountsHeld (now d) (now index)) p)) × (more ≤ 80015000000000000) ⌝ }
     ensures { λ r. ⌜ r ≡ cents (microDollars (thermalEnergy (parametersHeld (now (d .entry)) (now (index .entry)))
         (amountsHeld (now (d .entry)) (now (index .entry))) p i)) ⌝ }
 {

@@ -1,3 +1,4 @@
 pub mod Requests
 pub mod Drawn
 pub mod Asking
+pub mod WayIn

@@ -17,9 +17,9 @@ use Rattle.station.specs.Current.{current, present}
 use Rattle.station.specs.Parameters.{parameters, requested, firstHour, lastHour}
 use Rattle.station.proofs.Parameters.{says-high}
 use Rattle.index.specs.Slots.{slot, slotsEmpty}
-use Rattle.lookup.specs.Parts.{Indexed}
+use Rattle.lookup.specs.Parts.{Indexed, parametersHeld}
 use Rattle.lookup.proofs.Keys.{request-key}
-use Rattle.lookup.proofs.Held.{held-always, held-in-empty}
+use Rattle.lookup.proofs.Held.{held-always, has-always, says-always, held-in-empty}
 use Rattle.parameters.proofs.Points.{there-is}
 use Rattle.formulas.specs.Levels.{covers, profileOf, profile}
 
@@ -111,3 +111,19 @@ module _ (d ix : List ℕ) (h : Indexed d ix) {j : ℕ} (first : j ≡ slot RQ 1
   pub profile-none : 1 ≡ profile (parameters (records d)) hour
   unfolding profile
   profile-none = profile-to 16 (le-refl 16)
+
+-- ---- of the index at hand the profile is the dossier's
+
+module _ {d ix : List ℕ} (i : Indexed d ix) (h : ℕ) where
+  covers-held : (n : ℕ) → covers (parametersHeld d ix) h n ≡ covers (parameters (records d)) h n
+  unfolding covers datable among table
+  covers-held n = rw (has-always i RQ n refl, says-always i RQ n refl 3, says-always i RQ n refl 1, says-always i RQ n refl 2) refl
+
+  profile-held-to : (n : ℕ) → profileOf (parametersHeld d ix) h n ≡ profileOf (parameters (records d)) h n
+  unfolding profileOf datable among table
+  profile-held-to zero = refl
+  profile-held-to (suc n) = rw (covers-held (suc n), says-always i RQ (suc n) refl 3, profile-held-to n) refl
+
+  pub profile-held : profile (parametersHeld d ix) h ≡ profile (parameters (records d)) h
+  unfolding profile
+  profile-held = profile-held-to 16

@@ -8,7 +8,9 @@ ghost use Prim.Native.Nat.{_≤_};
 ghost use lib.ListN.{length, replicate};
 ghost use Rattle.station.specs.Parameters.{technology, capacity};
 ghost use Rattle.station.specs.Week.{WeekIn};
+ghost use Rattle.station.specs.InForce.{query};
 ghost use Rattle.lookup.specs.Parts.{Indexed, Empty, parametersHeld, amountsHeld};
+ghost use Rattle.formulas.specs.Levels.{IsOwner};
 ghost use Rattle.rules.specs.Fit.{holds};
 ghost use Rattle.records.specs.declared.Answer.the-variants.{Accepted};
 ghost use Rattle.formulas.specs.Exact.{microDollars, cents as centsOf};
@@ -19,8 +21,8 @@ ghost use Rattle.reference.specs.Answer.{levelsAnswer};
 use arithmetic::Money;
 use arrays::HourLevels;
 use arrays::SingleLevels;
-use lookup::Room;
 use query::Asked;
+use query::Way;
 use records::Answer;
 
 // The answer to a dossier with its levels at an hour: all zero where it is refused.
@@ -186,12 +188,12 @@ fn whole_levels(d: &[u8], index: &[u16], sums: &[u64], p: usize) -> HourLevels
 }
 
 // The answer to a dossier, with its levels at an hour where it is accepted; worked out in an empty index.
-fn levels_in(d: &[u8], index: &mut [u16], hour: u32) -> LevelsAnswer
-    requires { ⌜ Empty (now index) ⌝ }
-    ensures { λ r. ⌜ r ≡ levelsAnswer (now (d .entry)) hour ⌝ }
+fn levels_in(d: &[u8], index: &mut [u16], hour: u32, owner: u8) -> LevelsAnswer
+    requires { ⌜ Empty (now index) × IsOwner owner ⌝ }
+    ensures { λ r. ⌜ r ≡ levelsAnswer (now (d .entry)) (query hour owner) ⌝ }
 {
     let mut sums = [0u64; 2];
-    match query::judge_at(d, hour, index, &mut sums) {
+    match query::judge_at(d, hour, owner, index, &mut sums) {
         Asked::Answered { profile } => {
             let answer = Answer::Accepted;
             let levels = whole_levels(d, index, &sums, profile);
@@ -206,29 +208,26 @@ fn levels_in(d: &[u8], index: &mut [u16], hour: u32) -> LevelsAnswer
 }
 
 // The same of a dossier.
-pub fn levels(d: &[u8], hour: u32) -> LevelsAnswer
-    ensures { λ r. ⌜ r ≡ levelsAnswer (now (d .entry)) hour ⌝ }
+pub fn levels(d: &[u8], hour: u32, owner: u8) -> LevelsAnswer
+    ensures { λ r. ⌜ r ≡ levelsAnswer (now (d .entry)) (query hour owner) ⌝ }
 {
-    match lookup::room_for(d) {
-        Room::TooLong => {
-            let answer = Answer::Refused {
-                number: 13,
-                place: 0,
-            };
+    match query::way_in(d, owner) {
+        Way::Closed { number } => {
+            let answer = Answer::Refused { number, place: 0 };
             let levels = no_levels();
             LevelsAnswer { answer, levels }
         },
-        Room::Short => {
+        Way::Short => {
             let mut index = [0u16; index::SHORT];
-            levels_in(d, &mut index, hour)
+            levels_in(d, &mut index, hour, owner)
         }
-        Room::Narrow => {
+        Way::Narrow => {
             let mut index = [0u16; index::NARROW];
-            levels_in(d, &mut index, hour)
+            levels_in(d, &mut index, hour, owner)
         }
-        Room::Wide => {
+        Way::Wide => {
             let mut index = [0u16; index::WIDE];
-            levels_in(d, &mut index, hour)
+            levels_in(d, &mut index, hour, owner)
         }
     }
 }

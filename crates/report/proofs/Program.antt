@@ -18,10 +18,11 @@ use Rattle.records.proofs.Answers.{orElse-none}
 use Rattle.records.specs.Table.{thermal, nuclear, storage, hydro, HP}
 use Rattle.records.specs.Dossier.{records}
 use Rattle.index.proofs.Turn.{tail}
+use Rattle.station.specs.InForce.{Query, query}
 use Rattle.station.specs.Parameters.{Parameters, Amounts, parameters, amounts, technology}
 use Rattle.rules.proofs.Draws.{overlong}
 use Rattle.rules.specs.Curve.{points}
-use Rattle.formulas.specs.Levels.{parametersAt, amountsAt, fuelled, Line, profile, retired, laminations, linesOf, lines, levels, hourAnswer, shown}
+use Rattle.formulas.specs.Levels.{parametersAt, amountsAt, fuelled, Line, profile, retired, laminations, linesOf, lines, levels, queryAnswer, shown}
 use Rattle.formulas.proofs.Hours.{hour-refused}
 use Rattle.text.specs.Text.{refusalLine}
 use Rattle.text.proofs.Decimal.{decimal-within}
@@ -29,7 +30,7 @@ use Rattle.text.proofs.Lengths.{refusal-length}
 use Rattle.text.proofs.Over.{Wrote}
 use Rattle.layout.specs.declared.Written.{Written}
 use Rattle.layout.specs.declared.Written.the-variants.{Bytes, Refused}
-use Rattle.layout.specs.Report.{report, bufferWith, written, reportAnswer, bufferAfter, longestReport, printed, prints}
+use Rattle.layout.specs.Report.{report, bufferWith, written, reportAnswer, bufferAfter, longestReport, printed, programQuery, prints}
 use Rattle.lines.proofs.Fits.{long-enough}
 use Rattle.report.specs.Print.{printAnswer, bufferPrinted}
 use Rattle.report.proofs.Buffer.{Told}
@@ -58,21 +59,21 @@ lines-count s m p =
     (either 23 (eqb (technology s) nuclear) _ _ (omega arith)
     (either 23 (eqb (technology s) storage) _ _ (omega arith) (either 23 (eqb (technology s) hydro) _ _ (omega arith) (omega arith))))
 
-levels-count : (d : List ℕ) (h : ℕ) → length (levels d h) ≤ 23
+levels-count : (d : List ℕ) (q : Query) → length (levels d q) ≤ 23
 unfolding levels lines
-levels-count d h =
-    let s = parametersAt d h in
-    either 23 (fuelled s h) _ _ (lines-count s (amountsAt d h) (profile s h)) (omega arith)
+levels-count d q =
+    let s = parametersAt d q in
+    either 23 (fuelled s (q .hour)) _ _ (lines-count s (amountsAt d q) (profile s (q .hour))) (omega arith)
 
 -- every report fits the bytes that hold every one
-pub report-fits : (d : List ℕ) (h : ℕ) → length (report d h) ≤ longestReport
+pub report-fits : (d : List ℕ) (q : Query) → length (report d q) ≤ longestReport
 unfolding report
-report-fits d h =
+report-fits d q =
     omega (
       arith,
-      text-within (profile (parametersAt d h) h) (map shown (levels d h)) (retired (parametersAt d h) (profile (parametersAt d h) h)),
-      length-map (levels d h) shown,
-      levels-count d h,
+      text-within (profile (parametersAt d q) (q .hour)) (map shown (levels d q)) (retired (parametersAt d q) (profile (parametersAt d q) (q .hour))),
+      length-map (levels d q) shown,
+      levels-count d q,
     )
 
 printed-fits : (a : Answer) (text : List ℕ) → length text ≤ longestReport → length (printed a text) ≤ longestReport
@@ -83,7 +84,7 @@ printed-fits (Turned n p) text h = omega (arith, refusal-length n p, decimal-wit
 -- and so has all that the program prints
 pub prints-fits : (i : List ℕ) → length (prints i) ≤ longestReport
 unfolding prints
-prints-fits i = printed-fits _ _ (report-fits (drop 4 i) (number 0 4 i))
+prints-fits i = printed-fits _ _ (report-fits (drop 4 i) (programQuery i))
 
 -- ---- the input
 
@@ -97,18 +98,18 @@ hour-there n a h = rw (le-ltb n 4 h)
 
 pub prints-short : (i : List ℕ) → length i < 4 → prints i ≡ refusalLine 16 0
 unfolding prints printed
-prints-short i h = ap (λ (a : Answer). printed a (report (drop 4 i) (number 0 4 i))) (no-hour (length i) (hourAnswer (drop 4 i) (number 0 4 i)) h)
+prints-short i h = ap (λ (a : Answer). printed a (report (drop 4 i) (programQuery i))) (no-hour (length i) (queryAnswer (drop 4 i) (programQuery i)) h)
 
 -- an hour is there: the dossier's refusal, or its report
-prints-answer : (i : List ℕ) (a : Answer) → 4 ≤ length i → hourAnswer (drop 4 i) (number 0 4 i) ≡ a → prints i ≡ printed a (report (drop 4 i) (number 0 4 i))
+prints-answer : (i : List ℕ) (a : Answer) → 4 ≤ length i → queryAnswer (drop 4 i) (programQuery i) ≡ a → prints i ≡ printed a (report (drop 4 i) (programQuery i))
 unfolding prints
-prints-answer i a h e = ap (λ (a : Answer). printed a (report (drop 4 i) (number 0 4 i))) (hour-there (length i) (hourAnswer (drop 4 i) (number 0 4 i)) h ∙ e)
+prints-answer i a h e = ap (λ (a : Answer). printed a (report (drop 4 i) (programQuery i))) (hour-there (length i) (queryAnswer (drop 4 i) (programQuery i)) h ∙ e)
 
 prints-too-long : (i : List ℕ) → 60004 < length i → prints i ≡ refusalLine 13 0
 unfolding printed
 prints-too-long i h =
     let k : 60000 < length (drop 4 i) = simp length-drop (omega arith) in
-    prints-answer i (Turned 13 0) (omega arith) (hour-refused (drop 4 i) (number 0 4 i) (overlong (drop 4 i) k))
+    prints-answer i (Turned 13 0) (omega arith) (hour-refused (drop 4 i) (programQuery i) (omega arith, omega arith) (overlong (drop 4 i) k))
 
 -- 4 hour bytes, 60,000 of a dossier, and one more to tell that it is too long: what comes after them changes nothing
 pub prints-cut : (i : List ℕ) → prints (take 60005 i) ≡ prints i
@@ -122,41 +123,41 @@ prints-cut i =
 
 -- ---- the function that prints: a report in a buffer where every report fits
 
-with-room : (d : List ℕ) (h : ℕ) (e : List ℕ) → longestReport ≤ length e → reportAnswer d h (length e) ≡ hourAnswer d h
+with-room : (d : List ℕ) (q : Query) (e : List ℕ) → longestReport ≤ length e → reportAnswer d q (length e) ≡ queryAnswer d q
 unfolding reportAnswer
-with-room d h e k = rw (long-enough (report d h) (length e) (omega (arith, report-fits d h))) (orElse-none (hourAnswer d h))
+with-room d q e k = rw (long-enough (report d q) (length e) (omega (arith, report-fits d q))) (orElse-none (queryAnswer d q))
 
 -- the report that the function calls sees the input after the hour as a part
-pub after-hour : (i e : List ℕ) {h : ℕ} {w : Written} {b : List ℕ} → h ≡ number 0 4 i → Told (take (length i - 4) (drop 4 i)) h e w b
-    → Told (drop 4 i) (number 0 4 i) e w b
-after-hour i e {h} {w} {b} q t =
-    subst (λ (d : List ℕ). Told d (number 0 4 i) e w b) (tail i 4)
-    (subst (λ (h : ℕ). Told (take (length i - 4) (drop 4 i)) h e w b) q t)
+pub after-hour : (i e : List ℕ) {h : ℕ} {w : Written} {b : List ℕ} → h ≡ number 0 4 i → Told (take (length i - 4) (drop 4 i)) (query h 1) e w b
+    → Told (drop 4 i) (programQuery i) e w b
+after-hour i e {h} {w} {b} f t =
+    subst (λ (d : List ℕ). Told d (programQuery i) e w b) (tail i 4)
+    (subst (λ (h : ℕ). Told (take (length i - 4) (drop 4 i)) (query h 1) e w b) f t)
 
 module _ (i e : List ℕ) (room : longestReport ≤ length e) (four : 4 ≤ length i) where
   -- what is told stands on the dossier's answer alone
-  told-answer : {w : Written} {b : List ℕ} (a : Answer) → hourAnswer (drop 4 i) (number 0 4 i) ≡ a → Told (drop 4 i) (number 0 4 i) e w b
-      → (w ≡ written a (length (report (drop 4 i) (number 0 4 i)))) × (b ≡ bufferWith a (report (drop 4 i) (number 0 4 i)) e)
+  told-answer : {w : Written} {b : List ℕ} (a : Answer) → queryAnswer (drop 4 i) (programQuery i) ≡ a → Told (drop 4 i) (programQuery i) e w b
+      → (w ≡ written a (length (report (drop 4 i) (programQuery i)))) × (b ≡ bufferWith a (report (drop 4 i) (programQuery i)) e)
   unfolding bufferAfter
-  told-answer a p t = rw (with-room (drop 4 i) (number 0 4 i) e room, p) at t
+  told-answer a p t = rw (with-room (drop 4 i) (programQuery i) e room, p) at t
 
   -- bytes that are told are all that is printed
-  pub print-report : (n : ℕ) {b : List ℕ} → Told (drop 4 i) (number 0 4 i) e (Bytes n) b → Wrote (prints i) e n b
+  pub print-report : (n : ℕ) {b : List ℕ} → Told (drop 4 i) (programQuery i) e (Bytes n) b → Wrote (prints i) e n b
   unfolding printed bufferWith written isAccepted
-  print-report n {b} t = go (hourAnswer (drop 4 i) (number 0 4 i)) refl
+  print-report n {b} t = go (queryAnswer (drop 4 i) (programQuery i)) refl
     where
-      go : (a : Answer) → hourAnswer (drop 4 i) (number 0 4 i) ≡ a → Wrote (prints i) e n b
+      go : (a : Answer) → queryAnswer (drop 4 i) (programQuery i) ≡ a → Wrote (prints i) e n b
       go Accepted p =
-          let l : n ≡ length (report (drop 4 i) (number 0 4 i)) = cc (told-answer Accepted p t .0) in
+          let l : n ≡ length (report (drop 4 i) (programQuery i)) = cc (told-answer Accepted p t .0) in
           rw (prints-answer i Accepted four p) (l, told-answer Accepted p t .1)
       go (Turned k q) p = let z : _≡_ {A = ℕ} 0 1 = cc (told-answer (Turned k q) p t .0) in absurd (omega arith)
 
   -- a refusal that is told is what is printed, and the buffer is as it was
-  pub print-refusal : (k q : ℕ) {b : List ℕ} → Told (drop 4 i) (number 0 4 i) e (Refused k q) b → (prints i ≡ refusalLine k q) × (b ≡ e)
+  pub print-refusal : (k q : ℕ) {b : List ℕ} → Told (drop 4 i) (programQuery i) e (Refused k q) b → (prints i ≡ refusalLine k q) × (b ≡ e)
   unfolding printed bufferWith written isAccepted
-  print-refusal k q {b} t = go (hourAnswer (drop 4 i) (number 0 4 i)) refl
+  print-refusal k q {b} t = go (queryAnswer (drop 4 i) (programQuery i)) refl
     where
-      go : (a : Answer) → hourAnswer (drop 4 i) (number 0 4 i) ≡ a → (prints i ≡ refusalLine k q) × (b ≡ e)
+      go : (a : Answer) → queryAnswer (drop 4 i) (programQuery i) ≡ a → (prints i ≡ refusalLine k q) × (b ≡ e)
       go Accepted p = let z : _≡_ {A = ℕ} 0 1 = cc (told-answer Accepted p t .0) in absurd (omega arith)
       go (Turned k′ q′) p =
           let f : k ≡ k′ = cc (told-answer (Turned k′ q′) p t .0) in

@@ -1,21 +1,23 @@
 // The report, and what the program `levels` prints. The laws of both are in proofs/.
 ghost use mathlib.Core.Path.{_≡_};
 ghost use lib.ListN.{length};
+ghost use Rattle.station.specs.InForce.{query};
 ghost use Rattle.lookup.specs.Parts.{Empty};
+ghost use Rattle.formulas.specs.Levels.{IsOwner};
 ghost use Rattle.layout.specs.Report.{written, report, reportAnswer, bufferAfter};
 ghost use Rattle.report.specs.Print.{printAnswer, bufferPrinted};
 use layout::Written;
-use lookup::Room;
 use query::Asked;
+use query::Way;
 
 // The report of a dossier at an hour, written to a lent buffer; worked out in an empty index.
-fn report_in(d: &[u8], index: &mut [u16], hour: u32, buf: &mut [u8]) -> Written
-    requires { ⌜ Empty (now index) ⌝ }
-    ensures answer { λ r. ⌜ r ≡ written (reportAnswer (now (d .entry)) hour (length (now (buf .entry)))) (length (report (now (d .entry)) hour)) ⌝ }
-    ensures buffer { λ r. ⌜ now (buf .exit) ≡ bufferAfter (now (d .entry)) hour (now (buf .entry)) ⌝ }
+fn report_in(d: &[u8], index: &mut [u16], hour: u32, owner: u8, buf: &mut [u8]) -> Written
+    requires { ⌜ Empty (now index) × IsOwner owner ⌝ }
+    ensures answer { λ r. ⌜ r ≡ written (reportAnswer (now (d .entry)) (query hour owner) (length (now (buf .entry)))) (length (report (now (d .entry)) (query hour owner))) ⌝ }
+    ensures buffer { λ r. ⌜ now (buf .exit) ≡ bufferAfter (now (d .entry)) (query hour owner) (now (buf .entry)) ⌝ }
 {
     let mut sums = [0u64; 2];
-    match query::judge_at(d, hour, index, &mut sums) {
+    match query::judge_at(d, hour, owner, index, &mut sums) {
         Asked::Answered { profile } => {
             let mut from = [0u64; 20];
             let mut to = [0u64; 20];
@@ -37,29 +39,29 @@ fn report_in(d: &[u8], index: &mut [u16], hour: u32, buf: &mut [u8]) -> Written
 }
 
 // The same of a dossier.
-pub fn report(d: &[u8], hour: u32, buf: &mut [u8]) -> Written
-    ensures answer { λ r. ⌜ r ≡ written (reportAnswer (now (d .entry)) hour (length (now (buf .entry)))) (length (report (now (d .entry)) hour)) ⌝ }
-    ensures buffer { λ r. ⌜ now (buf .exit) ≡ bufferAfter (now (d .entry)) hour (now (buf .entry)) ⌝ }
+pub fn report(d: &[u8], hour: u32, owner: u8, buf: &mut [u8]) -> Written
+    ensures answer { λ r. ⌜ r ≡ written (reportAnswer (now (d .entry)) (query hour owner) (length (now (buf .entry)))) (length (report (now (d .entry)) (query hour owner))) ⌝ }
+    ensures buffer { λ r. ⌜ now (buf .exit) ≡ bufferAfter (now (d .entry)) (query hour owner) (now (buf .entry)) ⌝ }
 {
-    match lookup::room_for(d) {
-        Room::TooLong => Written::Refused {
-            number: 13,
-            place: 0,
-        },
-        Room::Short => {
+    match query::way_in(d, owner) {
+        Way::Closed { number } => Written::Refused { number, place: 0 },
+        Way::Short => {
             let mut index = [0u16; index::SHORT];
-            report_in(d, &mut index, hour, buf)
+            report_in(d, &mut index, hour, owner, buf)
         }
-        Room::Narrow => {
+        Way::Narrow => {
             let mut index = [0u16; index::NARROW];
-            report_in(d, &mut index, hour, buf)
+            report_in(d, &mut index, hour, owner, buf)
         }
-        Room::Wide => {
+        Way::Wide => {
             let mut index = [0u16; index::WIDE];
-            report_in(d, &mut index, hour, buf)
+            report_in(d, &mut index, hour, owner, buf)
         }
     }
 }
+
+// The owner that the program names.
+const PROGRAM_OWNER: u8 = 1;
 
 // All that the program prints for its whole input, a 4-byte hour and then the dossier. A buffer that holds every report is enough for any of it; a shorter
 // one is refused whatever the input, and keeps every byte.
@@ -76,7 +78,7 @@ pub fn print(input: &[u8], out: &mut [u8]) -> Written
     if input.len() < 4 {
         return Written::Bytes(text::put_refusal(out, 16, 0));
     }
-    match report(&input[4..], fields::u32_at(input, 0), out) {
+    match report(&input[4..], fields::u32_at(input, 0), PROGRAM_OWNER, out) {
         Written::Bytes(len) => Written::Bytes(len),
         Written::Refused { number, place } => {
             Written::Bytes(text::put_refusal(out, number, place))

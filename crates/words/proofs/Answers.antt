@@ -8,31 +8,32 @@ use lib.ListN.{length, getD, drop, length-map}
 use Rattle.records.specs.declared.Answer.{Answer}
 use Rattle.records.specs.declared.Answer.the-variants.{Accepted, Refused}
 use Rattle.records.specs.Answers.{orElse, refuseIf, isAccepted}
+use Rattle.station.specs.InForce.{Query}
 use Rattle.arrays.specs.declared.HourLevels.{HourLevels}
-use Rattle.formulas.specs.Levels.{hourAnswer, Line, amount}
+use Rattle.formulas.specs.Levels.{queryAnswer, Line, amount}
 use Rattle.arrays.specs.Packed.{arraysOf, energyLines, padded, packed, packedAt}
 use Rattle.reference.specs.Held.{packedHeld}
 use Rattle.reference.proofs.Handed.{handed-count}
 use Rattle.words.specs.Words.{Blank, wordsOf, wordsAnswer, wordsAfter}
 
--- what a call for dossier d at hour h answers, and what it leaves of words that held e
-abbrev pub Told : List ℕ → ℕ → List ℕ → Answer → List ℕ → Type 0
-Told d h e a w = (a ≡ wordsAnswer d h (length e)) × (w ≡ wordsAfter d h e)
+-- what a call for dossier d and query q answers, and what it leaves of words that held e
+abbrev pub Told : List ℕ → Query → List ℕ → Answer → List ℕ → Type 0
+Told d q e a w = (a ≡ wordsAnswer d q (length e)) × (w ≡ wordsAfter d q e)
 
-module _ (d : List ℕ) (h : ℕ) (e : List ℕ) where
-  pub told-words : (r : HourLevels) {w : List ℕ} → hourAnswer d h ≡ Accepted → 66 ≤ length e
-      → r ≡ packedAt d h → w ≡ wordsOf r ++ drop 66 e
-      → Told d h e Accepted w
+module _ (d : List ℕ) (q : Query) (e : List ℕ) where
+  pub told-words : (r : HourLevels) {w : List ℕ} → queryAnswer d q ≡ Accepted → 66 ≤ length e
+      → r ≡ packedAt d q → w ≡ wordsOf r ++ drop 66 e
+      → Told d q e Accepted w
   unfolding wordsAnswer wordsAfter orElse refuseIf isAccepted
-  told-words r a l p q = rw (a, le-ltb (length e) 66 l, ← p) (refl, q)
+  told-words r a l p w = rw (a, le-ltb (length e) 66 l, ← p) (refl, w)
 
   -- too few words
-  pub told-few : hourAnswer d h ≡ Accepted → length e < 66 → Told d h e (Refused 15 0) e
+  pub told-few : queryAnswer d q ≡ Accepted → length e < 66 → Told d q e (Refused 15 0) e
   unfolding wordsAnswer wordsAfter orElse refuseIf isAccepted
   told-few a l = rw (a, lt-ltb (length e) 66 l) (refl, refl)
 
   -- a refused dossier's refusal comes first
-  pub told-refusal : (k p : ℕ) → hourAnswer d h ≡ Refused k p → Told d h e (Refused k p) e
+  pub told-refusal : (k p : ℕ) → queryAnswer d q ≡ Refused k p → Told d q e (Refused k p) e
   unfolding wordsAnswer wordsAfter orElse isAccepted
   told-refusal k p a = rw a (refl, refl)
 

@@ -8,7 +8,8 @@ use lib.ListN.{length, getD, drop}
 use Rattle.records.specs.declared.Answer.{Answer}
 use Rattle.records.specs.Answers.{orElse, refuseIf, isAccepted}
 use Rattle.rules.specs.Fit.{energy, start, noLoad, reserve, holds}
-use Rattle.formulas.specs.Levels.{hourAnswer}
+use Rattle.station.specs.InForce.{Query}
+use Rattle.formulas.specs.Levels.{queryAnswer}
 use Rattle.arrays.specs.declared.HourLevels.{HourLevels}
 use Rattle.arrays.specs.Packed.{Arrays, arraysOf, packedAt}
 
@@ -34,12 +35,12 @@ wordsTo p r (suc n) = wordsTo p r n ++ laminationWords r n
 unfoldable pub wordsOf : HourLevels → List ℕ
 wordsOf r = wordsTo (r .profile) (arraysOf r) 20 ++ (heldBits (r .technology) ∷ r .start ∷ r .noload ∷ r .reserve ∷ [])
 
--- the answer to a dossier at an hour into n words: 15 where they are too few
-unfoldable pub wordsAnswer : List ℕ → ℕ → ℕ → Answer
-wordsAnswer d h n = orElse (hourAnswer d h) (refuseIf (ltb n 66) 15 0)
+-- the answer to a dossier for a query into n words: 15 where they are too few
+unfoldable pub wordsAnswer : List ℕ → Query → ℕ → Answer
+wordsAnswer d q n = orElse (queryAnswer d q) (refuseIf (ltb n 66) 15 0)
 
 -- the words after it: those past 66 stay, and a refused call keeps every one
-unfoldable pub wordsAfter : List ℕ → ℕ → List ℕ → List ℕ
-wordsAfter d h w =
-    cond (isAccepted (wordsAnswer d h (length w)))
-    (wordsOf (packedAt d h) ++ drop 66 w) w
+unfoldable pub wordsAfter : List ℕ → Query → List ℕ → List ℕ
+wordsAfter d q w =
+    cond (isAccepted (wordsAnswer d q (length w)))
+    (wordsOf (packedAt d q) ++ drop 66 w) w

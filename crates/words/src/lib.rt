@@ -4,13 +4,15 @@ ghost use mathlib.Core.Path.{_≡_};
 ghost use mathlib.Core.List.{_++_};
 ghost use Prim.Native.Nat.{_≤_};
 ghost use lib.ListN.{length, take, drop, replicate};
+ghost use Rattle.station.specs.InForce.{query};
 ghost use Rattle.lookup.specs.Parts.{Empty};
+ghost use Rattle.formulas.specs.Levels.{IsOwner};
 ghost use Rattle.arrays.specs.Packed.{hourOf, inArrays};
 ghost use Rattle.words.specs.Words.{heldBits, Blank, wordsTo, wordsOf, wordsAnswer, wordsAfter};
 use arrays::SingleLevels;
 use lists::choose;
-use lookup::Room;
 use query::Asked;
+use query::Way;
 use records::Answer;
 use rules::level_held;
 
@@ -82,13 +84,13 @@ fn put_words<'a>(
 }
 
 // The levels of a dossier at an hour, as words in a lent list; worked out in an empty index.
-fn levels_words_in(d: &[u8], index: &mut [u16], hour: u32, words: &mut [u64]) -> Answer
-    requires { ⌜ Empty (now index) ⌝ }
-    ensures { λ r. ⌜ (r ≡ wordsAnswer (now (d .entry)) hour (length (now (words .entry))))
-        × (now (words .exit) ≡ wordsAfter (now (d .entry)) hour (now (words .entry))) ⌝ }
+fn levels_words_in(d: &[u8], index: &mut [u16], hour: u32, owner: u8, words: &mut [u64]) -> Answer
+    requires { ⌜ Empty (now index) × IsOwner owner ⌝ }
+    ensures { λ r. ⌜ (r ≡ wordsAnswer (now (d .entry)) (query hour owner) (length (now (words .entry))))
+        × (now (words .exit) ≡ wordsAfter (now (d .entry)) (query hour owner) (now (words .entry))) ⌝ }
 {
     let mut sums = [0u64; 2];
-    match query::judge_at(d, hour, index, &mut sums) {
+    match query::judge_at(d, hour, owner, index, &mut sums) {
         Asked::Answered { profile } => {
             if words.len() < 66 {
                 return Answer::Refused {
@@ -116,26 +118,23 @@ fn levels_words_in(d: &[u8], index: &mut [u16], hour: u32, words: &mut [u64]) ->
 }
 
 // The same of a dossier.
-pub fn levels_words(d: &[u8], hour: u32, words: &mut [u64]) -> Answer
-    ensures { λ r. ⌜ (r ≡ wordsAnswer (now (d .entry)) hour (length (now (words .entry))))
-        × (now (words .exit) ≡ wordsAfter (now (d .entry)) hour (now (words .entry))) ⌝ }
+pub fn levels_words(d: &[u8], hour: u32, owner: u8, words: &mut [u64]) -> Answer
+    ensures { λ r. ⌜ (r ≡ wordsAnswer (now (d .entry)) (query hour owner) (length (now (words .entry))))
+        × (now (words .exit) ≡ wordsAfter (now (d .entry)) (query hour owner) (now (words .entry))) ⌝ }
 {
-    match lookup::room_for(d) {
-        Room::TooLong => Answer::Refused {
-            number: 13,
-            place: 0,
-        },
-        Room::Short => {
+    match query::way_in(d, owner) {
+        Way::Closed { number } => Answer::Refused { number, place: 0 },
+        Way::Short => {
             let mut index = [0u16; index::SHORT];
-            levels_words_in(d, &mut index, hour, words)
+            levels_words_in(d, &mut index, hour, owner, words)
         }
-        Room::Narrow => {
+        Way::Narrow => {
             let mut index = [0u16; index::NARROW];
-            levels_words_in(d, &mut index, hour, words)
+            levels_words_in(d, &mut index, hour, owner, words)
         }
-        Room::Wide => {
+        Way::Wide => {
             let mut index = [0u16; index::WIDE];
-            levels_words_in(d, &mut index, hour, words)
+            levels_words_in(d, &mut index, hour, owner, words)
         }
     }
 }

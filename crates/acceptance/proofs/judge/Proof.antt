@@ -10,6 +10,7 @@ use Rattle.index.specs.declared.Passed.the-variants.{Ended}
 use Rattle.lookup.proofs.Opening.{scan-stopped, scan-rising, up-to-complete}
 use Rattle.lookup.proofs.Week.{week-sums}
 use Rattle.rules.proofs.Draws.{unreadable}
+use Rattle.acceptance.proofs.Owned.{none-owned}
 use Rattle.acceptance.proofs.judge.Statement.{statement}
 use Rattle.acceptance.proofs.judge.Tie as tie
 
@@ -48,14 +49,14 @@ returns c =
     let s = c .before .before .before .before .before .before .before .before .before .before .scan in
     let i = s .ensures .1 _ _ _ (c .before .before .before .before .rising .given .1) in
     let f = up-to-complete (i .0) (i .1) (omega (arith, c .before .before .if1 .taken, s .kept)) in
-    (c .indexed-answer .ensures, λ _. (i .0, week-sums (i .0) f (i .2), i .3))
+    (c .indexed-answer .ensures, λ _. (i .0, week-sums (i .0) f (i .2), i .3, none-owned (i .0) (i .1)))
 
 returns-2 : tie.Need-returns-2
 returns-2 c =
     let i = c .before .before .before .before .before .before .before .before .before .before .before .before .scan .ensures .1 _ _ _
     (c .before .before .before .before .before .before .rising .given .1) in
     let w = c .before .before .judge-with-wider-index .ensures in
-    (w .0, λ e. (i .0, w .1 e, i .3))
+    (w .0, λ e. (i .0, w .1 e, i .3, none-owned (i .0) (i .1)))
 
 returns-3 : tie.Need-returns-3
 returns-3 c = (

@@ -1,17 +1,15 @@
-use mathlib.Core.Path.{_≡_, refl}
 use Prim.Native.Nat.{_<_}
 use native.Mathlib.Omega.{arith}
 use lib.ListN.{length}
 use borrow.Author.Needs.{needs}
 use Rattle.index.proofs.Slots.{slot-lt}
 use Rattle.lookup.proofs.Keys.{fuel-key}
-use Rattle.lookup.proofs.Held.{hour-indexed}
 use Rattle.query.proofs.Drawn.{fuel-slot, without, with-fuel}
 use Rattle.query.proofs.fuel_at.Statement.{statement}
 use Rattle.query.proofs.fuel_at.Tie as tie
 
 profile-requires : tie.Need-profile-requires
-profile-requires c κs = hour-indexed _ (c .before .before .pre)
+profile-requires c κs = c .before .before .pre
 
 in-index : (c : tie.After-slot-fu) → c .slot-fu .result < length (c .before .before .before .before .args .index .now)
 in-index c =

@@ -1,4 +1,4 @@
-use mathlib.Core.Path.{_≡_, sym, _∙_}
+use mathlib.Core.Path.{_≡_, refl, sym, _∙_}
 use mathlib.Core.Logic.{inl, inr}
 use native.Mathlib.Omega.{arith}
 use lib.ListN.{length}
@@ -6,11 +6,16 @@ use borrow.Author.Needs.{needs}
 use Rattle.records.specs.declared.Answer.{Answer}
 use Rattle.records.proofs.Answers.{not-refused}
 use Rattle.rules.specs.Answer.{answer}
-use Rattle.lookup.specs.Parts.{AtHour}
+use Rattle.records.specs.Dossier.{records}
+use Rattle.station.specs.InForce.{come, query}
+use Rattle.index.specs.Holding.{IndexOf}
+use Rattle.lookup.specs.Parts.{AtQuery}
 use Rattle.lookup.proofs.Parts.{whole-index}
 use Rattle.hours.proofs.Undated.{undated-at}
+use Rattle.hours.proofs.Owned.{query-index}
 use Rattle.formulas.proofs.Hours.{hour-refused}
-use Rattle.query.proofs.Asking.{asked-own, asked-then}
+use Rattle.lookup.proofs.Held.{query-indexed, parameters-held}
+use Rattle.query.proofs.Asking.{asked-own, asked-then, unowned-at}
 use Rattle.query.proofs.judge_at.Statement.{statement}
 use Rattle.query.proofs.judge_at.Tie as tie
 
@@ -21,7 +26,7 @@ at-hour-requires c κs =
 
 -- the index is the hour's
 its-hour : (c : tie.Joined1) → let a = c .before .before .before .before .before .before .before .before .before .before .before .before .before .args in
-    AtHour (a .hour) (a .d .now) (c .if1 .index)
+    IndexOf (come (a .hour) (records (a .d .now))) (a .d .now) (c .if1 .index)
 its-hour c =
     let j = c .before .before .before .before .before .before .before in
     let w = j .judge .ensures .1 (c .before .enum-told .given .1) in
@@ -38,18 +43,44 @@ its-length c =
 answered : (c : tie.After-judge) {a : Answer} → c .judge .result .answer ≡ a → answer (c .before .before .before .before .before .before .args .d .now) ≡ a
 answered c e = sym (c .judge .ensures .0) ∙ e
 
+-- and behind the owner's step the query's
+its-query : (c : tie.Joined2) → let a = c .before .before .before .before .before .before .before .before .before .before .before .before
+    .before .before .args in
+    AtQuery (query (a .hour) (a .owner)) (a .d .now) (c .if2 .index)
+its-query c =
+    let j = c .before .before .before .before .before .before .before .before in
+    let w = j .judge .ensures .1 (c .before .before .enum-told .given .1) in
+    let h = its-hour (c .before) in
+    elim (c .if2 .came) [ inl x ↦ rw (x .5) (query-index _ _ h (x .2 .ensures)) | inr x ↦ rw (x .1) (unowned-at _ h (w .3 (x .0 .left))) ]
+
+-- it still has as many slots
+its-length-then : (c : tie.Joined2) → length (c .if2 .index) ≡ length (c .before .before .before .before .before .before .before .before
+    .before .before .before .before .before .before .args .index .now)
+its-length-then c =
+    elim (c .if2 .came) [ inl x ↦ rw (x .5) (omega (arith, x .2 .kept, its-length (c .before))) | inr x ↦ rw (x .1) (its-length (c .before)) ]
+
+for-owner-requires : tie.Need-for-owner-requires
+for-owner-requires c κs =
+    let o = c .before .before .before .before .before .before .before .before .before .before .before .before .before .before .before .pre .2 in
+    (its-hour (c .before .before) .roomy, o .0, o .1)
+
 returns : tie.Need-returns
 returns c =
-    let t = c .before .before .before in
+    let f = c .before .before in
+    let t = f .before .before in
     let j = t .before .before .before .before .before .before in
     let e = t .enum-told .given .1 in
-    (c .fuel-at .ensures ∙ asked-then _ _ (answered j e), λ z. (its-hour (c .before .before), j .judge .ensures .1 e .1))
+    let o = j .before .before .before .before .before .before .pre .2 in (
+      c .fuel-at .ensures ∙ rw (parameters-held _ (its-query f)) refl ∙ asked-then _ _ o (answered j e),
+      λ z. (its-query f, j .judge .ensures .1 e .1),
+    )
 
 returns-2 : tie.Need-returns-2
 returns-2 c =
     let j = c .before .before .before .before .before .before .before in
+    let o = j .before .before .before .before .before .before .pre .2 in
     let e = answered j (c .before .answer .given .1) in
-    (asked-own _ _ e, λ z. absurd (not-refused _ _ (sym (hour-refused _ _ e) ∙ z)))
+    (asked-own _ _ o e, λ z. absurd (not-refused _ _ (sym (hour-refused _ _ o e) ∙ z)))
 
 pub judge-at-spec : {M : Type 1} → statement M
 judge-at-spec =
@@ -58,9 +89,10 @@ judge-at-spec =
     (λ c κs. search needs)
     (λ c. search needs)
     at-hour-requires
-    (λ c κs. its-hour (c .before))
+    for-owner-requires
+    (λ c κs. query-indexed _ (its-query (c .before)))
     (λ c. search needs)
-    (λ c. its-length (c .before .before))
+    (λ c. its-length-then (c .before .before))
     (λ c. search needs)
     returns
     (λ c. search needs)

@@ -1,6 +1,6 @@
 use borrow.Author.Needs.{needs}
 use Rattle.query.proofs.Asking.{ready, asked-refused}
-use Rattle.reference.proofs.AtHour.{packed-held, levels-accepted, levels-refused}
+use Rattle.reference.proofs.AtQuery.{packed-held, levels-accepted, levels-refused}
 use Rattle.reference.proofs.levels_in.Statement.{statement}
 use Rattle.reference.proofs.levels_in.Tie as tie
 

@@ -8,7 +8,7 @@ use lib.ListN.{length, drop}
 use Rattle.fields.specs.Numbers.{number}
 use Rattle.text.specs.Text.{over, refusalLine}
 use Rattle.layout.specs.declared.Written.{Written}
-use Rattle.layout.specs.Report.{longestReport, prints}
+use Rattle.layout.specs.Report.{longestReport, programQuery, prints}
 use Rattle.report.proofs.Buffer.{Told}
 use Rattle.report.proofs.Program.{prints-fits, prints-short, after-hour, print-report, print-refusal, told-text, told-scant}
 use Rattle.report.proofs.print.Statement.{statement}
@@ -30,7 +30,7 @@ hour-there c = c .before .before .before .before .before .before .if2 .left
 
 -- what the report told, of the input after the hour
 told : (c : tie.After-slice-known3) {w : Written} → c .before .before .report .result ≡ w
-    → Told (drop 4 (input (start c))) (number 0 4 (input (start c))) (start c .args .out .now) w (c .before .before .report .last .1 .1 .0)
+    → Told (drop 4 (input (start c))) (programQuery (input (start c))) (start c .args .out .now) w (c .before .before .report .last .1 .1 .1 .0)
 told c e =
     let r = c .before .before in
     after-hour (input (start c)) (start c .args .out .now) (r .before .before .u32-at .ensures) (sym e ∙ r .report .ensures .0, r .report .ensures .1)
@@ -38,7 +38,7 @@ told c e =
 -- a refusal that it told
 refused : (c : tie.After-known-told2)
     → (prints (input (start (c .before .before .before))) ≡ refusalLine (c .before .number .given .0 .0) (c .before .number .given .0 .1 .0))
-    × (c .before .before .before .before .before .report .last .1 .1 .0 ≡ start (c .before .before .before) .args .out .now)
+    × (c .before .before .before .before .before .report .last .1 .1 .1 .0 ≡ start (c .before .before .before) .args .out .now)
 refused c =
     let r = c .before .before .before in
     print-refusal (input (start r)) (start r .args .out .now) (roomy r) (hour-there r) _ _ (told r (c .before .number .given .1))

@@ -1,6 +1,7 @@
 -- `report::report_in` meets its contract.
 use mathlib.Core.Path.{refl}
 use borrow.Author.Needs.{needs}
+use Rattle.station.specs.InForce.{query}
 use Rattle.query.proofs.Asking.{ready, asked-refused}
 use Rattle.reference.proofs.Handed.{handed-count}
 use Rattle.report.proofs.Buffer.{packed-is, told-levels, told-refusal}
@@ -30,14 +31,14 @@ returns c =
     let j = l .before .before .before .before .before .before .before .before .before .before .before .before in
     let args = j .before .before .before .before .before .before .args in
     let g = ready _ _ (j .judge-at .ensures .0) (j .judge-at .ensures .1) (l .before .before .before .before .before .before .before .profile .given .1) in
-    told-levels (args .d .now) (args .hour) (args .buf .now) _ _ (g .drawn) (packed-is g (l .profile-levels .ensures) (n .retired .ensures))
+    told-levels (args .d .now) (query (args .hour) (args .owner)) (args .buf .now) _ _ (g .drawn) (packed-is g (l .profile-levels .ensures) (n .retired .ensures))
     (c .before .before .put-report .ensures)
 
 returns-2 : tie.Need-returns-2
 returns-2 c =
     let j = c .before .before .before .before .before .before in
     let args = j .before .before .before .before .before .before .args in
-    told-refusal (args .d .now) (args .hour) (args .buf .now) _ _ (asked-refused _ _ (j .judge-at .ensures .0) (c .before .number .given .1))
+    told-refusal (args .d .now) (query (args .hour) (args .owner)) (args .buf .now) _ _ (asked-refused _ _ (j .judge-at .ensures .0) (c .before .number .given .1))
 
 pub report-in-spec : {M : Type 1} → statement M
 report-in-spec =

@@ -1,8 +1,9 @@
 -- `words::levels_words_in` meets its contract.
 use mathlib.Core.Path.{refl}
 use borrow.Author.Needs.{needs}
+use Rattle.station.specs.InForce.{query}
 use Rattle.query.proofs.Asking.{ready, asked-refused}
-use Rattle.reference.proofs.AtHour.{packed-held}
+use Rattle.reference.proofs.AtQuery.{packed-held}
 use Rattle.words.proofs.Answers.{handed-blank, told-words, told-few, told-refusal}
 use Rattle.words.proofs.levels_words_in.Statement.{statement}
 use Rattle.words.proofs.levels_words_in.Tie as tie
@@ -12,7 +13,7 @@ returns c =
     let j = c .before .before .before .before .before .before .before in
     let args = j .before .before .before .before .before .before .args in
     let g = ready _ _ (j .judge-at .ensures .0) (j .judge-at .ensures .1) (c .before .before .profile .given .1) in
-    told-few (args .d .now) (args .hour) (args .words .now) (g .drawn) (c .if1 .taken)
+    told-few (args .d .now) (query (args .hour) (args .owner)) (args .words .now) (g .drawn) (c .if1 .taken)
 
 profile-levels-requires : tie.Need-profile-levels-requires
 profile-levels-requires c κs =
@@ -30,14 +31,14 @@ returns-2 c =
     let j = t .before .before .before .before .before .before .before in
     let args = j .before .before .before .before .before .before .args in
     let g = ready _ _ (j .judge-at .ensures .0) (j .judge-at .ensures .1) (t .before .before .profile .given .1) in
-    told-words (args .d .now) (args .hour) (args .words .now) _ (g .drawn) (t .if1 .left) (packed-held g (l .profile-levels .ensures))
+    told-words (args .d .now) (query (args .hour) (args .owner)) (args .words .now) _ (g .drawn) (t .if1 .left) (packed-held g (l .profile-levels .ensures))
     (c .before .before .put-words .ensures)
 
 returns-3 : tie.Need-returns-3
 returns-3 c =
     let j = c .before .before .before .before .before .before in
     let args = j .before .before .before .before .before .before .args in
-    told-refusal (args .d .now) (args .hour) (args .words .now) _ _ (asked-refused _ _ (j .judge-at .ensures .0) (c .before .number .given .1))
+    told-refusal (args .d .now) (query (args .hour) (args .owner)) (args .words .now) _ _ (asked-refused _ _ (j .judge-at .ensures .0) (c .before .number .given .1))
 
 pub levels-words-in-spec : {M : Type 1} → statement M
 levels-words-in-spec =

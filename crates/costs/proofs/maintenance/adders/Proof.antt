@@ -1,72 +1,91 @@
 use borrow.Author.Needs.{needs}
 use mathlib.Core.Path.{_≡_, sym, _∙_}
-use mathlib.Core.Bool.{cond}
-use Prim.Native.Nat.{_≤_, _*_, _-_}
+use mathlib.Core.Bool.{true, cond, _&&_}
+use Prim.Native.Nat.{_+_}
 use native.Mathlib.Omega.{arith}
 use lib.Dec.{eqb}
-use Rattle.lookup.specs.Parts.{held}
-use Rattle.station.specs.Parameters.{amounts, adder}
-use Rattle.index.proofs.Slots.{adder-slot}
 use Rattle.lists.specs.Sums.{sumTo}
-use Rattle.formulas.specs.Exact.{microDollars}
-use Rattle.formulas.specs.Levels.{thirdParty, adders}
-use Rattle.lists.proofs.Sums.{sum-more, sum-ends}
-use Rattle.costs.proofs.Absent.{no-adders}
+use Rattle.lists.proofs.Tests.{and-left, and-right}
+use Rattle.station.specs.Parameters.{ownAdder}
+use Rattle.index.proofs.Slots.{adder-slot, owner-slot}
+use Rattle.lookup.specs.Parts.{amountsHeld}
+use Rattle.formulas.specs.Levels.{thirdParty}
+use Rattle.costs.proofs.Absent.{no-common-adders, no-own-adders}
+use Rattle.costs.proofs.Costs.{all-adders}
 use Rattle.costs.proofs.maintenance.adders.Statement.{statement}
 use Rattle.costs.proofs.maintenance.adders.Tie as tie
 
-abbrev Inv-loop : tie.InvT-loop
-Inv-loop d index p v sum₀ c₀ sum c =
-    (c ≤ 5) × (sum ≤ c * 1000000000000) × (sum ≡ sumTo c (λ k. cond (eqb k thirdParty) 0 (adder (amounts (held d index)) p k v)))
+unclaimed-requires : tie.Need-unclaimed-requires
+unclaimed-requires c κs =
+    let a = c .before .before .before .args in
+    let q = c .before .before .before .pre in
+    omega (arith, c .slot-ao .ensures, owner-slot 1 (a .p) 1 (a .v) (omega arith) (omega arith) (omega arith), q .0 .index .roomy, q .2, q .4)
 
-abbrev μ-loop : tie.MeasureT-loop
-μ-loop d index p v sum₀ c₀ sum c = 5 - c
-
-slots-empty-requires : tie.Need-slots-empty-requires Inv-loop μ-loop
-slots-empty-requires c κs =
-    let q = c .before .before .before .pre in omega (
-      arith,
-      c .slot-ad .ensures,
-      adder-slot (c .before .before .before .args .p) 1 1 (omega arith) (omega arith),
-      q .0 .index .roomy,
-      q .2,
-    )
-
-returns : tie.Need-returns Inv-loop μ-loop
-returns c =
+unclaimed-requires-2 : tie.Need-unclaimed-requires-2
+unclaimed-requires-2 c κs =
     let a = c .before .before .before .before .before .args in
-    let q = c .before .before .before .before .before .pre in (
-      no-adders (q .0) (a .p) (q .1) (q .2) (c .before .before .slot-ad .ensures) (sym (c .before .slots-empty .ensures) ∙ c .if1 .taken) (a .v) (q .3) (q .4),
-      omega arith,
-    )
+    let q = c .before .before .before .before .before .pre in
+    omega (arith, c .slot-ao2 .ensures, owner-slot 2 (a .p) 1 (a .v) (omega arith) (omega arith) (omega arith), q .0 .index .roomy, q .2, q .4)
 
-loop-holds : tie.Need-loop-holds Inv-loop μ-loop
-unfolding sumTo
-loop-holds c = (search needs, search needs, search needs)
+unclaimed-requires-3 : tie.Need-unclaimed-requires-3
+unclaimed-requires-3 c κs =
+    let a = c .before .before .before .before .before .before .before .args in
+    let q = c .before .before .before .before .before .before .before .pre in
+    omega (arith, c .slot-ad .ensures, adder-slot (a .p) 1 (a .v) (omega arith) (omega arith), q .0 .index .roomy, q .2, q .4)
 
-loop-again : tie.Need-loop-again Inv-loop μ-loop
-loop-again c = (omega arith, omega arith, sum-more _ _ _ _ (c .before .before .loop .inv .2) (c .claimed .ensures .0))
+-- what the slots tell of the owners' adders
+abbrev owners-none : tie.After-unclaimed2 → Type 0
+owners-none c =
+    let a = c .before .before .before .before .before .before .args in
+    let m = amountsHeld (a .d .now) (a .index .now) in
+    0 ≡ sumTo 5 (λ i. cond (eqb i thirdParty) 0 (ownAdder m 1 (a .p) i (a .v) + ownAdder m 2 (a .p) i (a .v)))
 
-returns-2 : tie.Need-returns-2 Inv-loop μ-loop
-unfolding microDollars adders
+no-owners : (c : tie.After-unclaimed2) → c .before .before .unclaimed .result && c .unclaimed2 .result ≡ true → owners-none c
+no-owners c e =
+    let a = c .before .before .before .before .before .before .args in
+    let q = c .before .before .before .before .before .before .pre in
+    no-own-adders (q .0) (a .p) (q .1) (q .2) (a .v) (q .3) (q .4) (c .before .before .before .slot-ao .ensures)
+    (sym (c .before .before .unclaimed .ensures) ∙ and-left (c .before .before .unclaimed .result) (c .unclaimed2 .result) e)
+    (c .before .slot-ao2 .ensures) (sym (c .unclaimed2 .ensures) ∙ and-right (c .before .before .unclaimed .result) (c .unclaimed2 .result) e)
+
+returns : tie.Need-returns
+returns c =
+    let t = c .before .before .before in
+    let a = t .before .before .before .before .before .before .args in
+    let q = t .before .before .before .before .before .before .pre in
+    let none = c .before .unclaimed3 .result in
+    let owners = t .before .before .unclaimed .result && t .unclaimed2 .result in
+    let common = no-common-adders (q .0) (a .p) (q .1) (q .2) (a .v) (q .3) (q .4) (c .before .before .slot-ad .ensures)
+    (sym (c .before .unclaimed3 .ensures) ∙ and-left none owners (c .if1 .taken)) in
+    (all-adders _ (a .p) (a .v) common (no-owners t (and-right none owners (c .if1 .taken))), omega arith)
+
+returns-2 : tie.Need-returns-2
 returns-2 c =
-    let l = c .before .loop in
-    (sum-ends _ (l .c) 5 _ (c .loop-test .left) (l .inv .0) (l .inv .2), omega arith)
+    let t = c .before .before .before .before .before in
+    let a = t .before .before .before .before .before .before .args in
+    let common = c .before .common-adders .ensures in
+    (omega (arith, all-adders (amountsHeld (a .d .now) (a .index .now)) (a .p) (a .v) (common .0) (no-owners t (c .if2 .taken))), omega (arith, common .1))
+
+returns-3 : tie.Need-returns-3
+returns-3 c =
+    let a = c .before .before .before .before .before .before .before .before .before .before .before .before .args in
+    let common = c .before .before .common-adders .ensures in
+    let own = c .own-adders .ensures in
+    (all-adders _ (a .p) (a .v) (common .0) (own .0), omega (arith, common .1, own .1))
 
 pub adders-spec : {M : Type 1} → statement M
 adders-spec =
     tie.close
     (tie.spec
-    Inv-loop
-    μ-loop
     (λ c κs. search needs)
-    slots-empty-requires
+    unclaimed-requires
+    (λ c κs. search needs)
+    unclaimed-requires-2
+    (λ c κs. search needs)
+    unclaimed-requires-3
     returns
-    loop-holds
-    (λ c. omega arith)
+    (λ c κs. search needs)
+    returns-2
     (λ c κs. search needs)
     (λ c. omega arith)
-    (λ c. omega arith)
-    (λ c. omega arith)
-    loop-again
-    returns-2)
+    returns-3)

@@ -1,19 +1,17 @@
-use Prim.Native.Nat.{_≤_, _-_}
+use Prim.Native.Nat.{_*_, _≤_, _-_}
 use native.Mathlib.Omega.{arith}
 use mathlib.Core.Path.{_≡_}
-use mathlib.Core.Bool.{cond}
 use borrow.Author.Needs.{needs}
 use Rattle.lists.specs.Sums.{sumTo}
 use Rattle.lists.proofs.Sums.{sum-more, sum-ends}
-use Rattle.records.specs.Table.{AD}
-use Rattle.station.specs.Parameters.{adderKey}
 use Rattle.lookup.specs.Parts.{parametersHeld}
-use Rattle.formulas.specs.Levels.{thirdParty, retired}
+use Rattle.formulas.specs.Levels.{retired}
+use Rattle.costs.proofs.Retired.{payments}
 use Rattle.costs.proofs.maintenance.retired.Statement.{statement}
 use Rattle.costs.proofs.maintenance.retired.Tie as tie
 
 abbrev Inv-loop : tie.InvT-loop
-Inv-loop d index p count₀ v₀ count v = (v ≤ 4) × (count ≤ v) × (count ≡ sumTo v (λ k. cond (parametersHeld d index .has AD (adderKey p thirdParty k)) 1 0))
+Inv-loop d index p count₀ v₀ count v = (v ≤ 4) × (count ≤ v * 3) × (count ≡ sumTo v (payments (parametersHeld d index) p))
 
 abbrev μ-loop : tie.MeasureT-loop
 μ-loop d index p count₀ v₀ count v = 4 - v
@@ -23,7 +21,7 @@ unfolding sumTo
 loop-holds c = (search needs, search needs, search needs)
 
 loop-again : tie.Need-loop-again Inv-loop μ-loop
-loop-again c = (omega arith, omega arith, sum-more _ _ _ _ (c .before .before .loop .inv .2) (c .payment .ensures .0))
+loop-again c = (omega arith, omega arith, sum-more _ _ _ _ (c .before .before .loop .inv .2) (c .payments .ensures .0))
 
 returns : tie.Need-returns Inv-loop μ-loop
 unfolding retired
