@@ -14,23 +14,24 @@ use borrow.Author.Tests.{lt-ltb, le-ltb, eqb-true}
 use Rattle.lists.specs.Lists.{Each, done, also, Pairwise, none, more, joined}
 use Rattle.lists.specs.Tests.{allBelow}
 use Rattle.lists.proofs.Lists.{those-pairwise}
-use Rattle.lists.proofs.Tests.{and-left, and-right, and-false, below-at}
+use Rattle.lists.proofs.Tests.{split, and-left, and-right, and-false, below-at}
 use Rattle.fields.specs.Numbers.{number, biased}
 use Rattle.fields.proofs.Numbers.{number-same}
-use Rattle.records.specs.Table.{fieldOf}
+use Rattle.records.specs.Table.{table, rowOf, fieldOf, AO}
 use Rattle.records.specs.Record.{mark, isDated, kind, since, fieldsAt, size, offset, keyWidth, isMoney, moneyByte, issue, keyOf, read, value, told}
 use Rattle.records.specs.Dossier.{records}
 use Rattle.records.proofs.Record.{before-fields, in-head, in-key, in-field, size-ge, mark-alike}
 use Rattle.records.proofs.Dated.{dated-at, kind-field, told-value}
 use Rattle.records.proofs.Dossier.{joined-records, Whole, records-whole}
 use Rattle.station.specs.Current.{current, present}
-use Rattle.station.specs.InForce.{inForce}
+use Rattle.station.specs.InForce.{come, speaksTo, Query, inForce}
 use Rattle.station.specs.Parameters.{parameters, amounts}
 use Rattle.station.specs.Declared.{IsCurrent, CurrentOf, absent, standing}
 use Rattle.station.proofs.Current.{current-related, current-found}
+use Rattle.station.proofs.Owners.{speaks-common, speaks-own}
 use Rattle.rules.specs.Answer.{IsAccepted}
 use Rattle.rules.proofs.Sound.{accepted-sound}
-use Rattle.promise.specs.Withdrawn.{AlikeBut, pickedAt, RecordByRecord}
+use Rattle.promise.specs.AlikeBut.{AlikeBut, pickedAt, RecordByRecord}
 
 -- ---- two records
 
@@ -79,12 +80,23 @@ module _ {picks : List ℕ → Bool} {r s : List ℕ} (q : AlikeBut picks r s) w
       told-value k j r e ∙ value-same j (rw (kind-field (mark r) k j e) m) ∙ ap (λ (x : ℕ). value x j s) but-mark
       ∙ sym (told-value k j s (sym but-kind ∙ e))
 
+  -- an owner is no money
+  pub but-speaks : (o : ℕ) → speaksTo o r ≡ speaksTo o s
+  unfolding fieldOf rowOf table
+  but-speaks o =
+      split (eqb (kind r) AO)
+      (λ e. let w = eqb-true (kind r) AO e in
+      speaks-own o r w ∙ ap (λ (x : ℕ). eqb x o) (but-told AO 0 w refl) ∙ sym (speaks-own o s (sym but-kind ∙ w)))
+      (λ e. speaks-common o r e ∙ sym (speaks-common o s (ap (λ (x : ℕ). eqb x AO) (sym but-kind) ∙ e)))
+
 -- ---- all the records
 
 module _ {picks : List ℕ → Bool} {l m : List (List ℕ)} (a : Pairwise (AlikeBut picks) l m) where
-  pub but-force : (h : ℕ) → Pairwise (AlikeBut picks) (inForce h l) (inForce h m)
-  unfolding inForce
-  but-force h = those-pairwise (λ r. leb (since r) h) (λ r s q. ap (λ (x : ℕ). leb x h) (but-since q)) a
+  pub but-force : (t : Query) → Pairwise (AlikeBut picks) (inForce t l) (inForce t m)
+  unfolding inForce come
+  but-force t =
+      those-pairwise (speaksTo (t .owner)) (λ r s q. but-speaks q (t .owner))
+      (those-pairwise (λ r. leb (since r) (t .hour)) (λ r s q. ap (λ (x : ℕ). leb x (t .hour)) (but-since q)) a)
 
   pub but-current : (k n : ℕ) → AlikeBut picks (current k n l) (current k n m)
   but-current k n =

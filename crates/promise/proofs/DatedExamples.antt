@@ -2,16 +2,16 @@
 use mathlib.Core.Path.{_≡_, refl, sym, _∙_}
 use mathlib.Core.Bool.{true, false}
 use mathlib.Core.List.{[], _∷_, _++_, map}
-use Prim.Native.Nat.{ℕ, _<_}
+use Prim.Native.Nat.{_<_}
 use Rattle.lists.specs.Lists.{done, also, joined}
 use Rattle.records.specs.declared.Answer.the-variants.{Accepted, Refused}
 use Rattle.records.specs.Table.{thermal, FV}
 use Rattle.records.specs.Made.{madeFrom}
 use Rattle.records.proofs.RaiseTest.{riseTest, recordTest, recordsTest, raiseTest, raise-by}
 use Rattle.station.specs.Current.{lookupBytes}
-use Rattle.station.specs.InForce.{counts}
+use Rattle.station.specs.InForce.{counts, Query, query}
 use Rattle.rules.specs.Answer.{answer, IsAccepted}
-use Rattle.formulas.specs.Levels.{hourAnswer, levels, amount}
+use Rattle.formulas.specs.Levels.{queryAnswer, levels, amount}
 use Rattle.layout.specs.Report.{prints}
 use Rattle.layout.proofs.Computed.{computed}
 use Rattle.promise.specs.Demand.{Raise, RaiseKeeps}
@@ -30,14 +30,14 @@ unfolding computed
 dated-accepted = record { clean = refl }
 
 -- 4.00 counts until hour 99, and 6.00 comes into force at hour 100
-dated-comes : (map amount (levels (joined datedFuel) 0) ≡ 4230 ∷ 330000 ∷ 50000 ∷ 25 ∷ [])
-    × (map amount (levels (joined datedFuel) 99) ≡ 4230 ∷ 330000 ∷ 50000 ∷ 25 ∷ [])
-    × (map amount (levels (joined datedFuel) 100) ≡ 5830 ∷ 430000 ∷ 70000 ∷ 25 ∷ [])
+dated-comes : (map amount (levels (joined datedFuel) (query 0 1)) ≡ 4230 ∷ 330000 ∷ 50000 ∷ 25 ∷ [])
+    × (map amount (levels (joined datedFuel) (query 99 1)) ≡ 4230 ∷ 330000 ∷ 50000 ∷ 25 ∷ [])
+    × (map amount (levels (joined datedFuel) (query 100 1)) ≡ 5830 ∷ 430000 ∷ 70000 ∷ 25 ∷ [])
 unfolding computed
 dated-comes = (refl, refl, refl)
 
 -- at hour 200 it counts still: a higher issue of an earlier first hour hides the lower one, which counts at no hour
-dated-hides : (map amount (levels (joined datedFuel) 200) ≡ 5830 ∷ 430000 ∷ 70000 ∷ 25 ∷ [])
+dated-hides : (map amount (levels (joined datedFuel) (query 200 1)) ≡ 5830 ∷ 430000 ∷ 70000 ∷ 25 ∷ [])
     × (map (counts datedFuel) datedFuel ≡ true ∷ true ∷ true ∷ true ∷ false ∷ true ∷ true ∷ true ∷ true ∷ [])
 unfolding computed
 dated-hides = (refl, refl)
@@ -73,12 +73,12 @@ dearer-accepted : IsAccepted (joined r1Dearer)
 unfolding computed
 dearer-accepted = record { clean = refl }
 
-pub dearer-not-yet : (h : ℕ) → h < 100 → SameAt (joined r1) (joined r1Dearer) h
+pub dearer-not-yet : (q : Query) → q .hour < 100 → SameAt (joined r1) (joined r1Dearer) q
 unfolding computed
-dearer-not-yet h p = not-yet (joined r1) (joined r1Dearer) (dearer ∷ []) r1-accepted dearer-accepted (behind dearer r1) h (also {a = dearer} p done)
+dearer-not-yet q p = not-yet (joined r1) (joined r1Dearer) (dearer ∷ []) r1-accepted dearer-accepted (behind dearer r1) q (also {a = dearer} p done)
 
-dearer-then : (map amount (levels (joined r1Dearer) 99) ≡ 4230 ∷ 330000 ∷ 50000 ∷ 25 ∷ [])
-    × (map amount (levels (joined r1Dearer) 100) ≡ 5830 ∷ 430000 ∷ 70000 ∷ 25 ∷ [])
+dearer-then : (map amount (levels (joined r1Dearer) (query 99 1)) ≡ 4230 ∷ 330000 ∷ 50000 ∷ 25 ∷ [])
+    × (map amount (levels (joined r1Dearer) (query 100 1)) ≡ 5830 ∷ 430000 ∷ 70000 ∷ 25 ∷ [])
 unfolding computed
 dearer-then = (refl, refl)
 
@@ -100,8 +100,9 @@ late-accepted : IsAccepted (joined lateFuel)
 unfolding computed
 late-accepted = record { clean = refl }
 
-late-before : (hourAnswer (joined lateFuel) 9 ≡ Refused 20 0) × (levels (joined lateFuel) 9 ≡ []) × (hourAnswer (joined lateFuel) 10 ≡ Accepted)
-    × (map amount (levels (joined lateFuel) 10) ≡ 4230 ∷ 330000 ∷ 50000 ∷ 25 ∷ [])
+late-before : (queryAnswer (joined lateFuel) (query 9 1) ≡ Refused 20 0) × (levels (joined lateFuel) (query 9 1) ≡ [])
+    × (queryAnswer (joined lateFuel) (query 10 1) ≡ Accepted)
+    × (map amount (levels (joined lateFuel) (query 10 1)) ≡ 4230 ∷ 330000 ∷ 50000 ∷ 25 ∷ [])
 unfolding computed
 late-before = (refl, refl, refl, refl)
 
@@ -114,8 +115,8 @@ pub late-keeps : RaiseKeeps (joined lateFuel) (joined (lateWith 4100000))
 late-keeps = demand3 .raise (joined lateFuel) (joined (lateWith 4100000)) late-accepted late-raise
 
 -- "an hour without fuel in force has no level before or after the raise"
-late-after : hourAnswer (joined (lateWith 4100000)) 9 ≡ Refused 20 0
-late-after = sym (late-keeps .hours 9) ∙ late-before .0
+late-after : queryAnswer (joined (lateWith 4100000)) (query 9 1) ≡ Refused 20 0
+late-after = sym (late-keeps .drawn (query 9 1)) ∙ late-before .0
 
 -- the program prints `refused 20 at 0`
 late-prints : prints (0 ∷ 0 ∷ 0 ∷ 9 ∷ joined lateFuel) ≡ 114 ∷ 101 ∷ 102 ∷ 117 ∷ 115 ∷ 101 ∷ 100 ∷ 32 ∷ 50 ∷ 48 ∷ 32 ∷ 97 ∷ 116 ∷ 32 ∷ 48 ∷ 10 ∷ []

@@ -19,25 +19,25 @@ use Rattle.records.specs.Record.{datable, since}
 use Rattle.records.specs.Dossier.{records}
 use Rattle.records.specs.Raise.{Raised}
 use Rattle.records.proofs.Raise.{raised, raised-self, raised-since}
-use Rattle.station.specs.InForce.{inForce}
+use Rattle.station.specs.InForce.{Query, inForce}
 use Rattle.station.specs.Parameters.{parameters, amounts, technology, efficiency, chargePrice, chargeEnergy}
 use Rattle.station.specs.Week.{intervals, weekPrice, weekEnergy, weekPrices, weekEnergies}
 use Rattle.station.proofs.Parameters.{same-parameters, higher, says-always}
-use Rattle.station.proofs.InForce.{force-raised}
+use Rattle.station.proofs.Owners.{force-raised}
 use Rattle.station.proofs.Week.{price-told, energy-of-week}
 use Rattle.rules.specs.Answer.{IsAccepted}
 use Rattle.rules.specs.Week.{weekAnswer}
 use Rattle.lists.proofs.Sums.{upTo-pairwise}
 use Rattle.rules.proofs.Week.{accepted-readable}
 use Rattle.rules.proofs.Sound.{accepted-sound, sound-accepted, sound-raised, efficient}
-use Rattle.formulas.specs.Levels.{parametersAt, amountsAt, fuelled, hourAnswer, NoLower, CloseLine, levels}
+use Rattle.formulas.specs.Levels.{parametersAt, amountsAt, IsOwner, fuelled, queryAnswer, NoLower, CloseLine, levels}
 use Rattle.formulas.proofs.Hours.{hour-accepted, hour-without, hour-same, levels-fuelled, levels-without}
 use Rattle.formulas.proofs.Lines.{lines-upper, lines-close}
 use Rattle.verdicts.specs.declared.Verdict.{Verdict}
 use Rattle.verdicts.specs.declared.Verdict.the-variants.{Passes, Fails, Refused}
 use Rattle.verdicts.specs.Verdict.{numbers, onOffer, onPrice}
 use Rattle.verdicts.proofs.Stays.{settle-stays, offer-stays, price-stays}
-use Rattle.promise.specs.Demand.{Raise, Passed, AtHour, withFuel, noFuel, Demand3}
+use Rattle.promise.specs.Demand.{Raise, Passed, AtQuery, withFuel, noFuel, Demand3}
 
 -- passing, in the paper's numbers, is the verdict `Passes`
 passed : (v : Verdict) → Passed v → v ≡ Passes
@@ -76,32 +76,33 @@ module _ {d e : List ℕ} (q : Raise d e) (h : IsAccepted d) where
       let z = accepted-sound d h in
       sound-accepted e (rw (← q .long) (z .0)) (sound-raised pairs (z .1))
 
-  -- at an hour, the records in force
-  pairs-at : (t : ℕ) → Pairwise (Raised (technology (parameters (records d)))) (inForce t (records d)) (inForce t (records e))
+  -- for a query, the records in force
+  pairs-at : (t : Query) → Pairwise (Raised (technology (parameters (records d)))) (inForce t (records d)) (inForce t (records e))
   pairs-at t = force-raised t pairs
 
   first-hours-stay : Pairwise (λ r s. since r ≡ since s) (records d) (records e)
   first-hours-stay = since-stays pairs
 
-  hours-same : (t : ℕ) → hourAnswer d t ≡ hourAnswer e t
-  hours-same t = hour-same d t e (h .clean ∙ sym (accepted-stays .clean)) (ap (λ s. fuelled s t) (same-parameters (pairs-at t)))
+  drawn-same : (t : Query) → queryAnswer d t ≡ queryAnswer e t
+  drawn-same t = hour-same d t e (h .clean ∙ sym (accepted-stays .clean)) (ap (λ s. fuelled s (t .hour)) (same-parameters (pairs-at t)))
 
-  levels-upper : (t : ℕ) → Pairwise NoLower (levels d t) (levels e t)
+  levels-upper : (t : Query) → Pairwise NoLower (levels d t) (levels e t)
   unfolding levels
   levels-upper t =
       rw (← same-parameters (pairs-at t))
-      (cond-relates (Pairwise NoLower) (fuelled (parametersAt d t) t) _ _ _ _ (lines-upper (parametersAt d t) (higher (pairs-at t)) t) none)
+      (cond-relates (Pairwise NoLower) (fuelled (parametersAt d t) (t .hour)) _ _ _ _
+      (lines-upper (parametersAt d t) (higher (pairs-at t)) (t .hour)) none)
 
-  offers-stay : (t c : ℕ) (o : List ℕ) → onOffer d t c o ≡ Passes → onOffer e t c o ≡ Passes
+  offers-stay : (t : Query) (c : ℕ) (o : List ℕ) → onOffer d t c o ≡ Passes → onOffer e t c o ≡ Passes
   unfolding onOffer
   offers-stay t c o =
-      rw (← hours-same t, ← same-parameters (pairs-at t)) (settle-stays (hourAnswer d t) (offer-stays (parametersAt d t) c (levels-upper t) o))
+      rw (← drawn-same t, ← same-parameters (pairs-at t)) (settle-stays (queryAnswer d t) (offer-stays (parametersAt d t) c (levels-upper t) o))
 
-  prices-stay : (t v c : ℕ) (price : ℤ) → onPrice d t v c price ≡ Passes → onPrice e t v c price ≡ Passes
+  prices-stay : (t : Query) (v c : ℕ) (price : ℤ) → onPrice d t v c price ≡ Passes → onPrice e t v c price ≡ Passes
   unfolding onPrice
   prices-stay t v c price =
-      rw (← hours-same t, ← same-parameters (pairs-at t))
-      (settle-stays (hourAnswer d t) (price-stays (parametersAt d t) c (levels-upper t) v (biasedOf price)))
+      rw (← drawn-same t, ← same-parameters (pairs-at t))
+      (settle-stays (queryAnswer d t) (price-stays (parametersAt d t) c (levels-upper t) v (biasedOf price)))
 
   week-stays : (n m : ℕ) → weekAnswer d n m ≡ weekAnswer e n m
   unfolding weekAnswer
@@ -124,24 +125,25 @@ module _ {d e : List ℕ} (q : Raise d e) (h : IsAccepted d) where
       (held-order (chargePrice (amounts (records d)) n) (chargePrice (amounts (records e)) n) (higher pairs CH n 1)))
       intervals
 
--- ---- an hour of an accepted dossier
+-- ---- a query of an accepted dossier
 
-module _ (d : List ℕ) (a : IsAccepted d) (h : ℕ) where
-  -- a battery's efficiency is the same at every hour
-  efficient-at : technology (parametersAt d h) ≡ 3 → 500 ≤ efficiency (parametersAt d h)
+module _ (d : List ℕ) (a : IsAccepted d) (q : Query) where
+  -- a battery's efficiency is the same for every query
+  efficient-at : technology (parametersAt d q) ≡ 3 → 500 ≤ efficiency (parametersAt d q)
   unfolding datable among table
   efficient-at =
-      rw (says-always h RS refl (records d) 0 0, says-always h RS refl (records d) 0 7) (efficient (accepted-sound d a .1))
+      rw (says-always q RS refl (records d) 0 0, says-always q RS refl (records d) 0 7) (efficient (accepted-sound d a .1))
 
-  all-close : Each CloseLine (levels d h)
+  all-close : Each CloseLine (levels d q)
   unfolding levels
-  all-close = cond-holds (Each CloseLine) (fuelled (parametersAt d h) h) _ _ (lines-close (parametersAt d h) (amountsAt d h) efficient-at h) done
+  all-close =
+      cond-holds (Each CloseLine) (fuelled (parametersAt d q) (q .hour)) _ _ (lines-close (parametersAt d q) (amountsAt d q) efficient-at (q .hour)) done
 
-  at-hour : AtHour d h
-  at-hour =
-      split (fuelled (parametersAt d h) h)
-      (λ e. withFuel e (hour-accepted d h a e) (levels-fuelled d h e))
-      (λ e. noFuel e (hour-without d h a e) (levels-without d h e))
+  at-query : IsOwner (q .owner) → AtQuery d q
+  at-query o =
+      split (fuelled (parametersAt d q) (q .hour))
+      (λ e. withFuel e (hour-accepted d q o a e) (levels-fuelled d q e))
+      (λ e. noFuel e (hour-without d q o a e) (levels-without d q e))
 
 pub demand3 : Demand3
 demand3 =
@@ -150,7 +152,7 @@ demand3 =
           record {
             accepted = accepted-stays q h;
             first-hours = first-hours-stay q h;
-            hours = hours-same q h;
+            drawn = drawn-same q h;
             higher = levels-upper q h;
             offers = λ t c o. in-numbers (offers-stay q h t c o);
             prices = λ t v c price. in-numbers (prices-stay q h t v c price);
@@ -159,7 +161,7 @@ demand3 =
             week-prices = no-price-lower q h;
           };
       distance = all-close;
-      hours = at-hour;
+      queries = at-query;
     }
 
 -- every dossier is a raise of itself

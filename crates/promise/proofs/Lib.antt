@@ -4,9 +4,13 @@ pub mod Order
 pub mod Dated
 pub mod Week
 pub mod AlikeBut
+pub mod AdderKeys
 pub mod Withdrawn
+pub mod Retired
+pub mod Owners
 pub mod Declared
 pub mod Marked
 pub mod Examples
 pub mod DatedExamples
 pub mod WithdrawnExamples
+pub mod OwnersExamples

@@ -1,4 +1,4 @@
--- Two accepted dossiers whose records in force say the same mean the same: all that is said of an hour is said of the parameters and the levels, and the week
+-- Two accepted dossiers whose records in force say the same mean the same: all that is said of a query is said of the parameters and the levels, and the week
 -- of the prices and energies of charging. Equal amounts give the levels, but they are not all that gives them.
 use Rattle.records.specs.Record.{datable}
 use mathlib.Core.Path.{_≡_, refl, ap, sym, _∙_}
@@ -10,6 +10,7 @@ use Rattle.lists.specs.Tests.{among}
 use Rattle.fields.specs.Numbers.{unbiased}
 use Rattle.records.specs.Table.{table, CH}
 use Rattle.records.specs.Dossier.{records}
+use Rattle.station.specs.InForce.{Query, query}
 use Rattle.station.specs.Parameters.{chargePrice, chargeEnergy}
 use Rattle.station.specs.Week.{intervals, weekPrice, weekEnergy, weekPrices, weekEnergies}
 use Rattle.station.proofs.Parameters.{says-always, of-always}
@@ -17,57 +18,64 @@ use Rattle.station.proofs.Week.{price-told, energy-of-week}
 use Rattle.rules.specs.Answer.{IsAccepted}
 use Rattle.rules.specs.Week.{weekAnswer, pricesAfter, energiesAfter}
 use Rattle.rules.proofs.Week.{accepted-readable}
-use Rattle.formulas.specs.Levels.{parametersIn, amountsIn, parametersAt, amountsAt, fuelled, hourAnswer, levels}
+use Rattle.formulas.specs.Levels.{parametersIn, amountsIn, parametersAt, amountsAt, fuelled, queryAnswer, levels}
 use Rattle.formulas.proofs.Hours.{hour-same}
 use Rattle.verdicts.specs.Verdict.{onOffer, onPrice}
 use Rattle.layout.specs.Report.{report, reportAnswer, bufferAfter}
-use Rattle.promise.specs.Order.{SameAt, SameMeaning}
+use Rattle.promise.specs.Order.{SameFor, SameAt, SameMeaning}
 
--- ---- at an hour
+-- ---- for a query each
 
-module _ {d e : List ℕ} (a : IsAccepted d) (b : IsAccepted e) (h : ℕ) (parameters-same : parametersAt d h ≡ parametersAt e h)
-    (levels-same : levels d h ≡ levels e h) where
-  same-answer : hourAnswer d h ≡ hourAnswer e h
-  same-answer = hour-same d h e (a .clean ∙ sym (b .clean)) (ap (λ s. fuelled s h) parameters-same)
-
-  same-report : report d h ≡ report e h
+module _ (d e : List ℕ) (q p : Query) (drawn-same : queryAnswer d q ≡ queryAnswer e p) (hours : q .hour ≡ p .hour)
+    (parameters-same : parametersAt d q ≡ parametersAt e p) (levels-same : levels d q ≡ levels e p) where
+  same-report : report d q ≡ report e p
   unfolding report
-  same-report = rw (parameters-same, levels-same) refl
+  same-report = rw (parameters-same, levels-same, hours) refl
 
-  same-reported : (n : ℕ) → reportAnswer d h n ≡ reportAnswer e h n
+  same-reported : (n : ℕ) → reportAnswer d q n ≡ reportAnswer e p n
   unfolding reportAnswer
-  same-reported n = rw (same-answer, same-report) refl
+  same-reported n = rw (drawn-same, same-report) refl
 
-  pub same-by-levels : SameAt d e h
+  pub same-for : SameFor d e q p
   unfolding onOffer onPrice bufferAfter
-  same-by-levels =
+  same-for =
       record {
-        drawn = same-answer;
+        drawn = drawn-same;
         levels = levels-same;
-        offers = λ c o. rw (same-answer, parameters-same, levels-same) refl;
-        prices = λ v c price. rw (same-answer, parameters-same, levels-same) refl;
+        offers = λ c o. rw (drawn-same, parameters-same, levels-same) refl;
+        prices = λ v c price. rw (drawn-same, parameters-same, levels-same) refl;
         report = same-report;
         answer = same-reported;
         told = λ n. rw (same-reported n, same-report) refl;
         buffer = λ buf. rw (same-reported (length buf), same-report) refl;
       }
 
+-- ---- for one query
+
+-- two accepted dossiers draw the same where they say the same
+same-by-levels : {d e : List ℕ} → IsAccepted d → IsAccepted e → (q : Query) → parametersAt d q ≡ parametersAt e q → levels d q ≡ levels e q → SameAt d e q
+same-by-levels {d} {e} a b q p l = same-for d e q q (hour-same d q e (a .clean ∙ sym (b .clean)) (ap (λ s. fuelled s (q .hour)) p)) refl p l
+
 -- the levels are those of the parameters and the amounts
-by-amounts : (d e : List ℕ) (h : ℕ) → parametersAt d h ≡ parametersAt e h → amountsAt d h ≡ amountsAt e h → levels d h ≡ levels e h
+by-amounts : (d e : List ℕ) (q : Query) → parametersAt d q ≡ parametersAt e q → amountsAt d q ≡ amountsAt e q → levels d q ≡ levels e q
 unfolding levels
-by-amounts d e h p q = rw (p, q) refl
+by-amounts d e q p m = rw (p, m) refl
 
-pub same-at : {d e : List ℕ} → IsAccepted d → IsAccepted e → (h : ℕ) → parametersAt d h ≡ parametersAt e h → amountsAt d h ≡ amountsAt e h → SameAt d e h
-same-at {d} {e} a b h p q = same-by-levels a b h p (by-amounts d e h p q)
+pub same-at : {d e : List ℕ} → IsAccepted d → IsAccepted e → (q : Query) → parametersAt d q ≡ parametersAt e q → amountsAt d q ≡ amountsAt e q → SameAt d e q
+same-at {d} {e} a b q p m = same-by-levels a b q p (by-amounts d e q p m)
 
--- ---- at every hour
+-- ---- for every query
 
-module _ {d e : List ℕ} (a : IsAccepted d) (b : IsAccepted e) (parameters-same : (h : ℕ) → parametersAt d h ≡ parametersAt e h)
-    (levels-same : (h : ℕ) → levels d h ≡ levels e h) (charges-same : (n : ℕ) → chargePrice (amountsIn d) n ≡ chargePrice (amountsIn e) n) where
-  -- CH has no first hour
+-- one of them, where any will do
+abbrev any : Query
+any = query 0 1
+
+module _ {d e : List ℕ} (a : IsAccepted d) (b : IsAccepted e) (parameters-same : (q : Query) → parametersAt d q ≡ parametersAt e q)
+    (levels-same : (q : Query) → levels d q ≡ levels e q) (charges-same : (n : ℕ) → chargePrice (amountsIn d) n ≡ chargePrice (amountsIn e) n) where
+  -- every query sees the same CH
   same-charged : (n : ℕ) → chargeEnergy (parametersIn d) n ≡ chargeEnergy (parametersIn e) n
   unfolding datable among table
-  same-charged n = sym (says-always 0 CH refl (records d) n 2) ∙ ap (λ s. chargeEnergy s n) (parameters-same 0) ∙ says-always 0 CH refl (records e) n 2
+  same-charged n = sym (says-always any CH refl (records d) n 2) ∙ ap (λ s. chargeEnergy s n) (parameters-same any) ∙ says-always any CH refl (records e) n 2
 
   same-price : (n : ℕ) → weekPrice d n ≡ weekPrice e n
   same-price n = price-told d (accepted-readable a) n ∙ ap unbiased (charges-same n) ∙ sym (price-told e (accepted-readable b) n)
@@ -92,7 +100,7 @@ module _ {d e : List ℕ} (a : IsAccepted d) (b : IsAccepted e) (parameters-same
   meaning-by-levels =
       record {
         accepted = b;
-        hours = λ h. same-by-levels a b h (parameters-same h) (levels-same h);
+        queries = λ q. same-by-levels a b q (parameters-same q) (levels-same q);
         week-prices = same-prices;
         week-energies = same-energies;
         week-answer = same-week;
@@ -100,11 +108,11 @@ module _ {d e : List ℕ} (a : IsAccepted d) (b : IsAccepted e) (parameters-same
         energies-after = λ ps es. rw (same-week (length ps) (length es), same-energies) refl;
       }
 
-module _ {d e : List ℕ} (a : IsAccepted d) (b : IsAccepted e) (parameters-same : (h : ℕ) → parametersAt d h ≡ parametersAt e h)
-    (amounts-same : (h : ℕ) → amountsAt d h ≡ amountsAt e h) where
+module _ {d e : List ℕ} (a : IsAccepted d) (b : IsAccepted e) (parameters-same : (q : Query) → parametersAt d q ≡ parametersAt e q)
+    (amounts-same : (q : Query) → amountsAt d q ≡ amountsAt e q) where
   same-charge : (n : ℕ) → chargePrice (amountsIn d) n ≡ chargePrice (amountsIn e) n
   unfolding datable among table
-  same-charge n = sym (of-always 0 CH refl (records d) n 1) ∙ ap (λ m. chargePrice m n) (amounts-same 0) ∙ of-always 0 CH refl (records e) n 1
+  same-charge n = sym (of-always any CH refl (records d) n 1) ∙ ap (λ m. chargePrice m n) (amounts-same any) ∙ of-always any CH refl (records e) n 1
 
   pub same-meaning : SameMeaning d e
-  same-meaning = meaning-by-levels a b parameters-same (λ h. by-amounts d e h (parameters-same h) (amounts-same h)) same-charge
+  same-meaning = meaning-by-levels a b parameters-same (λ q. by-amounts d e q (parameters-same q) (amounts-same q)) same-charge

@@ -7,8 +7,9 @@ use Rattle.lists.specs.Lists.{Permutation}
 use Rattle.lists.proofs.Lists.{each-permuted, joined-length}
 use Rattle.records.specs.Dossier.{records}
 use Rattle.records.proofs.Dossier.{joined-records, records-joined, records-whole}
+use Rattle.station.specs.InForce.{Query}
 use Rattle.station.proofs.Parameters.{parameters-permuted, amounts-permuted}
-use Rattle.station.proofs.InForce.{force-permuted, force-distinct}
+use Rattle.station.proofs.Owners.{force-permuted, force-distinct}
 use Rattle.rules.specs.Answer.{IsAccepted}
 use Rattle.rules.specs.Sound.{Sound}
 use Rattle.rules.proofs.Sound.{accepted-sound, sound-accepted, sound-permuted}
@@ -34,11 +35,11 @@ module _ {d e : List ℕ} (h : IsAccepted d) (q : Reordered d e) where
   accepted : IsAccepted e
   accepted = sound-accepted e (rw (← same-length) (accepted-sound d h .0)) (sound-permuted permuted sound)
 
-  -- at an hour, what has come is the same in another order
-  same-parameters : (t : ℕ) → parametersAt d t ≡ parametersAt e t
+  -- for a query, what is in force is the same in another order
+  same-parameters : (t : Query) → parametersAt d t ≡ parametersAt e t
   same-parameters t = parameters-permuted (force-permuted t permuted) (force-distinct t (records d) (sound .distinct))
 
-  same-amounts : (t : ℕ) → amountsAt d t ≡ amountsAt e t
+  same-amounts : (t : Query) → amountsAt d t ≡ amountsAt e t
   same-amounts t = amounts-permuted (force-permuted t permuted) (force-distinct t (records d) (sound .distinct))
 
 pub arrival-order : ArrivalOrder

@@ -12,10 +12,10 @@ use Rattle.records.specs.Answers.{answerNumbers}
 use Rattle.records.specs.Dossier.{records}
 use Rattle.station.specs.Current.{matches, current}
 use Rattle.station.specs.Declared.{CurrentOf, Counting}
-use Rattle.station.specs.InForce.{countsAt, counts}
+use Rattle.station.specs.InForce.{countsAt, counts, Query}
 use Rattle.rules.specs.Answer.{answer, IsAccepted}
 use Rattle.rules.specs.Sound.{Sound}
-use Rattle.formulas.specs.Levels.{parametersIn, profile, hourAnswer}
+use Rattle.formulas.specs.Levels.{parametersIn, profile, IsOwner, queryAnswer}
 
 -- the current record is one of the records, with the kind and key, and none with them has a higher issue; empty where none has them
 abbrev pub CurrentDeclared : Type 0
@@ -28,12 +28,14 @@ pub record CountingDeclared : Type 0 where
   pub only : (all : List (List ℕ)) (r : List ℕ) → Member r all → counts all r ≡ true → Counting all r
   pub always : (all : List (List ℕ)) (r : List ℕ) → Member r all → Counting all r → counts all r ≡ true
 
--- "20, the hour's profile has no fuel in force": drawn of an accepted dossier exactly if every FU and FV of that profile has a later first hour
+-- every FU and FV of the hour's profile has a later first hour
+abbrev pub FuelAhead : List ℕ → ℕ → Type 0
+FuelAhead d h = Each (λ r. matches FU (profile (parametersIn d) h) r ≡ true → h < since r) (records d)
+
+-- "20, the hour's profile has no fuel in force": drawn of an accepted dossier, by a query of one of the owners, exactly if that is so
 pub record FuelDeclared : Type 0 where
-  pub only : (d : List ℕ) → IsAccepted d → (h : ℕ) → hourAnswer d h ≡ Refused 20 0
-      → Each (λ r. matches FU (profile (parametersIn d) h) r ≡ true → h < since r) (records d)
-  pub always : (d : List ℕ) → IsAccepted d → (h : ℕ) → Each (λ r. matches FU (profile (parametersIn d) h) r ≡ true → h < since r) (records d)
-      → hourAnswer d h ≡ Refused 20 0
+  pub only : (d : List ℕ) → IsAccepted d → (q : Query) → queryAnswer d q ≡ Refused 20 0 → FuelAhead d (q .hour)
+  pub always : (d : List ℕ) → IsAccepted d → (q : Query) → IsOwner (q .owner) → FuelAhead d (q .hour) → queryAnswer d q ≡ Refused 20 0
 
 -- a dossier is accepted exactly if it has no more than 60,000 bytes and sound records; in numbers, if its answer is 0
 pub record AcceptanceDeclared : Type 0 where

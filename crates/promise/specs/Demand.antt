@@ -10,11 +10,12 @@ use Rattle.records.specs.declared.Answer.the-variants.{Accepted, Refused}
 use Rattle.records.specs.Record.{since}
 use Rattle.records.specs.Dossier.{records}
 use Rattle.records.specs.Raise.{RaiseFor}
+use Rattle.station.specs.InForce.{Query}
 use Rattle.station.specs.Parameters.{parameters, technology}
 use Rattle.station.specs.Week.{weekPrices, weekEnergies}
 use Rattle.rules.specs.Answer.{IsAccepted}
 use Rattle.rules.specs.Week.{weekAnswer}
-use Rattle.formulas.specs.Levels.{parametersAt, amountsAt, fuelled, hourAnswer, lines, levels, NoLower, CloseLine}
+use Rattle.formulas.specs.Levels.{parametersAt, amountsAt, IsOwner, fuelled, queryAnswer, lines, levels, NoLower, CloseLine}
 use Rattle.verdicts.specs.declared.Verdict.{Verdict}
 use Rattle.verdicts.specs.Verdict.{numbers, onOffer, onPrice}
 
@@ -26,28 +27,30 @@ Raise d e = RaiseFor (technology (parameters (records d))) d e
 abbrev pub Passed : Verdict → Type 0
 Passed v = numbers v ≡ 0 ∷ []
 
--- what a raise keeps: e is accepted; "A raise leaves first hours alone", and every hour draws what it drew; "Demand 3 sets the levels of the two side by side
--- at each hour", and none is lower; what passed passes; of the charging week the answer and the energies stay, and no interval's price is lower
+-- what a raise keeps: e is accepted; "A raise leaves first hours alone", and every query draws what it drew; "Demand 3 sets the levels of the two side by
+-- side at each hour", for whichever owner is asked, and none is lower; what passed passes; of the charging week the answer and the energies stay, and no
+-- interval's price is lower
 pub record RaiseKeeps (d e : List ℕ) : Type 0 where
   pub accepted : IsAccepted e
   pub first-hours : Pairwise (λ r s. since r ≡ since s) (records d) (records e)
-  pub hours : (h : ℕ) → hourAnswer d h ≡ hourAnswer e h
-  pub higher : (h : ℕ) → Pairwise NoLower (levels d h) (levels e h)
-  pub offers : (h c : ℕ) (o : List ℕ) → Passed (onOffer d h c o) → Passed (onOffer e h c o)
-  pub prices : (h v c : ℕ) (price : ℤ) → Passed (onPrice d h v c price) → Passed (onPrice e h v c price)
+  pub drawn : (q : Query) → queryAnswer d q ≡ queryAnswer e q
+  pub higher : (q : Query) → Pairwise NoLower (levels d q) (levels e q)
+  pub offers : (q : Query) (c : ℕ) (o : List ℕ) → Passed (onOffer d q c o) → Passed (onOffer e q c o)
+  pub prices : (q : Query) (v c : ℕ) (price : ℤ) → Passed (onPrice d q v c price) → Passed (onPrice e q v c price)
   pub week-answer : (n m : ℕ) → weekAnswer d n m ≡ weekAnswer e n m
   pub week-energies : weekEnergies d ≡ weekEnergies e
   pub week-prices : Pairwise _≤ℤ_ (weekPrices d) (weekPrices e)
 
--- an hour of an accepted dossier: its profile has fuel in force, nothing is drawn, and the levels are those of the formulas; or it has none, 20 is drawn, and
--- "an hour without fuel in force has no level"
-pub data AtHour (d : List ℕ) (h : ℕ) : Type 0 where
-  withFuel : fuelled (parametersAt d h) h ≡ true → hourAnswer d h ≡ Accepted → levels d h ≡ lines (parametersAt d h) (amountsAt d h) h → AtHour d h
-  noFuel : fuelled (parametersAt d h) h ≡ false → hourAnswer d h ≡ Refused 20 0 → levels d h ≡ [] → AtHour d h
+-- a query of one of the owners, of an accepted dossier: its hour's profile has fuel in force, nothing is drawn, and the levels are those of the formulas; or
+-- it has none, 20 is drawn, and "an hour without fuel in force has no level"
+pub data AtQuery (d : List ℕ) (q : Query) : Type 0 where
+  withFuel : fuelled (parametersAt d q) (q .hour) ≡ true → queryAnswer d q ≡ Accepted
+      → levels d q ≡ lines (parametersAt d q) (amountsAt d q) (q .hour) → AtQuery d q
+  noFuel : fuelled (parametersAt d q) (q .hour) ≡ false → queryAnswer d q ≡ Refused 20 0 → levels d q ≡ [] → AtQuery d q
 
 -- "It is one claim about dossiers as bytes, not one for each technology or formula": every raise of an accepted dossier keeps that, every level of an accepted
 -- dossier is close to its exact level, and there is none only at an hour without fuel: "at every other hour demand 3 stands whole"
 pub record Demand3 : Type 0 where
   pub raise : (d e : List ℕ) → IsAccepted d → Raise d e → RaiseKeeps d e
-  pub distance : (d : List ℕ) → IsAccepted d → (h : ℕ) → Each CloseLine (levels d h)
-  pub hours : (d : List ℕ) → IsAccepted d → (h : ℕ) → AtHour d h
+  pub distance : (d : List ℕ) → IsAccepted d → (q : Query) → Each CloseLine (levels d q)
+  pub queries : (d : List ℕ) → IsAccepted d → (q : Query) → IsOwner (q .owner) → AtQuery d q

@@ -2,7 +2,9 @@ pub mod Demand
 pub mod Order
 pub mod Dated
 pub mod Week
+pub mod AlikeBut
 pub mod Withdrawn
+pub mod Owners
 pub mod Declared
 pub mod Stations
 pub mod Marked

@@ -6,10 +6,11 @@ use lib.IntN.{ℤ}
 use lib.ListN.{length}
 use Rattle.lists.specs.Lists.{Permutation, joined}
 use Rattle.records.specs.Dossier.{records}
+use Rattle.station.specs.InForce.{Query}
 use Rattle.station.specs.Week.{weekPrices, weekEnergies}
 use Rattle.rules.specs.Answer.{IsAccepted}
 use Rattle.rules.specs.Week.{weekAnswer, pricesAfter, energiesAfter}
-use Rattle.formulas.specs.Levels.{hourAnswer, levels}
+use Rattle.formulas.specs.Levels.{queryAnswer, levels}
 use Rattle.verdicts.specs.Verdict.{onOffer, onPrice}
 use Rattle.layout.specs.Report.{report, written, writtenNumbers, reportAnswer, bufferAfter}
 
@@ -20,25 +21,29 @@ pub record Reordered (d e : List ℕ) : Type 0 where
   pub made : e ≡ joined order
 
 -- what the caller of a report into n bytes is told, in the paper's numbers
-abbrev pub told : List ℕ → ℕ → ℕ → List ℕ
-told d h n = writtenNumbers (written (reportAnswer d h n) (length (report d h)))
+abbrev pub told : List ℕ → Query → ℕ → List ℕ
+told d q n = writtenNumbers (written (reportAnswer d q n) (length (report d q)))
 
--- at an hour e has what d has: what is drawn, the levels, the verdicts and the report, told and written
-pub record SameAt (d e : List ℕ) (h : ℕ) : Type 0 where
-  pub drawn : hourAnswer d h ≡ hourAnswer e h
-  pub levels : levels d h ≡ levels e h
-  pub offers : (c : ℕ) (o : List ℕ) → onOffer d h c o ≡ onOffer e h c o
-  pub prices : (v c : ℕ) (price : ℤ) → onPrice d h v c price ≡ onPrice e h v c price
-  pub report : report d h ≡ report e h
-  pub answer : (n : ℕ) → reportAnswer d h n ≡ reportAnswer e h n
-  pub told : (n : ℕ) → told d h n ≡ told e h n
-  pub buffer : (buf : List ℕ) → bufferAfter d h buf ≡ bufferAfter e h buf
+-- e has for the query p what d has for q: what is drawn, the levels, the verdicts and the report, told and written
+pub record SameFor (d e : List ℕ) (q p : Query) : Type 0 where
+  pub drawn : queryAnswer d q ≡ queryAnswer e p
+  pub levels : levels d q ≡ levels e p
+  pub offers : (c : ℕ) (o : List ℕ) → onOffer d q c o ≡ onOffer e p c o
+  pub prices : (v c : ℕ) (price : ℤ) → onPrice d q v c price ≡ onPrice e p v c price
+  pub report : report d q ≡ report e p
+  pub answer : (n : ℕ) → reportAnswer d q n ≡ reportAnswer e p n
+  pub told : (n : ℕ) → told d q n ≡ told e p n
+  pub buffer : (buf : List ℕ) → bufferAfter d q buf ≡ bufferAfter e p buf
 
--- e is accepted, has all of that at every hour, and d's week: its prices and energies, and for lent lists of any length the answer and what the lists hold
+-- for one query
+abbrev pub SameAt : List ℕ → List ℕ → Query → Type 0
+SameAt d e q = SameFor d e q q
+
+-- e is accepted, has all of that for every query, and d's week: its prices and energies, and for lent lists of any length the answer and what the lists hold
 -- after the call
 pub record SameMeaning (d e : List ℕ) : Type 0 where
   pub accepted : IsAccepted e
-  pub hours : (h : ℕ) → SameAt d e h
+  pub queries : (q : Query) → SameAt d e q
   pub week-prices : weekPrices d ≡ weekPrices e
   pub week-energies : weekEnergies d ≡ weekEnergies e
   pub week-answer : (n m : ℕ) → weekAnswer d n m ≡ weekAnswer e n m

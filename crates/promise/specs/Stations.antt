@@ -1,8 +1,8 @@
--- The stations and offers of the marked cases, a station on a river, an idle battery, one that charged, and R1 with dated fuel and with third-party
--- payments, in the papers' numbers and, through the table, as bytes.
+-- The stations and offers of the marked cases, a station on a river, an idle battery, one that charged, and R1 with dated fuel, with third-party payments and
+-- with two owners, in the papers' numbers and, through the table, as bytes.
 use mathlib.Core.List.{List, [], _∷_, _++_}
 use Prim.Native.Nat.{ℕ, zero, suc, _+_, _*_}
-use Rattle.records.specs.Table.{RS, HP, FU, AD, MM, RQ, HR, CH, TH, FP, LC, FV, AV}
+use Rattle.records.specs.Table.{RS, HP, FU, AD, MM, RQ, HR, CH, TH, FP, LC, AO, FV, AV}
 use Rattle.records.specs.Made.{minus, made, madeFrom}
 
 -- ---- "Case R1 (thermal, hour 0, profile 1, all issues 1)"
@@ -196,3 +196,20 @@ paidWith second first =
 -- 5.00 and 3.00
 abbrev pub paid : List (List ℕ)
 paid = paidWith 5000000 3000000
+
+-- ---- document 02, request 12: R1 with two owners
+
+-- consumables for energy with an amount of each owner, of owner 2 as issue 7 and behind it an older one, 9.00, as issue 6; and a third-party payment of owner
+-- 2, for energy
+abbrev pub sharedWith : ℕ → ℕ → ℕ → List (List ℕ)
+sharedWith first second payment =
+    r1
+    ++ (made AO 1 (1 ∷ 1 ∷ 3 ∷ 1 ∷ first ∷ [])
+    ∷ made AO 7 (2 ∷ 1 ∷ 3 ∷ 1 ∷ second ∷ [])
+    ∷ made AO 6 (2 ∷ 1 ∷ 3 ∷ 1 ∷ 9000000 ∷ [])
+    ∷ made AO 1 (2 ∷ 1 ∷ 4 ∷ 1 ∷ payment ∷ [])
+    ∷ [])
+
+-- 0.10, 0.70 and 5.00
+abbrev pub shared : List (List ℕ)
+shared = sharedWith 100000 700000 5000000

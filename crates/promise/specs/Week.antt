@@ -8,6 +8,7 @@ use lib.IntN.{ℤ, pos, negsuc, _+ℤ_, _*ℤ_}
 use lib.ListN.{length, getD, drop}
 use Rattle.fields.specs.Numbers.{number, bytesOf, signed}
 use Rattle.station.specs.Current.{lookupBytes}
+use Rattle.station.specs.InForce.{Query}
 use Rattle.station.specs.Parameters.{lastCost}
 use Rattle.station.specs.Week.{weekPrices, weekEnergies}
 use Rattle.rules.specs.Answer.{IsAccepted}
@@ -53,8 +54,9 @@ costOfWeek ps es last = cond (eqb (charged es) 0) (whole last) (share (orZero (p
 
 -- ---- the claim
 
--- "In an accepted dossier they equal, at each interval, what the lookup by key gives": interval n is at place n - 1, and both are 0 where the part is empty; so
--- it is in lent lists of 2,016 places or more, after the call; and the charging cost, at every hour, is that of these prices and energies, and of LC
+-- "In an accepted dossier they equal, at each interval, what the lookup by key gives": interval n is at place n - 1, and both are 0 where the part is empty;
+-- so it is in lent lists of 2,016 places or more, after the call; and the charging cost, for every query, is that of these prices and
+-- energies, and of LC
 pub record LookedUp (d : List ℕ) : Type 0 where
   pub prices-many : length (weekPrices d) ≡ 2016
   pub energies-many : length (weekEnergies d) ≡ 2016
@@ -64,7 +66,7 @@ pub record LookedUp (d : List ℕ) : Type 0 where
   pub no-energy : (n : ℕ) → 1 ≤ n → n ≤ 2016 → partOf d n ≡ [] → getD (weekEnergies d) (n - 1) 0 ≡ 0
   pub prices-after : (ps : List ℤ) (es : List ℕ) → 2016 ≤ length ps → 2016 ≤ length es → pricesAfter d ps es ≡ weekPrices d ++ drop 2016 ps
   pub energies-after : (ps : List ℤ) (es : List ℕ) → 2016 ≤ length ps → 2016 ≤ length es → energiesAfter d ps es ≡ weekEnergies d ++ drop 2016 es
-  pub cost : (h : ℕ) → chargingCost (parametersAt d h) (amountsAt d h) ≡ costOfWeek (weekPrices d) (weekEnergies d) (lastCost (amountsIn d))
+  pub cost : (q : Query) → chargingCost (parametersAt d q) (amountsAt d q) ≡ costOfWeek (weekPrices d) (weekEnergies d) (lastCost (amountsIn d))
 
 -- the week of every accepted dossier
 abbrev pub WeekLookedUp : Type 0
