@@ -3,77 +3,109 @@ use mathlib.Core.Path.{refl}
 use Rattle.layout.proofs.Computed.{computed}
 use Rattle.vectors.specs.Cases as cases
 
-line77 : cases.Line77
+line26 : cases.Line26
 unfolding computed
-line77 = refl
+line26 = refl
 
-line81 : cases.Line81
+line29 : cases.Line29
 unfolding computed
-line81 = refl
+line29 = refl
 
-line162 : cases.Line162
+line32 : cases.Line32
 unfolding computed
-line162 = refl
+line32 = refl
 
-line263 : cases.Line263
+line34 : cases.Line34
 unfolding computed
-line263 = refl
+line34 = refl
 
-line308 : cases.Line308
+line35 : cases.Line35
 unfolding computed
-line308 = refl
+line35 = refl
 
-line363 : cases.Line363
+line43 : cases.Line43
 unfolding computed
-line363 = refl
+line43 = refl
 
-line364 : cases.Line364
+line70 : cases.Line70
 unfolding computed
-line364 = refl
+line70 = refl
 
-line418 : cases.Line418
+line102 : cases.Line102
 unfolding computed
-line418 = refl
+line102 = refl
 
-line453 : cases.Line453
+line216 : cases.Line216
 unfolding computed
-line453 = refl
+line216 = refl
 
-line475 : cases.Line475
+line217 : cases.Line217
 unfolding computed
-line475 = refl
+line217 = refl
 
-line484 : cases.Line484
+line269 : cases.Line269
 unfolding computed
-line484 = refl
+line269 = refl
 
-line486 : cases.Line486
+line278 : cases.Line278
 unfolding computed
-line486 = refl
+line278 = refl
 
-line511 : cases.Line511
+line296 : cases.Line296
 unfolding computed
-line511 = refl
+line296 = refl
 
-line512 : cases.Line512
+line328 : cases.Line328
 unfolding computed
-line512 = refl
+line328 = refl
 
-line521 : cases.Line521
+line331 : cases.Line331
 unfolding computed
-line521 = refl
+line331 = refl
 
-line556 : cases.Line556
+line332 : cases.Line332
 unfolding computed
-line556 = refl
+line332 = refl
 
-line586 : cases.Line586
+line352 : cases.Line352
 unfolding computed
-line586 = refl
+line352 = refl
 
-line592 : cases.Line592
+line443 : cases.Line443
 unfolding computed
-line592 = refl
+line443 = refl
+
+line460 : cases.Line460
+unfolding computed
+line460 = refl
+
+line516 : cases.Line516
+unfolding computed
+line516 = refl
+
+line529 : cases.Line529
+unfolding computed
+line529 = refl
+
+line531 : cases.Line531
+unfolding computed
+line531 = refl
+
+line559 : cases.Line559
+unfolding computed
+line559 = refl
+
+line564 : cases.Line564
+unfolding computed
+line564 = refl
+
+line579 : cases.Line579
+unfolding computed
+line579 = refl
+
+line580 : cases.Line580
+unfolding computed
+line580 = refl
 
 line603 : cases.Line603
 unfolding computed
@@ -83,89 +115,93 @@ line604 : cases.Line604
 unfolding computed
 line604 = refl
 
-line605 : cases.Line605
-unfolding computed
-line605 = refl
-
 line608 : cases.Line608
 unfolding computed
 line608 = refl
 
-line617 : cases.Line617
+line632 : cases.Line632
 unfolding computed
-line617 = refl
+line632 = refl
 
-line644 : cases.Line644
+line645 : cases.Line645
 unfolding computed
-line644 = refl
+line645 = refl
 
-line682 : cases.Line682
+line648 : cases.Line648
 unfolding computed
-line682 = refl
+line648 = refl
 
-line753 : cases.Line753
+line649 : cases.Line649
 unfolding computed
-line753 = refl
+line649 = refl
 
-line764 : cases.Line764
+line669 : cases.Line669
 unfolding computed
-line764 = refl
+line669 = refl
 
-line767 : cases.Line767
+line729 : cases.Line729
 unfolding computed
-line767 = refl
+line729 = refl
 
-line769 : cases.Line769
+line826 : cases.Line826
 unfolding computed
-line769 = refl
+line826 = refl
 
-line813 : cases.Line813
+line875 : cases.Line875
 unfolding computed
-line813 = refl
+line875 = refl
 
-line862 : cases.Line862
+line894 : cases.Line894
 unfolding computed
-line862 = refl
+line894 = refl
 
-line873 : cases.Line873
+line916 : cases.Line916
 unfolding computed
-line873 = refl
+line916 = refl
 
-line939 : cases.Line939
+line975 : cases.Line975
 unfolding computed
-line939 = refl
+line975 = refl
 
-line961 : cases.Line961
+line977 : cases.Line977
 unfolding computed
-line961 = refl
+line977 = refl
 
-line967 : cases.Line967
+line978 : cases.Line978
 unfolding computed
-line967 = refl
+line978 = refl
 
-line969 : cases.Line969
+line1020 : cases.Line1020
 unfolding computed
-line969 = refl
+line1020 = refl
 
-line970 : cases.Line970
+line1022 : cases.Line1022
 unfolding computed
-line970 = refl
+line1022 = refl
 
-line990 : cases.Line990
+line1033 : cases.Line1033
 unfolding computed
-line990 = refl
+line1033 = refl
 
-line1049 : cases.Line1049
+line1062 : cases.Line1062
 unfolding computed
-line1049 = refl
+line1062 = refl
 
-line1160 : cases.Line1160
+line1089 : cases.Line1089
 unfolding computed
-line1160 = refl
+line1089 = refl
 
-line1180 : cases.Line1180
+line1123 : cases.Line1123
 unfolding computed
-line1180 = refl
+line1123 = refl
+
+line1137 : cases.Line1137
+unfolding computed
+line1137 = refl
+
+line1181 : cases.Line1181
+unfolding computed
+line1181 = refl
 
 week2 : cases.Week2
 unfolding computed
