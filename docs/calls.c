@@ -1,5 +1,5 @@
 /* Every call of the library from C, on case R1 of README.md with two thresholds, with prices that come in later and one that is known early, with
- * a payment that is withdrawn, and the charging week of a battery. docs/calls.py is the same from Python; both print docs/calls.out.
+ * a payment that is withdrawn, with what a second owner adds, and the charging week of a battery. docs/calls.py is the same from Python; both print docs/calls.out.
  * With the library built (rt staticlib bench), at the root of the repository:
  *
  *   cc -std=c99 -Iinclude -o target/calls docs/calls.c target/staticlib/libbench.a && target/calls
@@ -9,7 +9,8 @@
 
 #include "bench.h"
 
-enum { NARROW = 1, RESERVE = 4, HOUR = 0 };
+/* A plant with one owner is asked about as owner 1. */
+enum { NARROW = 1, RESERVE = 4, HOUR = 0, OWNER = 1 };
 
 /* Bytes in the making: a dossier or an offer. */
 struct bytes {
@@ -112,7 +113,7 @@ static void say(const char *asked, uint64_t answer, const char *good) {
 
 static void show_report(const struct bytes *dossier) {
     uint8_t buffer[BENCH_REPORT_BYTES];
-    uint64_t answer = bench_report(dossier->at, dossier->length, HOUR, buffer, sizeof buffer);
+    uint64_t answer = bench_report(dossier->at, dossier->length, HOUR, OWNER, buffer, sizeof buffer);
     say("report", answer, "written");
     if (bench_class(answer) == 0) fwrite(buffer, 1, bench_b(answer), stdout);
 }
@@ -120,7 +121,7 @@ static void show_report(const struct bytes *dossier) {
 static void show_levels(const struct bytes *dossier) {
     static const char *const names[] = {"start", "no-load", "reserve"};
     uint64_t words[BENCH_WORDS];
-    uint64_t answer = bench_levels(dossier->at, dossier->length, HOUR, words, BENCH_WORDS);
+    uint64_t answer = bench_levels(dossier->at, dossier->length, HOUR, OWNER, words, BENCH_WORDS);
     say("levels", answer, "written");
     if (bench_class(answer) != 0) return;
     printf("profile %" PRIu64 "\n", words[0]);
@@ -134,17 +135,17 @@ static void show_levels(const struct bytes *dossier) {
 }
 
 /* Half the capacity at 42.30, the level, and the other half at a price in cents. */
-static uint64_t offer_test(const struct bytes *dossier, int32_t price) {
+static uint64_t offer_test(const struct bytes *dossier, uint8_t owner, int32_t price) {
     struct bytes offer = {{0}, 0};
     put(&offer, 2, 500);
     put(&offer, 4, 4230);
     put(&offer, 2, 1000);
     put(&offer, 4, (uint32_t)price);
-    return bench_energy_test(dossier->at, dossier->length, HOUR, NARROW, offer.at, offer.length);
+    return bench_energy_test(dossier->at, dossier->length, HOUR, owner, NARROW, offer.at, offer.length);
 }
 
 static uint64_t reserve_test(const struct bytes *dossier, int32_t price) {
-    return bench_price_test(dossier->at, dossier->length, HOUR, RESERVE, NARROW, price);
+    return bench_price_test(dossier->at, dossier->length, HOUR, OWNER, RESERVE, NARROW, price);
 }
 
 /* Fuel prices that come in later: the issue that is there once more, or a newer one and behind it an older one. */
@@ -161,12 +162,12 @@ static void show_fuel(const struct bytes *dossier) {
     printf("current fuel: issue %d, %" PRIu32 " bytes at %" PRIu32 "\n", issue, bench_b(part), start);
 }
 
-/* The energy level at an hour. */
-static void show_energy(const struct bytes *dossier, uint32_t hour) {
+/* The energy level at an hour and for an owner. */
+static void show_energy(const struct bytes *dossier, uint32_t hour, uint8_t owner) {
     uint64_t words[BENCH_WORDS] = {0};
-    char asked[30], good[30];
-    uint64_t answer = bench_levels(dossier->at, dossier->length, hour, words, BENCH_WORDS);
-    snprintf(asked, sizeof asked, "energy at hour %" PRIu32, hour);
+    char asked[50], good[30];
+    uint64_t answer = bench_levels(dossier->at, dossier->length, hour, owner, words, BENCH_WORDS);
+    snprintf(asked, sizeof asked, "energy at hour %" PRIu32 ", owner %u", hour, (unsigned)owner);
     snprintf(good, sizeof good, "%" PRIu64 " cents", words[4]);
     say(asked, answer, good);
 }
@@ -190,7 +191,7 @@ static void show_first_hours(const struct bytes *dossier) {
     put(&later, 4, 11500000);
     put(&later, 4, 1800000);
     say("fuel from hour 24 on", bench_accept(later.at, later.length), "accepted");
-    for (uint32_t hour = 23; hour <= 29; hour += 2) show_energy(&later, hour);
+    for (uint32_t hour = 23; hour <= 29; hour += 2) show_energy(&later, hour, OWNER);
 }
 
 /* A payment to a third party, 2.00 for energy: it is withdrawn, so that no level has it, and the report counts it in its last line. */
@@ -199,6 +200,23 @@ static void show_payment(const struct bytes *dossier) {
     put_adder(&paid, 4, 1, 2000000);
     say("third-party payment", bench_accept(paid.at, paid.length), "accepted");
     show_report(&paid);
+}
+
+/* A plant that two owners offer: the second adds 0.75 for energy, of which the first sees nothing. There is no third. */
+static void show_owners(const struct bytes *dossier) {
+    struct bytes shared = *dossier;
+    begin(&shared, "AO", 1);
+    put(&shared, 1, 2); /* owner */
+    put(&shared, 1, 1); /* profile */
+    put(&shared, 1, 3); /* cost: consumables */
+    put(&shared, 1, 1); /* level: energy */
+    put(&shared, 8, 750000);
+    say("a second owner", bench_accept(shared.at, shared.length), "accepted");
+    for (uint8_t owner = 1; owner <= 3; owner++) show_energy(&shared, HOUR, owner);
+    say("energy at 64.57, owner 1", offer_test(&shared, 1, 6457), "passes");
+    say("energy at 64.57, owner 2", offer_test(&shared, 2, 6457), "passes");
+    uint64_t part = bench_current(shared.at, shared.length, 0x414F, 0x02010301); /* AO of owner 2, profile 1, cost 3, level 1 */
+    printf("its amount: %" PRIu32 " bytes at %" PRIu32 "\n", bench_b(part), bench_a(part));
 }
 
 /* A battery of 80.0 MW with one full hour of charge and one hour in its window. */
@@ -254,14 +272,15 @@ int main(void) {
     say("dossier", bench_accept(dossier.at, dossier.length), "accepted");
     show_report(&dossier);
     show_levels(&dossier);
-    say("energy at 63.45", offer_test(&dossier, 6345), "passes");
-    say("energy at 63.46", offer_test(&dossier, 6346), "passes");
-    say("energy at 2000.01", offer_test(&dossier, 200001), "passes");
+    say("energy at 63.45", offer_test(&dossier, OWNER, 6345), "passes");
+    say("energy at 63.46", offer_test(&dossier, OWNER, 6346), "passes");
+    say("energy at 2000.01", offer_test(&dossier, OWNER, 200001), "passes");
     say("reserve at 0.50", reserve_test(&dossier, 50), "passes");
     say("reserve at 0.51", reserve_test(&dossier, 51), "passes");
     show_fuel(&dossier);
     show_first_hours(&dossier);
     show_payment(&dossier);
+    show_owners(&dossier);
     show_week();
     return 0;
 }

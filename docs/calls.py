@@ -1,5 +1,5 @@
 """Every call of the library from Python, on case R1 of README.md with two thresholds, with prices that come in later and one that is known early, with
-a payment that is withdrawn, and the charging week of a battery. docs/calls.c is the same from C; both print docs/calls.out.
+a payment that is withdrawn, with what a second owner adds, and the charging week of a battery. docs/calls.c is the same from C; both print docs/calls.out.
 With the library built (rt staticlib bench), at the root of the repository:
 
     cc -shared -o target/libbench.so -Wl,--whole-archive target/staticlib/libbench.a -Wl,--no-whole-archive
@@ -10,6 +10,7 @@ import os
 import sys
 
 NARROW, RESERVE, HOUR = 1, 4, 0
+OWNER = 1  # a plant with one owner is asked about as this one
 WORDS = 66  # that the levels take
 REPORT_BYTES = 2312  # hold every report
 INTERVALS = 2016  # of five minutes over seven days
@@ -21,10 +22,10 @@ BYTES = ctypes.c_char_p  # lent to be read; a null byte doesn't end it, since th
 LENT = {
     "bench_accept": [BYTES, SIZE],
     "bench_current": [BYTES, SIZE, U16, U32],
-    "bench_levels": [BYTES, SIZE, U32, ctypes.POINTER(U64), SIZE],
-    "bench_energy_test": [BYTES, SIZE, U32, U8, BYTES, SIZE],
-    "bench_price_test": [BYTES, SIZE, U32, U8, U8, I32],
-    "bench_report": [BYTES, SIZE, U32, ctypes.POINTER(U8), SIZE],
+    "bench_levels": [BYTES, SIZE, U32, U8, ctypes.POINTER(U64), SIZE],
+    "bench_energy_test": [BYTES, SIZE, U32, U8, U8, BYTES, SIZE],
+    "bench_price_test": [BYTES, SIZE, U32, U8, U8, U8, I32],
+    "bench_report": [BYTES, SIZE, U32, U8, ctypes.POINTER(U8), SIZE],
     "bench_week": [BYTES, SIZE, ctypes.POINTER(I32), SIZE, ctypes.POINTER(U32), SIZE],
 }
 
@@ -121,7 +122,7 @@ def say(asked, answer, good):
 
 def show_report(bench, dossier):
     buffer = (U8 * REPORT_BYTES)()
-    answer = bench.bench_report(dossier, len(dossier), HOUR, buffer, len(buffer))
+    answer = bench.bench_report(dossier, len(dossier), HOUR, OWNER, buffer, len(buffer))
     say("report", answer, "written")
     kind, _, length = parts(answer)
     if kind == 0:
@@ -130,7 +131,7 @@ def show_report(bench, dossier):
 
 def show_levels(bench, dossier):
     words = (U64 * WORDS)()
-    answer = bench.bench_levels(dossier, len(dossier), HOUR, words, len(words))
+    answer = bench.bench_levels(dossier, len(dossier), HOUR, OWNER, words, len(words))
     say("levels", answer, "written")
     if parts(answer)[0] != 0:
         return
@@ -143,15 +144,15 @@ def show_levels(bench, dossier):
             print(f"{name}: {words[63 + i]} cents")
 
 
-def offer_test(bench, dossier, price):
+def offer_test(bench, dossier, owner, price):
     """Half the capacity at 42.30, the level, and the other half at a price in cents."""
     pairs = [(500, 4_230), (1_000, price)]
     offer = b"".join(quantity.to_bytes(2, "big") + cents.to_bytes(4, "big", signed=True) for quantity, cents in pairs)
-    return bench.bench_energy_test(dossier, len(dossier), HOUR, NARROW, offer, len(offer))
+    return bench.bench_energy_test(dossier, len(dossier), HOUR, owner, NARROW, offer, len(offer))
 
 
 def reserve_test(bench, dossier, price):
-    return bench.bench_price_test(dossier, len(dossier), HOUR, RESERVE, NARROW, price)
+    return bench.bench_price_test(dossier, len(dossier), HOUR, OWNER, RESERVE, NARROW, price)
 
 
 def show_fuel(bench, dossier):
@@ -166,11 +167,11 @@ def show_fuel(bench, dossier):
     print(f"current fuel: issue {issue}, {length} bytes at {start}")
 
 
-def show_energy(bench, dossier, hour):
-    """The energy level at an hour."""
+def show_energy(bench, dossier, hour, owner):
+    """The energy level at an hour and for an owner."""
     words = (U64 * WORDS)()
-    answer = bench.bench_levels(dossier, len(dossier), hour, words, len(words))
-    say(f"energy at hour {hour}", answer, f"{words[4]} cents")
+    answer = bench.bench_levels(dossier, len(dossier), hour, owner, words, len(words))
+    say(f"energy at hour {hour}, owner {owner}", answer, f"{words[4]} cents")
 
 
 def show_first_hours(bench, dossier):
@@ -181,7 +182,7 @@ def show_first_hours(bench, dossier):
     later = dossier + gas + request + oil
     say("fuel from hour 24 on", bench.bench_accept(later, len(later)), "accepted")
     for hour in range(23, 30, 2):
-        show_energy(bench, later, hour)
+        show_energy(bench, later, hour, OWNER)
 
 
 def show_payment(bench, dossier):
@@ -189,6 +190,20 @@ def show_payment(bench, dossier):
     paid = dossier + record(b"AD", 1, (1, 1), (1, 4), (1, 1), (8, 2_000_000))
     say("third-party payment", bench.bench_accept(paid, len(paid)), "accepted")
     show_report(bench, paid)
+
+
+def show_owners(bench, dossier):
+    """A plant that two owners offer: the second adds 0.75 for energy, of which the first sees nothing. There is no third."""
+    key = (1, 2), (1, 1), (1, 3), (1, 1)  # owner 2, profile 1, consumables, energy
+    shared = dossier + record(b"AO", 1, *key, (8, 750_000))
+    say("a second owner", bench.bench_accept(shared, len(shared)), "accepted")
+    for owner in range(1, 4):
+        show_energy(bench, shared, HOUR, owner)
+    say("energy at 64.57, owner 1", offer_test(bench, shared, 1, 6_457), "passes")
+    say("energy at 64.57, owner 2", offer_test(bench, shared, 2, 6_457), "passes")
+    mark = int.from_bytes(b"AO", "big")
+    _, start, length = parts(bench.bench_current(shared, len(shared), mark, 0x02_01_03_01))
+    print(f"its amount: {length} bytes at {start}")
 
 
 def charging(issue, interval, price, energy):
@@ -217,14 +232,15 @@ def main():
     say("dossier", bench.bench_accept(R1, len(R1)), "accepted")
     show_report(bench, R1)
     show_levels(bench, R1)
-    say("energy at 63.45", offer_test(bench, R1, 6_345), "passes")
-    say("energy at 63.46", offer_test(bench, R1, 6_346), "passes")
-    say("energy at 2000.01", offer_test(bench, R1, 200_001), "passes")
+    say("energy at 63.45", offer_test(bench, R1, OWNER, 6_345), "passes")
+    say("energy at 63.46", offer_test(bench, R1, OWNER, 6_346), "passes")
+    say("energy at 2000.01", offer_test(bench, R1, OWNER, 200_001), "passes")
     say("reserve at 0.50", reserve_test(bench, R1, 50), "passes")
     say("reserve at 0.51", reserve_test(bench, R1, 51), "passes")
     show_fuel(bench, R1)
     show_first_hours(bench, R1)
     show_payment(bench, R1)
+    show_owners(bench, R1)
     show_week(bench)
 
 

@@ -5,15 +5,16 @@
 //! SIDE is `model` or `bench`, CALL the name of a function, INPUT one of `r1` (case R1 with all
 //! thresholds), `week` (a full charging week), `forecast` (4,000 places in any order), a technology
 //! (`thermal`, 8,000 bytes), `full-` and a technology (60,000 bytes), `dated-` and a technology (60,000
-//! bytes with first hours), and `fuels` (3,000 with first hours, of one key). The status is 1 if the
-//! sides' answers differ, and 2 if an argument is wrong.
+//! bytes with first hours), `owned-` and a technology (60,000 bytes with amounts of both owners), and
+//! `fuels` (3,000 with first hours, of one key). The status is 1 if the sides' answers differ, and 2 if
+//! an argument is wrong.
 
 mod calls;
 
 use calls::{status, Input, NAMES};
 use model::make::dated::many_fuels;
 use model::make::forecast::{full, Order};
-use model::make::sized::{full_week, sized, sized_dated, thresholds};
+use model::make::sized::{full_week, sized, sized_dated, sized_owned, thresholds};
 use model::make::written::r1;
 use model::table::{Technology, TECHNOLOGIES};
 use std::process::ExitCode;
@@ -34,6 +35,7 @@ fn dossier(name: &str) -> Result<Vec<u8>, String> {
         ("", Some(technology)) => Ok(sized(technology, 8_000)),
         ("full", Some(technology)) => Ok(sized(technology, 60_000)),
         ("dated", Some(technology)) => Ok(sized_dated(technology, 60_000)),
+        ("owned", Some(technology)) => Ok(sized_owned(technology, 60_000)),
         _ => Err(format!(
             "{name} is no input: the head of once.rs lists them"
         )),

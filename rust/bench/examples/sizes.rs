@@ -1,6 +1,6 @@
 //! The times of the calls by the length of the dossier: for each technology from 1,000 to 60,000
-//! bytes, without first hours and with them, and for 375 to 3,000 fuels of one key in every order
-//! of issues and first hours, the library beside the model.
+//! bytes, without first hours, with them and with amounts of two owners, and for 375 to 3,000 fuels of
+//! one key in every order of issues and first hours, the library beside the model.
 //!
 //! usage: sizes [ROUNDS] [--write FOLDER]
 //!
@@ -20,7 +20,7 @@
 //!     cp ../shared/anchor/ratio ../shared/anchor/*.c target/anchor
 //!     cargo run --profile timed --offline --quiet --manifest-path rust/Cargo.toml -p bench \
 //!         --example sizes -- 1 --write target/anchor/inputs
-//!     target/anchor/ratio --upto 8 --rounds 31
+//!     target/anchor/ratio --upto 12 --rounds 31
 
 mod calls;
 mod times;
@@ -28,7 +28,7 @@ mod times;
 use calls::{status, Input, CONDITION, HOUR, NAMES};
 use model::make::dated::many_fuels;
 use model::make::forecast::orders;
-use model::make::sized::{sized, sized_dated};
+use model::make::sized::{sized, sized_dated, sized_owned};
 use model::make::small::{charged, least, refused, small};
 use model::table::{Technology, RESERVE, TECHNOLOGIES};
 use std::fs;
@@ -64,6 +64,7 @@ fn write(folder: &str, name: &str, input: &Input) -> Result<(), String> {
     let ahead = [&HOUR.to_be_bytes()[..], &asked, b"FU\0\0\0\x01", &length].concat();
     let bytes = [&ahead[..], &input.offer, &input.dossier].concat();
     let request = match name {
+        _ if name.starts_with("owned") => 12,
         _ if name.starts_with("dated") => 8,
         _ if name.starts_with("hydro") => 1,
         _ => 0,
@@ -99,7 +100,8 @@ struct Growing {
     inputs: Vec<Input>,
 }
 
-/// The tables: every technology without first hours, then with them, then fuels of one key.
+/// The tables: every technology without first hours, then with them, then with two owners, then fuels
+/// of one key.
 fn tables() -> Vec<Growing> {
     let of = |name: String, make: fn(Technology, usize) -> Vec<u8>, technology| Growing {
         name,
@@ -109,13 +111,15 @@ fn tables() -> Vec<Growing> {
     };
     let undated = TECHNOLOGIES.map(|t| of(format!("{t:?}"), sized, t));
     let dated = TECHNOLOGIES.map(|t| of(format!("Dated {t:?}"), sized_dated, t));
+    let owned = TECHNOLOGIES.map(|t| of(format!("Owned {t:?}"), sized_owned, t));
     let fuels = orders().map(|(issues, hours)| Growing {
         name: format!("Dated fuels, issues {issues:?}, first hours {hours:?}"),
         inputs: COUNTS
             .map(|count| Input::of(many_fuels(count, issues, hours)))
             .into(),
     });
-    undated.into_iter().chain(dated).chain(fuels).collect()
+    let sized = undated.into_iter().chain(dated).chain(owned);
+    sized.chain(fuels).collect()
 }
 
 /// Prints a table; whether all answers are the same.

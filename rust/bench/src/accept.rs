@@ -6,7 +6,8 @@ use crate::{raw, Refusal, Word};
 ///
 /// A refusal is 13, one of 1 to 9, or 17; every call but [`current`] refuses such a dossier alike.
 /// Those with an hour next refuse one whose profile has no fuel in force (20), since all of it has a
-/// first hour that lies ahead.
+/// first hour that lies ahead; before all else they refuse an owner that isn't 1 or 2 (3 at 0).
+/// Acceptance names no owner: records of both are held against the rules.
 ///
 /// ```
 /// # mod r1 { include!(concat!(env!("CARGO_MANIFEST_DIR"), "/doc/r1.rs")); }
@@ -41,8 +42,8 @@ pub struct Part<'a> {
 /// FU and FV share their keys, and either asks for the highest issue of both, whatever its first
 /// hour; so do AD and AV, MM and MV.
 ///
-/// The key is its bytes as one number, the high byte first, and 0 for the marks without a key, RS
-/// and LC. A lookup is never refused: the part is empty where there is no such record, and where
+/// The key is its bytes as one number, the high byte first, up to four of them in AO, and 0 for the
+/// marks without a key, RS and LC. A lookup is never refused: the part is empty where there is no such record, and where
 /// the dossier draws 13 or 1 to 4, while one that draws 5 to 9 or 17 can be looked up in.
 ///
 /// ```
@@ -67,6 +68,12 @@ pub struct Part<'a> {
 /// let longer = [longer, ahead.clone()].concat();
 /// assert_eq!(bench::current(&longer, *b"FU", 1).bytes, ahead);
 /// assert_eq!(bench::current(&longer, *b"FV", 1).bytes, ahead);
+///
+/// // what owner 2 adds in profile 1, consumables (3), to energy (1), which is no key of AD
+/// let own = record(b"AO", 1, &[(1, 2), (1, 1), (1, 3), (1, 1), (8, 750_000)]);
+/// let longer = [longer, own.clone()].concat();
+/// assert_eq!(bench::current(&longer, *b"AO", 0x02_01_03_01).bytes, own);
+/// assert!(bench::current(&longer, *b"AO", 0x01_01_03_01).bytes.is_empty());
 /// ```
 pub fn current<'a>(dossier: &'a [u8], mark: [u8; 2], key: u32) -> Part<'a> {
     let letters = u16::from_be_bytes(mark);

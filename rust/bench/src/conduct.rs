@@ -29,7 +29,7 @@ fn verdict(word: u64) -> Result<Verdict, Refusal> {
     }
 }
 
-/// Puts an energy offer to the test at an hour and under a condition (1 to 3).
+/// Puts an owner's energy offer to the test at an hour and under a condition (1 to 3).
 ///
 /// An offer is 1 to 20 pairs of six bytes, each a quantity in 0.1 MW (two bytes) and a price in cents
 /// per MWh (four bytes, two's complement), the high byte first. Quantities rise and prices don't
@@ -53,33 +53,34 @@ fn verdict(word: u64) -> Result<Verdict, Refusal> {
 /// }
 ///
 /// // the level is 42.30; 50 % above it is 63.45, which is less than 25.00 above it
-/// let narrow = 1;
+/// let (owner, narrow) = (1, 1);
 /// let fair = offer(&[(500, 4_230), (1_000, 6_345)]);
-/// assert_eq!(energy_test(&dossier, 0, narrow, &fair), Ok(Verdict::Passes));
+/// assert_eq!(energy_test(&dossier, 0, owner, narrow, &fair), Ok(Verdict::Passes));
 ///
 /// let dear = offer(&[(500, 4_230), (1_000, 6_346)]);
 /// let second = Verdict::Fails(Failing { pair: 2, lamination: 1 });
-/// assert_eq!(energy_test(&dossier, 0, narrow, &dear), Ok(second));
+/// assert_eq!(energy_test(&dossier, 0, owner, narrow, &dear), Ok(second));
 ///
 /// // 100.1 MW from a station of 100.0
 /// let large = offer(&[(500, 4_230), (1_001, 6_345)]);
 /// let refusal = Refusal { number: 11, place: 6 };
-/// assert_eq!(energy_test(&dossier, 0, narrow, &large), Err(refusal));
+/// assert_eq!(energy_test(&dossier, 0, owner, narrow, &large), Err(refusal));
 /// ```
 pub fn energy_test(
     dossier: &[u8],
     hour: u32,
+    owner: u8,
     condition: u8,
     offer: &[u8],
 ) -> Result<Verdict, Refusal> {
     let (start, length) = (dossier.as_ptr(), dossier.len());
     let (pairs, bytes) = (offer.as_ptr(), offer.len());
     // SAFETY: the library reads these two parts alone.
-    verdict(unsafe { raw::bench_energy_test(start, length, hour, condition, pairs, bytes) })
+    verdict(unsafe { raw::bench_energy_test(start, length, hour, owner, condition, pairs, bytes) })
 }
 
-/// Puts a single price to the test at an hour, for a level other than energy (2 to 4) and under a
-/// condition (1 to 3). The price is in cents and may have any value; one below 0 never fails.
+/// Puts an owner's single price to the test at an hour, for a level other than energy (2 to 4) and
+/// under a condition (1 to 3). The price is in cents and may have any value; one below 0 never fails.
 ///
 /// Beside what [`levels`](crate::levels()) refuses, it refuses energy and a level that the technology
 /// doesn't hold (12), and a condition without a threshold for the level (14).
@@ -90,24 +91,25 @@ pub fn energy_test(
 /// use bench::{price_test, Failing, Refusal, Verdict};
 ///
 /// // the reserve level is 0.25, and 100 % above it is 0.50
-/// let (reserve, narrow) = (4, 1);
-/// assert_eq!(price_test(&dossier, 0, reserve, narrow, 50), Ok(Verdict::Passes));
+/// let (owner, reserve, narrow) = (1, 4, 1);
+/// assert_eq!(price_test(&dossier, 0, owner, reserve, narrow, 50), Ok(Verdict::Passes));
 /// let fails = Verdict::Fails(Failing { pair: 0, lamination: 0 });
-/// assert_eq!(price_test(&dossier, 0, reserve, narrow, 51), Ok(fails));
+/// assert_eq!(price_test(&dossier, 0, owner, reserve, narrow, 51), Ok(fails));
 ///
 /// // there is no threshold for reserve under the broad condition
 /// let broad = 2;
 /// let refusal = Refusal { number: 14, place: 0 };
-/// assert_eq!(price_test(&dossier, 0, reserve, broad, 50), Err(refusal));
+/// assert_eq!(price_test(&dossier, 0, owner, reserve, broad, 50), Err(refusal));
 /// ```
 pub fn price_test(
     dossier: &[u8],
     hour: u32,
+    owner: u8,
     level: u8,
     condition: u8,
     price: i32,
 ) -> Result<Verdict, Refusal> {
     let (start, length) = (dossier.as_ptr(), dossier.len());
     // SAFETY: the library reads these bytes alone.
-    verdict(unsafe { raw::bench_price_test(start, length, hour, level, condition, price) })
+    verdict(unsafe { raw::bench_price_test(start, length, hour, owner, level, condition, price) })
 }

@@ -42,15 +42,18 @@ pub struct Lamination {
     pub level: u64,
 }
 
-/// The levels at an hour: of each key the highest issue whose first hour has come counts. Payments to
-/// third parties (cost 4) are withdrawn, and no level has them; [`report`](crate::report()) tells how
-/// many there are. A refusal is the one of [`accept`](crate::accept), or 20 where the profile of the
-/// hour has no fuel in force.
+/// The levels at an hour and for an owner, 1 or 2: of each key the highest issue whose first hour has
+/// come counts, and of what one owner adds (AO) that of this one. Payments to third parties (cost 4)
+/// are withdrawn, and no level has them; [`report`](crate::report()) tells how many there are.
+///
+/// An owner that is neither is refused before all else (3 at 0). Another refusal is the one of
+/// [`accept`](crate::accept), or 20 where the profile of the hour has no fuel in force.
 ///
 /// ```
 /// # mod r1 { include!(concat!(env!("CARGO_MANIFEST_DIR"), "/doc/r1.rs")); }
 /// # let dossier = r1::dossier();
-/// let levels = bench::levels(&dossier, 0)?;
+/// let owner = 1;
+/// let levels = bench::levels(&dossier, 0, owner)?;
 /// assert_eq!(levels.profile, 1);
 /// let whole = bench::Lamination { from: 0, to: 1_000, level: 4_230 };
 /// assert_eq!(levels.energy, [whole]);
@@ -67,7 +70,7 @@ pub struct Lamination {
 /// # use r1::{dossier, record};
 /// let ahead = record(b"FV", 2, &[(4, 24), (1, 1), (4, 5_000_000), (4, 1_000_000)]);
 /// let longer = [dossier(), ahead].concat();
-/// let energy = |hour| bench::levels(&longer, hour).map(|levels| levels.energy[0].level);
+/// let energy = |hour| bench::levels(&longer, hour, 1).map(|levels| levels.energy[0].level);
 /// assert_eq!((energy(23), energy(24)), (Ok(4_230), Ok(5_030)));
 ///
 /// // a second profile whose fuel begins at hour 30 is asked for from hour 26 on
@@ -75,12 +78,28 @@ pub struct Lamination {
 /// let oil = record(b"FV", 1, &[(4, 30), (1, 2), (4, 11_500_000), (4, 1_800_000)]);
 /// let longer = [longer, request, oil].concat();
 /// let refusal = bench::Refusal { number: 20, place: 0 };
-/// assert_eq!(bench::levels(&longer, 26), Err(refusal));
-/// assert!(bench::accept(&longer).is_ok() && bench::levels(&longer, 30).is_ok());
+/// assert_eq!(bench::levels(&longer, 26, 1), Err(refusal));
+/// assert!(bench::accept(&longer).is_ok() && bench::levels(&longer, 30, 1).is_ok());
 /// ```
-pub fn levels(dossier: &[u8], hour: u32) -> Result<Levels, Refusal> {
+///
+/// A plant that two owners offer: both have the common amounts, and each its own beside them:
+///
+/// ```
+/// # mod r1 { include!(concat!(env!("CARGO_MANIFEST_DIR"), "/doc/r1.rs")); }
+/// # use r1::{dossier, record};
+/// // owner 2, profile 1, consumables (3), energy (1): 0.75
+/// let own = record(b"AO", 1, &[(1, 2), (1, 1), (1, 3), (1, 1), (8, 750_000)]);
+/// let shared = [dossier(), own].concat();
+/// let energy = |owner| bench::levels(&shared, 0, owner).map(|levels| levels.energy[0].level);
+/// assert_eq!((energy(1), energy(2)), (Ok(4_230), Ok(4_305)));
+///
+/// // there is no third
+/// let refusal = bench::Refusal { number: 3, place: 0 };
+/// assert_eq!(energy(3), Err(refusal));
+/// ```
+pub fn levels(dossier: &[u8], hour: u32, owner: u8) -> Result<Levels, Refusal> {
     let mut words = [0; WORDS];
-    levels_into(dossier, hour, &mut words)?;
+    levels_into(dossier, hour, owner, &mut words)?;
     let count = words[1] as usize;
     let steps = words[STEPS..HELD].chunks(3).take(count);
     // Bit 0 is energy, which every technology holds.
@@ -102,8 +121,8 @@ fn lamination(words: &[u64]) -> Lamination {
     }
 }
 
-/// Writes the levels at an hour to the first words of a lent list and gives their number,
-/// [`WORDS`]; words past them stay. It allocates nothing.
+/// Writes the levels at an hour and for an owner to the first words of a lent list and gives their
+/// number, [`WORDS`]; words past them stay. It allocates nothing.
 ///
 /// Beside what [`levels`] refuses, it refuses a list of fewer words (15). A refused call leaves every
 /// word.
@@ -112,18 +131,24 @@ fn lamination(words: &[u64]) -> Lamination {
 /// # mod r1 { include!(concat!(env!("CARGO_MANIFEST_DIR"), "/doc/r1.rs")); }
 /// # let dossier = r1::dossier();
 /// let mut words = [7; bench::WORDS + 1];
-/// assert_eq!(bench::levels_into(&dossier, 0, &mut words), Ok(66));
+/// assert_eq!(bench::levels_into(&dossier, 0, 1, &mut words), Ok(66));
 /// assert_eq!(words[..5], [1, 1, 0, 1_000, 4_230]);
 /// assert_eq!(words[62..], [0b1111, 330_000, 50_000, 25, 7]);
 ///
 /// let mut short = [7; bench::WORDS - 1];
 /// let refusal = bench::Refusal { number: 15, place: 0 };
-/// assert_eq!(bench::levels_into(&dossier, 0, &mut short), Err(refusal));
+/// assert_eq!(bench::levels_into(&dossier, 0, 1, &mut short), Err(refusal));
 /// assert_eq!(short, [7; 65]);
 /// ```
-pub fn levels_into(dossier: &[u8], hour: u32, words: &mut [u64]) -> Result<usize, Refusal> {
+pub fn levels_into(
+    dossier: &[u8],
+    hour: u32,
+    owner: u8,
+    words: &mut [u64],
+) -> Result<usize, Refusal> {
+    let (start, length) = (dossier.as_ptr(), dossier.len());
     let (list, count) = (words.as_mut_ptr(), words.len());
     // SAFETY: the library reads the dossier's bytes and writes within the list.
-    let word = unsafe { raw::bench_levels(dossier.as_ptr(), dossier.len(), hour, list, count) };
+    let word = unsafe { raw::bench_levels(start, length, hour, owner, list, count) };
     Word::value(word).map(|written| written as usize)
 }

@@ -14,8 +14,9 @@
 //! fuel price the profile that it is for). Of the records with one mark and key, the one with the
 //! highest issue is *current*, wherever it lies; older ones stay and say nothing. Fuel, adders and
 //! maintenance may have a first hour (FV, AV and MV in place of FU, AD and MM, with the same keys): at
-//! an hour the highest issue whose first hour has come counts. `docs/LIBRARY.md` lists the marks with
-//! their fields.
+//! an hour the highest issue whose first hour has come counts. A plant may be offered by two owners,
+//! 1 and 2, of whom a call with an hour names one: what one owner adds to a level (AO) counts in calls
+//! that name it, and in no other. `docs/LIBRARY.md` lists the marks with their fields.
 //!
 //! ```
 #![doc = include_str!("../doc/r1.rs")]
@@ -24,7 +25,8 @@
 //! let dossier = dossier();
 //! bench::accept(&dossier)?;
 //!
-//! let levels = bench::levels(&dossier, 0)?;
+//! let owner = 1;
+//! let levels = bench::levels(&dossier, 0, owner)?;
 //! assert_eq!(levels.energy[0].level, 4_230); // 42.30 dollars per MWh
 //! assert_eq!(levels.reserve, Some(25));
 //! # Ok(())
@@ -34,9 +36,10 @@
 //! # What the calls answer
 //!
 //! - [`accept`]: whether the dossier is one that levels can be worked out from.
-//! - [`levels`] and [`levels_into`]: the levels at an hour, as a struct or as words.
-//! - [`energy_test`] and [`price_test`]: whether an offer passes the conduct test at an hour.
-//! - [`report`]: the levels at an hour as lines of text, and how many withdrawn payments there are.
+//! - [`levels`] and [`levels_into`]: the levels at an hour and for an owner, as a struct or as words.
+//! - [`energy_test`] and [`price_test`]: whether an owner's offer passes the conduct test at an hour.
+//! - [`report`]: the levels at an hour and for an owner as lines of text, and how many withdrawn
+//!   payments there are.
 //! - [`week`] and [`week_into`]: a battery's charging week, as a struct or in two lists.
 //! - [`current`]: where the current record of a mark and key lies.
 //!
@@ -54,7 +57,7 @@
 //! let refusal = bench::accept(&longer).unwrap_err();
 //! assert_eq!(refusal.number, 4); // a mark, key and issue that came before
 //! assert_eq!(refusal.place, 166); // where the later of the two begins
-//! assert_eq!(bench::levels(&longer, 0), Err(refusal));
+//! assert_eq!(bench::levels(&longer, 0, 1), Err(refusal));
 //! ```
 //!
 //! # Units
@@ -109,7 +112,8 @@ pub struct Refusal {
     /// The rule, 1 to 17 or 20; README.md of the repository lists them.
     pub number: u8,
     /// The byte of the dossier where the refused record begins, or of the offer where the refused
-    /// pair does; the length of either where the whole of it is refused; 0 for the rest.
+    /// pair does; the length of either where the whole of it is refused; 0 for the rest, as for an
+    /// owner that isn't 1 or 2.
     ///
     /// An offer above 4,294,967,295 bytes has its length cut to the low 32 bits.
     pub place: usize,

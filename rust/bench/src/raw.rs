@@ -11,6 +11,7 @@ extern "C" {
         dossier: *const u8,
         length: usize,
         hour: u32,
+        owner: u8,
         words: *mut u64,
         count: usize,
     ) -> u64;
@@ -19,6 +20,7 @@ extern "C" {
         dossier: *const u8,
         length: usize,
         hour: u32,
+        owner: u8,
         condition: u8,
         offer: *const u8,
         offer_length: usize,
@@ -28,6 +30,7 @@ extern "C" {
         dossier: *const u8,
         length: usize,
         hour: u32,
+        owner: u8,
         level: u8,
         condition: u8,
         price: i32,
@@ -37,6 +40,7 @@ extern "C" {
         dossier: *const u8,
         length: usize,
         hour: u32,
+        owner: u8,
         buffer: *mut u8,
         buffer_length: usize,
     ) -> u64;

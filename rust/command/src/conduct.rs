@@ -1,15 +1,16 @@
 //! `bench test`: an offer or a single price held against the levels of an hour.
 
 use crate::answer::{refused, Said, Status, Stop, Streams};
-use crate::args::{hour, Args};
+use crate::args::Args;
 use crate::csv;
 use crate::explain::of_offer;
 use crate::form::Form;
 use crate::input::Input;
 use crate::json::{object, Json};
-use crate::levels::{at, dollars, megawatts};
+use crate::levels::{self, dollars, megawatts};
 use crate::many::each;
 use crate::offer::{self, highest_for, highest_in, Pair};
+use crate::query::Query;
 use crate::unit::{CONDITION, DOLLARS, LEVEL, MEGAWATTS};
 use bench::{energy_test, price_test, Failing, Lamination, Verdict};
 
@@ -20,17 +21,17 @@ pub enum Offered {
     Price { level: u8, price: i32 },
 }
 
-/// An offer with its hour and condition.
+/// An offer with its hour, owner and condition.
 #[derive(Debug)]
 pub struct Question {
-    pub hour: u32,
+    pub query: Query,
     pub condition: u8,
     pub offered: Offered,
 }
 
 pub fn run(args: &Args, streams: &mut Streams) -> Result<Status, Stop> {
     let question = Question {
-        hour: args.need("hour", hour)?,
+        query: Query::of(args)?,
         condition: args.need("condition", offer::read_condition)?,
         offered: offered(args)?,
     };
@@ -63,7 +64,7 @@ impl Question {
             Offered::Price { level, .. } => level,
         };
         let condition = CONDITION.write(self.condition.into());
-        at(self.hour).and(object([
+        self.query.hour().and(object([
             ("condition", Json::text(condition)),
             ("level", Json::text(LEVEL.write(level.into()))),
         ]))
@@ -73,7 +74,7 @@ impl Question {
 /// What the library says of an offer to a station, in words and JSON.
 pub fn test(input: &Input, question: &Question) -> Said {
     let Question {
-        hour,
+        query: Query { hour, owner },
         condition,
         offered,
     } = question;
@@ -81,17 +82,19 @@ pub fn test(input: &Input, question: &Question) -> Said {
     let (verdict, pairs) = match offered {
         Offered::Energy(pairs) => {
             let offer = offer::bytes(pairs);
-            (energy_test(dossier, *hour, *condition, &offer), &pairs[..])
+            let verdict = energy_test(dossier, *hour, *owner, *condition, &offer);
+            (verdict, &pairs[..])
         }
         Offered::Price { level, price } => {
-            let verdict = price_test(dossier, *hour, *level, *condition, *price);
+            let verdict = price_test(dossier, *hour, *owner, *level, *condition, *price);
             (verdict, &[][..])
         }
     };
     match verdict {
         Err(refusal) => {
             let explained = of_offer(refusal, dossier, lines, (*hour, pairs));
-            refused(&explained).with(question.json())
+            let asked = question.json().and(question.query.owner());
+            refused(&explained).with(asked)
         }
         Ok(Verdict::Passes) => judged(input, question, None),
         Ok(Verdict::Fails(failing)) => judged(input, question, Some(failing)),
@@ -116,8 +119,9 @@ fn judged(input: &Input, question: &Question, fails: Option<Failing>) -> Said {
     let under = CONDITION.write(question.condition.into());
     let word = word(fails.is_some());
     let line = format!(
-        "{word} under {under} at hour {}: {}",
-        question.hour, judged.what
+        "{word} under {under} at {}: {}",
+        question.query.words(&input.dossier),
+        judged.what
     );
     let price = |p: Option<i32>| p.map_or(Json::Null, |p| Json::Number(DOLLARS.write(p.into())));
     let highest = judged.highest.into_iter().map(price).collect();
@@ -133,7 +137,8 @@ fn judged(input: &Input, question: &Question, fails: Option<Failing>) -> Said {
         json: question
             .json()
             .and(verdict(fails))
-            .with("highest", Json::List(highest)),
+            .with("highest", Json::List(highest))
+            .and(question.query.owner()),
     }
 }
 
@@ -159,9 +164,9 @@ pub fn verdict(fails: Option<Failing>) -> Json {
 
 fn energy(input: &Input, question: &Question, pairs: &[Pair], fails: Option<Failing>) -> Judged {
     let dossier = &input.dossier;
-    let levels = bench::levels(dossier, question.hour);
+    let levels = levels::at(dossier, question.query);
     let steps = levels.map_or(Vec::new(), |levels| levels.energy);
-    let highest = |step| highest_in(dossier, question.hour, question.condition, step);
+    let highest = |step| highest_in(dossier, question.query, question.condition, step);
     let highest: Vec<Option<i32>> = steps.iter().map(highest).collect();
     let line = |(i, step): (usize, &Lamination)| {
         let (from, to) = (megawatts(step.from), megawatts(step.to));
@@ -191,7 +196,7 @@ fn failing(pairs: &[Pair], fails: Failing) -> String {
 
 fn single(input: &Input, question: &Question, level: u8, price: i32) -> Judged {
     let name = LEVEL.write(level.into());
-    let highest = highest_for(&input.dossier, question.hour, level, question.condition);
+    let highest = highest_for(&input.dossier, question.query, level, question.condition);
     Judged {
         what: format!("{name} at {}", DOLLARS.write(price.into())),
         passing: format!("  {name}: {}\n", passing(highest)),

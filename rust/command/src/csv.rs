@@ -41,18 +41,25 @@ const OF_INTERVAL: &[&str] = &[
     "paid",
 ];
 const OF_REFUSAL: &[&str] = &["refused", "place", "says"];
+/// The last column: a table keeps the order of those that it had before.
+const OF_OWNER: &[&str] = &["owner"];
 
 /// The columns of `bench levels`.
-pub const LEVELS: Columns = &[OF_LEVEL, OF_REFUSAL];
+pub const LEVELS: Columns = &[OF_LEVEL, OF_REFUSAL, OF_OWNER];
 
 /// Those of `bench day`: each row of an hour has the hour's verdict.
-pub const DAY: Columns = &[OF_LEVEL, &["verdict", "pair", "in-lamination"], OF_REFUSAL];
+pub const DAY: Columns = &[
+    OF_LEVEL,
+    &["verdict", "pair", "in-lamination"],
+    OF_REFUSAL,
+    OF_OWNER,
+];
 
 /// Those of `bench test`.
-pub const TEST: Columns = &[OF_OFFER, OF_REFUSAL];
+pub const TEST: Columns = &[OF_OFFER, OF_REFUSAL, OF_OWNER];
 
 /// Those of `bench offers`: the line of the offers file stands first.
-pub const OFFERS: Columns = &[&["line"], OF_OFFER, OF_REFUSAL];
+pub const OFFERS: Columns = &[&["line"], OF_OFFER, OF_REFUSAL, OF_OWNER];
 
 /// Those of `bench week`: each row of an interval has the week's charging cost.
 pub const WEEK: Columns = &[OF_INTERVAL, OF_REFUSAL];

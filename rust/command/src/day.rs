@@ -15,6 +15,7 @@ use crate::many::each;
 use crate::offer::{self, highest_in, Pair};
 use crate::output;
 use crate::picture::{self, Picture};
+use crate::query::{asked_owner, behind, Query};
 use crate::table;
 use crate::together::ask_only;
 use crate::unit::CONDITION;
@@ -25,6 +26,7 @@ use bench::{energy_test, Failing, Levels, Refusal, Verdict};
 struct Question {
     from: u32,
     hours: u32,
+    owner: u8,
     /// The hour in the picture.
     at: u32,
     offer: Option<(u8, Vec<Pair>)>,
@@ -32,6 +34,7 @@ struct Question {
 
 /// The hours that have levels, and those that are refused.
 struct Day {
+    owner: u8,
     hours: Vec<Hour>,
     refused: Vec<(u32, Refusal)>,
 }
@@ -39,6 +42,7 @@ struct Day {
 /// One hour of the answer.
 struct Hour {
     hour: u32,
+    owner: u8,
     levels: Levels,
     verdict: Option<Verdict>,
     /// Where the levels are other than in the hour before.
@@ -104,6 +108,7 @@ fn question(args: &Args) -> Result<Question, Stop> {
     Ok(Question {
         from,
         hours,
+        owner: asked_owner(args)?,
         at: at.unwrap_or(from),
         offer,
     })
@@ -112,11 +117,13 @@ fn question(args: &Args) -> Result<Question, Stop> {
 /// Every hour's levels and verdict. Where no hour has them, that is the refusal of the first.
 fn asked(input: &Input, question: &Question) -> Result<Day, Said> {
     let mut day = Day {
+        owner: question.owner,
         hours: Vec::new(),
         refused: Vec::new(),
     };
     let earlier = question.from.checked_sub(1);
-    let earlier = earlier.and_then(|hour| bench::levels(&input.dossier, hour).ok());
+    let earlier = earlier.map(|hour| question.query(hour));
+    let earlier = earlier.and_then(|query| levels::at(&input.dossier, query).ok());
     for n in 0..question.hours {
         let hour = question.from + n;
         match at(input, question, hour) {
@@ -146,21 +153,31 @@ fn asked(input: &Input, question: &Question) -> Result<Day, Said> {
     }
 }
 
+impl Question {
+    fn query(&self, hour: u32) -> Query {
+        let owner = self.owner;
+        Query { hour, owner }
+    }
+}
+
 fn at(input: &Input, question: &Question, hour: u32) -> Result<Hour, Refusal> {
+    let query = question.query(hour);
     let verdict = match &question.offer {
-        Some((condition, pairs)) => Some(tested(input, hour, *condition, pairs)?),
+        Some((condition, pairs)) => Some(tested(input, query, *condition, pairs)?),
         None => None,
     };
     Ok(Hour {
         hour,
-        levels: bench::levels(&input.dossier, hour)?,
+        owner: question.owner,
+        levels: levels::at(&input.dossier, query)?,
         verdict,
         change: None,
     })
 }
 
-fn tested(input: &Input, hour: u32, condition: u8, pairs: &[Pair]) -> Result<Verdict, Refusal> {
-    energy_test(&input.dossier, hour, condition, &offer::bytes(pairs))
+fn tested(input: &Input, query: Query, condition: u8, pairs: &[Pair]) -> Result<Verdict, Refusal> {
+    let (Query { hour, owner }, offer) = (query, offer::bytes(pairs));
+    energy_test(&input.dossier, hour, owner, condition, &offer)
 }
 
 fn said(input: &Input, day: &Day) -> Said {
@@ -176,12 +193,16 @@ fn said(input: &Input, day: &Day) -> Said {
         let explained = of_hour(*refusal, &input.dossier, &input.lines, *hour);
         (*hour, explained)
     });
-    let (mut words, mut hours) = (table(&day.hours), Vec::new());
+    let of_owner = behind(day.owner, &input.dossier);
+    let (mut words, mut hours) = (table(&day.hours, &of_owner), Vec::new());
     hours.extend(day.hours.iter().map(|hour| (hour.hour, hour.json())));
     words += &changes(&day.hours);
     for (hour, explained) in refusals {
         words += &format!("hour {hour}: {}{}\n", explained.line(), explained.behind());
-        hours.push((hour, levels::at(hour).with("refused", explained.json())));
+        let owner = day.owner;
+        let asked = Query { hour, owner };
+        let json = asked.hour().with("refused", explained.json());
+        hours.push((hour, json.and(asked.owner())));
     }
     hours.sort_by_key(|(hour, _)| *hour);
     let hours = hours.into_iter().map(|(_, json)| json).collect();
@@ -195,14 +216,19 @@ fn said(input: &Input, day: &Day) -> Said {
 }
 
 impl Hour {
+    fn query(&self) -> Query {
+        let Hour { hour, owner, .. } = *self;
+        Query { hour, owner }
+    }
+
     fn json(&self) -> Json {
-        let json = json(self.hour, &self.levels);
+        let json = json(self.query(), &self.levels);
         let json = match self.verdict {
             Some(_) => json.with("offer", verdict(self.fails())),
             None => json,
         };
         let change = self.change.as_ref().map_or(Json::Null, Change::json);
-        json.with("change", change)
+        json.with("change", change).and(self.query().owner())
     }
 
     /// The first pair and lamination that fail, if the offer does.
@@ -269,25 +295,26 @@ fn changes(hours: &[Hour]) -> String {
     told.collect()
 }
 
-/// One row an hour.
-fn table(hours: &[Hour]) -> String {
+/// One row an hour; the heading names the owner where it makes a difference.
+fn table(hours: &[Hour], of_owner: &str) -> String {
     let marked = hours.iter().any(|h| h.change.is_some());
     let heads = hours.first().map(|h| h.heads(marked));
     let mut rows: Vec<Vec<String>> = heads.into_iter().collect();
     rows.extend(hours.iter().map(|h| h.cells(marked)));
-    let heading = "energy in dollars per MWh by lamination; the other levels in dollars\n";
+    let heading = "energy in dollars per MWh by lamination; the other levels in dollars";
     // Hour and profile tell a row in each block.
-    format!("{heading}{}", table::written(&rows, 2))
+    format!("{heading}{of_owner}\n{}", table::written(&rows, 2))
 }
 
 /// The picture of an hour.
 fn drawn(input: &Input, hour: &Hour, question: &Question) -> String {
-    let at = format!(", hour {}, profile {}", hour.hour, hour.levels.profile);
+    let asked = hour.query().words(&input.dossier);
+    let at = format!(", {asked}, profile {}", hour.levels.profile);
     let title = picture::title(&input.name.to_string(), &at);
     let steps = &hour.levels.energy;
     let (condition, pairs) = question.offer.clone().unwrap_or_default();
     let name = CONDITION.write(condition.into());
-    let highest = |l| highest_in(&input.dossier, hour.hour, condition, l);
+    let highest = |l| highest_in(&input.dossier, hour.query(), condition, l);
     let highest: Vec<Option<i32>> = match question.offer {
         Some(_) => steps.iter().map(highest).collect(),
         None => Vec::new(),
@@ -307,7 +334,8 @@ fn drawn(input: &Input, hour: &Hour, question: &Question) -> String {
 /// The picture of a day.
 fn drawn_day(input: &Input, question: &Question, day: &Day) -> String {
     let last = question.from + (question.hours - 1);
-    let at = format!(", {}", picture::day::hours(question.from, last));
+    let hours = picture::day::hours(question.from, last);
+    let at = format!(", {hours}{}", behind(question.owner, &input.dossier));
     let title = picture::title(&input.name.to_string(), &at);
     let levels = day.hours.iter().map(|h| (h.hour, Ok(&h.levels)));
     let refused = day
@@ -345,6 +373,7 @@ mod tests {
         let question = Question {
             from: 5,
             hours: 3,
+            owner: 1,
             at: 5,
             offer: None,
         };

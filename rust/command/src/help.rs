@@ -65,30 +65,35 @@ a refusal names the file.
 ";
 
 pub const LEVELS: &str = "\
-bench levels [FILE...] --hour H [--together] [--json | --csv]
+bench levels [FILE...] --hour H [--owner O] [--together] [--json | --csv]
 
 Prints the report of an hour, 0 to 4294967295: the profile, each lamination of energy with its ends in
 MW and its level, and the other levels that the station holds, in dollars; last, how many third-party
-payments are in force, which are withdrawn (retired N). Of many files each gets a line; with --together
-they are one station. --csv writes a table with a row for each level.
+payments are in force, which are withdrawn (retired N). O is the owner whose own amounts (AO) join the
+common ones, 1 or 2; it is 1 without --owner, as in the program 'levels'. Of many files each gets a
+line; with --together they are one station. --csv writes a table with a row for each level.
 ";
 
 pub const EXPLAIN: &str = "\
-bench explain [FILE...] --hour H [--level L] [--together] [--json]
+bench explain [FILE...] --hour H [--owner O] [--level L] [--together] [--json]
 
 Shows each level of an hour term by term: fuel, emission, each adder and maintenance item, a battery's
 charging and opportunity side, a river station's place in the forecast, each with its records; then the
 sum in micro-dollars and the level in cents. L is energy, start, no-load or reserve. The terms are held
 against the library's level; where they don't add up to it, the answer says so and the status is 2.
-A third-party payment is withdrawn: it is there with 0, and with what was claimed. A cost that doesn't
-count at every hour has the hours in which it does; costs that lie ahead stand last.
+A third-party payment is withdrawn: it is there with 0, and with what was claimed. What owner O adds (1
+without --owner) is named so, behind what is common to both. A cost that doesn't count at every hour has
+the hours in which it does; costs that lie ahead stand last.
 ";
 
 pub const TEST: &str = "\
-bench test [FILE...] --hour H --condition C --offer PAIRS [--together] [--json | --csv]
-bench test [FILE...] --hour H --condition C --level L --price P [--together] [--json | --csv]
+bench test [FILE...] --hour H [--owner O] --condition C --offer PAIRS
+           [--together] [--json | --csv]
+bench test [FILE...] --hour H [--owner O] --condition C --level L --price P
+           [--together] [--json | --csv]
 
-Holds an offer against the levels of an hour under a condition: narrow, broad or global.
+Holds an offer against the levels of an hour under a condition: narrow, broad or global. The offer is
+that of owner O, 1 or 2 (1 without --owner).
 PAIRS is an energy offer, quantity@price in MW and dollars per MWh, as in '50.0@42.30,100.0@63.46'.
 L is start, no-load or reserve, and P a price in dollars.
 The answer is passes or fails, with the first pair and lamination that fail, and the highest price
@@ -104,21 +109,22 @@ Holds many offers against the levels of many stations in one run, one a line of 
   # comments and blank lines are passed over
   station=gas.txt hour=7 condition=narrow offer=50.0@42.30,100.0@63.46
   station=gas.txt hour=7 condition=narrow level=start price=3300.00
-  station=gas.txt station=today.txt hour=8 condition=broad offer=100.0@60.00
+  station=gas.txt station=today.txt hour=8 owner=2 condition=broad offer=100.0@60.00
 
-Several stations in a line are one from several files. A name is looked for from the folder that the
-call is made in; one with a space or a # stands between quotes. The answers have a line each, in the
-order of FILE, and a count ends the list.
+Several stations in a line are one from several files. The owner is 1 where a line names none. A name
+is looked for from the folder that the call is made in; one with a space or a # stands between quotes.
+The answers have a line each, in the order of FILE, and a count ends the list.
 ";
 
 pub const DAY: &str = "\
-bench day [FILE...] --from H [--hours N] [--together] [--json | --csv]
+bench day [FILE...] --from H [--hours N] [--owner O] [--together] [--json | --csv]
           [--condition C --offer PAIRS] [--svg OUT [--at H]] [--svg-day OUT]
 
 Prints the levels of N hours from hour H on (24 without --hours) as a table. A * marks the hours at which
-a level is other than in the hour before; below the table stands why. Hours without fuel in force are
-refused one by one. With an offer, each hour has its verdict as well. Of many files each has its table;
-with --together they are one station. --csv writes a row for each level of each hour.
+a level is other than in the hour before; below the table stands why. The levels are those of owner O,
+1 or 2 (1 without --owner). Hours without fuel in force are refused one by one. With an offer, each
+hour has its verdict as well. Of many files each has its table; with --together they are one station.
+--csv writes a row for each level of each hour.
 --svg writes a picture of the energy curve at hour --at (the first without it), with the offer's pairs
 and the highest prices that pass over it. --svg-day writes one of the levels over the hours, with the
 profiles behind them and a line where a cost begins. Both are of one station.
@@ -139,7 +145,7 @@ where no energy was charged. It is of one station.
 /// The fields of every record.
 pub fn fields() -> String {
     let head = "Every record has issue=0 to 4294967295. A record is told by its mark and those of its fields with a *.\n\
-                FV, AV and MV are FU, AD and MM with a first hour, and share their keys.\n";
+                FV, AV and MV are FU, AD and MM with a first hour, and share their keys. AO is AD for one owner.\n";
     let marks: Vec<String> = MARKS.iter().map(of_mark).collect();
     format!("{head}\n{}", marks.join("\n"))
 }

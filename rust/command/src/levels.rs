@@ -1,45 +1,51 @@
 //! `bench levels`: the levels at an hour.
 
 use crate::answer::{refused, Said, Status, Stop, Streams};
-use crate::args::{hour, Args};
+use crate::args::Args;
 use crate::csv;
 use crate::explain::of_hour;
 use crate::form::Form;
 use crate::input::Input;
 use crate::json::{object, Json};
 use crate::many::each;
+use crate::query::Query;
 use crate::unit::{DOLLARS, MEGAWATTS};
 use bench::{Lamination, Levels, Refusal};
 
 pub fn run(args: &Args, streams: &mut Streams) -> Result<Status, Stop> {
-    let hour = args.need("hour", hour)?;
+    let query = Query::of(args)?;
     let form = Form::of(args, csv::LEVELS)?;
-    each(args, streams, &form, |input| levels(input, hour))
+    each(args, streams, &form, |input| levels(input, query))
 }
 
-fn levels(input: &Input, hour: u32) -> Said {
+fn levels(input: &Input, query: Query) -> Said {
     let Input { dossier, lines, .. } = input;
-    match bench::levels(dossier, hour).and_then(|l| Ok((l, report(dossier, hour)?))) {
+    match at(dossier, query).and_then(|l| Ok((l, report(dossier, query)?))) {
         Ok((levels, report)) => Said {
             status: Status::Done,
             counts_as: "with levels",
             line: format!("{}; retired {}", line(&levels), retired(&report)),
-            json: json(hour, &levels).with("retired", Json::whole(retired(&report))),
+            json: json(query, &levels)
+                .with("retired", Json::whole(retired(&report)))
+                .and(query.owner()),
             words: report,
         },
-        Err(refusal) => refused(&of_hour(refusal, dossier, lines, hour)).with(at(hour)),
+        Err(refusal) => {
+            let explained = of_hour(refusal, dossier, lines, query.hour);
+            refused(&explained).with(query.json())
+        }
     }
 }
 
-/// The hour as a member of an answer.
-pub fn at(hour: u32) -> Json {
-    object([("hour", Json::whole(hour as usize))])
+/// The levels that a query asks for.
+pub fn at(dossier: &[u8], query: Query) -> Result<Levels, Refusal> {
+    bench::levels(dossier, query.hour, query.owner)
 }
 
 /// The report, as the library writes it.
-fn report(dossier: &[u8], hour: u32) -> Result<String, Refusal> {
+fn report(dossier: &[u8], query: Query) -> Result<String, Refusal> {
     let mut buffer = [0; bench::REPORT_BYTES];
-    let length = bench::report(dossier, hour, &mut buffer)?;
+    let length = bench::report(dossier, query.hour, query.owner, &mut buffer)?;
     Ok(String::from_utf8_lossy(&buffer[..length]).into_owned())
 }
 
@@ -81,8 +87,8 @@ fn line(levels: &Levels) -> String {
     line
 }
 
-/// The levels of an hour as an object; a level that the technology lacks is null.
-pub fn json(hour: u32, levels: &Levels) -> Json {
+/// The levels of an hour as an object, without the owner; a level that the technology lacks is null.
+pub fn json(query: Query, levels: &Levels) -> Json {
     let number = |text: String| Json::Number(text);
     let lamination = |(i, l): (usize, &Lamination)| {
         object([
@@ -95,7 +101,7 @@ pub fn json(hour: u32, levels: &Levels) -> Json {
     let energy = levels.energy.iter().enumerate().map(lamination).collect();
     let [start, no_load, reserve] =
         others(levels).map(|(_, level)| level.map_or(Json::Null, |cents| number(dollars(cents))));
-    at(hour).and(object([
+    query.hour().and(object([
         ("profile", Json::whole(levels.profile.into())),
         ("energy", Json::List(energy)),
         ("start", start),

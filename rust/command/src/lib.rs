@@ -30,6 +30,7 @@ mod pack;
 pub mod picture;
 mod pipe;
 pub mod plain;
+pub mod query;
 pub mod record;
 pub mod rules;
 mod table;
@@ -81,6 +82,7 @@ const COMMANDS: [Command; 10] = [
         name: "levels",
         choices: &[
             ("hour", true),
+            ("owner", true),
             ("together", false),
             ("json", false),
             ("csv", false),
@@ -92,6 +94,7 @@ const COMMANDS: [Command; 10] = [
         name: "explain",
         choices: &[
             ("hour", true),
+            ("owner", true),
             ("level", true),
             ("together", false),
             ("json", false),
@@ -103,6 +106,7 @@ const COMMANDS: [Command; 10] = [
         name: "test",
         choices: &[
             ("hour", true),
+            ("owner", true),
             ("condition", true),
             ("offer", true),
             ("level", true),
@@ -125,6 +129,7 @@ const COMMANDS: [Command; 10] = [
         choices: &[
             ("from", true),
             ("hours", true),
+            ("owner", true),
             ("svg", true),
             ("at", true),
             ("svg-day", true),

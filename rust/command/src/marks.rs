@@ -71,7 +71,9 @@ const PRICED: Field = field("price", 4, -PRICE, PRICE, DOLLARS_PER_MWH);
 /// The first hour of a request, and that of a dated cost.
 const FIRST: Field = to("first", 4, ANY, PLAIN);
 const PROFILE: Field = key("profile", 1, 4);
+const OF_COST: Field = field("cost", 1, 1, 5, COST);
 const OF_LEVEL: Field = field("level", 1, 1, 4, LEVEL);
+const AMOUNT: Field = to("amount", 8, 1_000_000_000_000, FINE_DOLLARS);
 
 const TECHNOLOGY: Unit =
     PLAIN.with_words(&[("thermal", 1), ("nuclear", 2), ("storage", 3), ("hydro", 4)]);
@@ -143,13 +145,7 @@ const FU: Mark = mark(
 const AD: Mark = mark(
     "AD",
     "an amount added to a level",
-    &[
-        ISSUE,
-        PROFILE,
-        field("cost", 1, 1, 5, COST),
-        OF_LEVEL,
-        to("amount", 8, 1_000_000_000_000, FINE_DOLLARS),
-    ],
+    &[ISSUE, PROFILE, OF_COST, OF_LEVEL, AMOUNT],
     3,
 );
 
@@ -168,7 +164,7 @@ const MM: Mark = mark(
     2,
 );
 
-pub static MARKS: [Mark; 14] = [
+pub static MARKS: [Mark; 15] = [
     mark(
         "RS",
         "the station",
@@ -206,6 +202,19 @@ pub static MARKS: [Mark; 14] = [
     dated!("FV", "the fuel of a profile from an hour on", FU),
     AD,
     dated!("AV", "an amount added to a level from an hour on", AD),
+    mark(
+        "AO",
+        "an amount added to a level for one owner",
+        &[
+            ISSUE,
+            key("owner", 1, 2),
+            PROFILE,
+            OF_COST,
+            OF_LEVEL,
+            AMOUNT,
+        ],
+        4,
+    ),
     MM,
     dated!("MV", "a maintenance item from an hour on", MM),
     mark(
@@ -409,7 +418,7 @@ mod tests {
     #[test]
     fn lengths_are_those_of_the_paper() {
         let lengths: Vec<usize> = MARKS.iter().map(Mark::length).collect();
-        let paper = [31, 13, 15, 19, 17, 21, 24, 28, 16, 11, 16, 18, 12, 10];
+        let paper = [31, 13, 15, 19, 17, 21, 18, 24, 28, 16, 11, 16, 18, 12, 10];
         assert_eq!(lengths, paper);
     }
 
@@ -431,6 +440,21 @@ mod tests {
         }
     }
 
+    /// The mark of an owner is AD with an owner first in its key, and no first hour.
+    #[test]
+    fn an_owner_comes_first_in_the_key() {
+        let [common, own] = ["AD", "AO"].map(|letters| Mark::of(letters.as_bytes()).unwrap());
+        let names = |mark: &Mark| mark.fields.iter().map(|f| f.name).collect::<Vec<_>>();
+        let mut with_owner = names(common);
+        with_owner.insert(1, "owner");
+        assert_eq!(names(own), with_owner);
+        assert_eq!(
+            (own.key, own.length()),
+            (common.key + 1, common.length() + 1)
+        );
+        assert!(common.can_be_dated() && !own.can_be_dated() && !own.is_dated());
+    }
+
     #[test]
     fn ranges_in_words() {
         let range = |mark: &str, name: &str| {
@@ -450,6 +474,7 @@ mod tests {
         assert_eq!(range("RQ", "profile"), "1 to 4, or withdrawn");
         assert_eq!(range("HR", "price"), "-2000.00 to 2000.00 dollars per MWh");
         assert_eq!(range("HP", "point"), "1 to 21");
+        assert_eq!(range("AO", "owner"), "1 to 2");
     }
 
     #[test]

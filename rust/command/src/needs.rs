@@ -76,6 +76,11 @@ const fn dated(mark: &'static str, need: Need, how_many: &'static str, samples: 
     may(mark, how_many, need.limits, samples)
 }
 
+/// The same amounts of one owner, under a mark with keys of its own.
+const fn owned(need: Need) -> Need {
+    may("AO", OWN_ADDERS, need.limits, &[OWN_ADDER])
+}
+
 const REQUESTS: Need = may(
     "RQ",
     "up to 16; of those that cover an hour the highest request counts, and without one profile 1",
@@ -88,6 +93,9 @@ const FUEL: &str =
 const ADDERS: &str =
     "one for each profile, cost and level that has such an amount; third-party ones are withdrawn \
     and join no level";
+const OWN_ADDERS: &str =
+    "one for each owner, profile, cost and level that has such an amount beside the common ones; it \
+    counts where this owner is asked for";
 const ITEMS: &str = "up to 8 for each profile";
 const DATED_FUEL: &str =
     "one for each change of a profile's fuel that is known ahead; hours before the first fuel of \
@@ -131,6 +139,7 @@ const HYDRO_ITEM: &str =
 
 const DATED_ADDER: &str =
     "AV issue=2 first=7320 profile=1 cost=consumables level=energy amount=1.65";
+const OWN_ADDER: &str = "AO issue=1 owner=2 profile=1 cost=consumables level=energy amount=0.75";
 const DATED_THERMAL_ITEM: &str = "MV issue=2 first=7320 profile=1 item=1 cost=2150000.00 \
     output=100.0 interval=25000 start-hours=10.0";
 const DATED_NUCLEAR_ITEM: &str = "MV issue=2 first=7320 profile=1 item=1 cost=43000000.00 \
@@ -248,6 +257,7 @@ pub static TECHNOLOGIES: [Technology; 4] = [
             ),
             THERMAL_ADDERS,
             dated("AV", THERMAL_ADDERS, DATED_ADDERS, &[DATED_ADDER]),
+            owned(THERMAL_ADDERS),
             THERMAL_ITEMS,
             dated("MV", THERMAL_ITEMS, DATED_ITEMS, &[DATED_THERMAL_ITEM]),
             REQUESTS,
@@ -281,6 +291,7 @@ pub static TECHNOLOGIES: [Technology; 4] = [
             ),
             NUCLEAR_ADDERS,
             dated("AV", NUCLEAR_ADDERS, DATED_ADDERS, &[DATED_ADDER]),
+            owned(NUCLEAR_ADDERS),
             NUCLEAR_ITEMS,
             dated("MV", NUCLEAR_ITEMS, DATED_ITEMS, &[DATED_NUCLEAR_ITEM]),
             REQUESTS,
@@ -314,6 +325,7 @@ pub static TECHNOLOGIES: [Technology; 4] = [
             ),
             STORAGE_ADDERS,
             dated("AV", STORAGE_ADDERS, DATED_ADDERS, &[DATED_ADDER]),
+            owned(STORAGE_ADDERS),
             STORAGE_ITEMS,
             dated("MV", STORAGE_ITEMS, DATED_ITEMS, &[DATED_STORAGE_ITEM]),
             REQUESTS,
@@ -365,6 +377,7 @@ pub static TECHNOLOGIES: [Technology; 4] = [
             ),
             HYDRO_ADDERS,
             dated("AV", HYDRO_ADDERS, DATED_ADDERS, &[DATED_ADDER]),
+            owned(HYDRO_ADDERS),
             HYDRO_ITEMS,
             dated("MV", HYDRO_ITEMS, DATED_ITEMS, &[DATED_HYDRO_ITEM]),
             REQUESTS,

@@ -33,7 +33,8 @@ pub fn template(technology: &Technology) -> String {
          # The numbers are made up; put yours in their place. Records with a # before them may be there: take\n\
          # the # away to use one. Of the records with one mark and key the highest issue counts, wherever it\n\
          # stands: a new price is a new line with a higher issue. FV, AV and MV have the keys of FU, AD and MM, and\n\
-         # count from their first hour on: a price that is known early can be sent early.\n"
+         # count from their first hour on: a price that is known early can be sent early. AO is what one of two\n\
+         # owners adds, and counts where that owner is asked for.\n"
     );
     let sections = technology.needs.iter().map(section);
     [head].into_iter().chain(sections).collect()
@@ -79,7 +80,8 @@ pub fn page() -> String {
         the records with one mark and key (the fields with a \\*) the highest issue counts, and older ones may stay. \
         FV, AV and MV share the keys of FU, AD and MM, and\n\
         count from hour `first` on: at an hour the highest issue counts whose first hour has come. \
-        A record that isn't listed for a technology is refused (6).\n";
+        AO is AD for one of two owners, with keys of its own: it\n\
+        counts where that owner is asked for. A record that isn't listed for a technology is refused (6).\n";
     let pages = TECHNOLOGIES.iter().map(of_technology);
     [head.to_string()].into_iter().chain(pages).collect()
 }

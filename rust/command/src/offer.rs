@@ -2,6 +2,7 @@
 
 use crate::marks::listed;
 use crate::near::hint;
+use crate::query::Query;
 use crate::text::quoted;
 use crate::unit::{Unit, Unreadable, CONDITION, DOLLARS, LEVEL, MEGAWATTS};
 use bench::{energy_test, price_test, Lamination, Verdict};
@@ -157,7 +158,7 @@ const HIGHEST: i128 = 200_000;
 /// The highest price that passes in a lamination, `None` if every price of a pair does. The library
 /// is asked, with an offer that reaches up to the lamination at the lowest price there is, which
 /// never fails, and through it at the price in question.
-pub fn highest_in(dossier: &[u8], hour: u32, condition: u8, step: &Lamination) -> Option<i32> {
+pub fn highest_in(dossier: &[u8], query: Query, condition: u8, step: &Lamination) -> Option<i32> {
     let below = Pair {
         quantity: step.from.into(),
         price: -HIGHEST,
@@ -169,14 +170,17 @@ pub fn highest_in(dossier: &[u8], hour: u32, condition: u8, step: &Lamination) -
         };
         let pairs = [below, through];
         let offer = bytes(if step.from == 0 { &pairs[1..] } else { &pairs });
-        energy_test(dossier, hour, condition, &offer) == Ok(Verdict::Passes)
+        let Query { hour, owner } = query;
+        energy_test(dossier, hour, owner, condition, &offer) == Ok(Verdict::Passes)
     };
     highest(-HIGHEST, HIGHEST, passes)
 }
 
 /// The highest single price that passes for a level, `None` if every price does.
-pub fn highest_for(dossier: &[u8], hour: u32, level: u8, condition: u8) -> Option<i32> {
-    let passes = |price| price_test(dossier, hour, level, condition, price) == Ok(Verdict::Passes);
+pub fn highest_for(dossier: &[u8], query: Query, level: u8, condition: u8) -> Option<i32> {
+    let Query { hour, owner } = query;
+    let verdict = |price| price_test(dossier, hour, owner, level, condition, price);
+    let passes = |price| verdict(price) == Ok(Verdict::Passes);
     highest(i32::MIN.into(), i32::MAX.into(), passes)
 }
 

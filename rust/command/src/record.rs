@@ -88,9 +88,20 @@ impl Record<'_> {
         }
     }
 
+    /// The owner for whom alone it counts; none for a mark that counts for both.
+    pub fn owner(&self) -> Option<u8> {
+        let owner = (self.mark.letters == "AO").then(|| self.get("owner"))?;
+        u8::try_from(owner).ok()
+    }
+
+    /// Whether it is an amount added to a level, for both owners or for one.
+    pub fn is_adder(&self) -> bool {
+        matches!(self.mark.of, "AD" | "AO")
+    }
+
     /// Whether it is a payment to a third party: these are withdrawn, and join no level.
     pub fn is_withdrawn(&self) -> bool {
-        self.mark.of == "AD" && self.value("cost") == "third-party"
+        self.is_adder() && self.value("cost") == "third-party"
     }
 
     /// Mark, key and issue: what no two records may share, under either mark of a key.
@@ -150,6 +161,18 @@ mod tests {
             assert_eq!(record.is_withdrawn(), withdrawn);
         }
         assert!(!records(LINE).next().expect("a record").is_withdrawn());
+    }
+
+    #[test]
+    fn a_record_of_an_owner() {
+        let own = b"AO\0\0\0\x03\x02\x01\x04\x01\0\0\0\0\0\x0b\x71\xb0";
+        let record = records(own).next().expect("a record");
+        assert_eq!(record.owner(), Some(2));
+        assert_eq!(record.of_key(), ("AO", 0x02_01_04_01));
+        let text = "AO issue=3 owner=2 profile=1 cost=third-party level=energy amount=0.75";
+        assert_eq!(record.text(), text);
+        assert!(record.is_adder() && record.is_withdrawn());
+        assert_eq!(records(DATED).next().expect("a record").owner(), None);
     }
 
     #[test]

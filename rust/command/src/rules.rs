@@ -19,7 +19,7 @@ pub static RULES: [Rule; 18] = [
     Rule {
         number: 1,
         means: "a mark that is unknown",
-        wants: "each record begins with one of the marks RS, HP, FU, AD, MM, RQ, HR, CH, TH, FP, LC, FV, AV and MV",
+        wants: "each record begins with one of the marks RS, HP, FU, AD, AO, MM, RQ, HR, CH, TH, FP, LC, FV, AV and MV",
         who: STATION,
     },
     Rule {
@@ -30,14 +30,14 @@ pub static RULES: [Rule; 18] = [
     },
     Rule {
         number: 3,
-        means: "a field outside its range, a request whose first hour is after its last, or a window above 168 at a station that isn't hydroelectric",
+        means: "a field outside its range, a request whose first hour is after its last, a window above 168 at a station that isn't hydroelectric, or a query of an owner that isn't 1 or 2",
         wants: "each field lies in its range",
         who: STATION,
     },
     Rule {
         number: 4,
         means: "a mark, key and issue that came before",
-        wants: "records of one mark and key have different issues; FU and FV share their keys, as AD and AV and as MM and MV do",
+        wants: "records of one mark and key have different issues; FU and FV share their keys, as AD and AV and as MM and MV do, and AO has its own",
         who: STATION,
     },
     Rule {

@@ -10,13 +10,14 @@ mod costs;
 pub mod words;
 
 use crate::answer::{refused, Said, Status, Stop, Streams};
-use crate::args::{hour, Args};
+use crate::args::Args;
 use crate::explain::{of_hour, of_offer, standing, Standing};
 use crate::form::Form;
 use crate::input::Input;
-use crate::levels::{at, others};
+use crate::levels::{self, others};
 use crate::many::each;
 use crate::offer::read_level;
+use crate::query::Query;
 use crate::record::Record;
 use crate::unit::LEVEL;
 use bench::{Levels, Refusal};
@@ -85,7 +86,9 @@ impl Level {
 /// The levels of an hour, term by term, beside what the library says they are.
 #[derive(Debug)]
 pub struct Explanation {
-    pub hour: u32,
+    pub query: Query,
+    /// The hour in words, with the owner where that makes a difference.
+    pub asked: String,
     pub profile: u8,
     /// The request that asks for the profile.
     pub request: Option<Standing>,
@@ -110,42 +113,45 @@ pub struct Ahead {
 }
 
 pub fn run(args: &Args, streams: &mut Streams) -> Result<Status, Stop> {
-    let hour = args.need("hour", hour)?;
+    let query = Query::of(args)?;
     let level = args.get("level", read_level)?;
     let form = Form::of(args, &[])?;
-    each(args, streams, &form, |input| explain(input, hour, level))
+    each(args, streams, &form, |input| explain(input, query, level))
 }
 
-fn explain(input: &Input, hour: u32, level: Option<u8>) -> Said {
+fn explain(input: &Input, query: Query, level: Option<u8>) -> Said {
     let Input { dossier, lines, .. } = input;
-    if let Some(refusal) = level.and_then(|level| unheld(dossier, hour, level)) {
-        return refused(&of_offer(refusal, dossier, lines, (hour, &[]))).with(at(hour));
+    let hour = query.hour;
+    if let Some(refusal) = level.and_then(|level| unheld(dossier, query, level)) {
+        return refused(&of_offer(refusal, dossier, lines, (hour, &[]))).with(query.json());
     }
-    match Explanation::of(input, hour) {
+    match Explanation::of(input, query) {
         Ok(explanation) => explanation.only(level).said(),
-        Err(refusal) => refused(&of_hour(refusal, dossier, lines, hour)).with(at(hour)),
+        Err(refusal) => refused(&of_hour(refusal, dossier, lines, hour)).with(query.json()),
     }
 }
 
 /// The library's refusal of a level that the technology doesn't hold, 12.
-fn unheld(dossier: &[u8], hour: u32, level: u8) -> Option<Refusal> {
+fn unheld(dossier: &[u8], query: Query, level: u8) -> Option<Refusal> {
     const ENERGY: u8 = 1;
-    let refusal = bench::price_test(dossier, hour, level, 1, 0).err()?;
+    let Query { hour, owner } = query;
+    let refusal = bench::price_test(dossier, hour, owner, level, 1, 0).err()?;
     (refusal.number == 12 && level != ENERGY).then_some(refusal)
 }
 
 impl Explanation {
-    /// The levels of an hour; a refusal is the library's.
-    pub fn of(input: &Input, hour: u32) -> Result<Explanation, Refusal> {
-        let levels = bench::levels(&input.dossier, hour)?;
-        let book = Book::open(&input.dossier, &input.lines, hour);
+    /// The levels of an hour and owner; a refusal is the library's.
+    pub fn of(input: &Input, query: Query) -> Result<Explanation, Refusal> {
+        let levels = levels::at(&input.dossier, query)?;
+        let book = Book::open(&input.dossier, &input.lines, query.hour);
         let cited = |record| standing(&record, &input.lines);
         Ok(Explanation {
-            hour,
+            query,
+            asked: query.words(&input.dossier),
             profile: book.profile,
             request: book.request.map(cited),
             station: book.counting("RS", 0).map(cited),
-            levels: costs::levels(&book),
+            levels: costs::levels(&book, query.owner),
             library: library(&levels),
             library_profile: levels.profile,
             ahead: book.ahead().iter().map(|r| Ahead::of(r, input)).collect(),

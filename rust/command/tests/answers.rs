@@ -8,12 +8,14 @@ mod json;
 use calls::{call, Ended, Kept};
 use command::answer::{Status, Streams};
 use command::offer::{bytes, highest_for, highest_in, Pair};
+use command::query::Query;
 use command::text::unpack;
 use example::example;
 use model::cases::{run, same, Check};
 use model::make;
 use model::make::offers::Target;
 use model::random::Random;
+use model::table::OWNERS;
 use std::ffi::OsString;
 use std::time::Instant;
 
@@ -22,6 +24,8 @@ use std::time::Instant;
 fn bytes_and_text_give_the_same() {
     run("bytes and text", 300, make::dossier, |random, dossier| {
         let hour = make::hour(random, dossier).to_string();
+        let owner = random.pick(&OWNERS);
+        let named = format!("--owner={owner}");
         let given = Kept::new(dossier);
         let checked = call(&["check", given.name()]);
         same(
@@ -29,17 +33,18 @@ fn bytes_and_text_give_the_same() {
             checked.status == Status::Done,
             bench::accept(dossier).is_ok(),
         )?;
-        let levels = call(&["levels", given.name(), "--hour", &hour]);
+        let levels = call(&["levels", given.name(), &named, "--hour", &hour]);
         let mut buffer = [0; 4_096];
-        let length = model::report(dossier, hour.parse().expect("an hour"), &mut buffer);
+        let at = hour.parse().expect("an hour");
+        let length = model::report(dossier, at, owner, &mut buffer);
         let report = &buffer[..length.unwrap_or(0)];
         same("report", levels.out.as_bytes(), report)?;
         // A refusal tells lines of a text and bytes of a dossier.
         if !levels.out.is_empty() {
             let text = Kept::new(unpack(dossier).as_bytes());
             let line = |ended: &Ended| ended.out.replace(text.name(), given.name());
-            let again = call(&["levels", text.name(), "--hour", &hour, "--json"]);
-            let bytes = call(&["levels", given.name(), "--hour", &hour, "--json"]);
+            let again = call(&["levels", text.name(), &named, "--hour", &hour, "--json"]);
+            let bytes = call(&["levels", given.name(), &named, "--hour", &hour, "--json"]);
             same("JSON", line(&again), bytes.out)?;
             json::check(&again.out)?;
         }
@@ -52,7 +57,9 @@ fn bytes_and_text_give_the_same() {
 fn the_highest_prices_are_the_limits() {
     run("highest prices", 1_000, make::dossier, |random, dossier| {
         let hour = make::hour(random, dossier);
-        let Ok(levels) = bench::levels(dossier, hour) else {
+        let owner = random.pick(&OWNERS);
+        let query = Query { hour, owner };
+        let Ok(levels) = bench::levels(dossier, hour, owner) else {
             return Ok(());
         };
         let condition = make::offers::condition(random);
@@ -65,17 +72,17 @@ fn the_highest_prices_are_the_limits() {
             let pairs = [pair(lamination.from, -200_000), pair(lamination.to, price)];
             bytes(&pairs[usize::from(lamination.from == 0)..])
         };
-        let test = |price| model::energy_test(dossier, hour, condition, &offer(price));
+        let test = |price| model::energy_test(dossier, hour, owner, condition, &offer(price));
         if test(0).is_ok() {
-            let highest = highest_in(dossier, hour, condition, &lamination);
+            let highest = highest_in(dossier, query, condition, &lamination);
             turns(highest, 200_000, |price| {
                 test(price) == Ok(model::Verdict::Passes)
             })?;
         }
-        let level = make::offers::level(random, &Target::of(dossier, hour));
-        let test = |price| model::price_test(dossier, hour, level, condition, price);
+        let level = make::offers::level(random, &Target::of(dossier, hour, owner));
+        let test = |price| model::price_test(dossier, hour, owner, level, condition, price);
         if test(0).is_ok() {
-            let highest = highest_for(dossier, hour, level, condition);
+            let highest = highest_for(dossier, query, level, condition);
             turns(highest, i32::MAX, |price| {
                 test(price) == Ok(model::Verdict::Passes)
             })?;
@@ -95,7 +102,7 @@ fn turns(highest: Option<i32>, last: i32, passes: impl Fn(i32) -> bool) -> Check
 }
 
 /// Words of calls, good and bad; the first are commands.
-const WORDS: [&str; 54] = [
+const WORDS: [&str; 56] = [
     "pack",
     "unpack",
     "check",
@@ -113,6 +120,8 @@ const WORDS: [&str; 54] = [
     "--csv",
     "--all",
     "--hour",
+    "--owner",
+    "--owner=2",
     "--from",
     "--hours",
     "--at",

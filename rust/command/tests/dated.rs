@@ -12,6 +12,7 @@ use model::make;
 use model::make::dated::without_fuel;
 use model::make::written::{r1, record};
 use model::random::Random;
+use model::table::OWNERS;
 use std::collections::BTreeSet;
 
 /// The lines that record 3 of the papers' examples would have.
@@ -66,7 +67,7 @@ fn wrong_lines_are_told() {
         ),
         (
             "FW issue=3",
-            "'FW' is no mark: RS, HP, FU, FV, AD, AV, MM, MV, RQ, HR, CH, TH, FP or LC",
+            "'FW' is no mark: RS, HP, FU, FV, AD, AV, AO, MM, MV, RQ, HR, CH, TH, FP or LC",
         ),
     ] {
         let wrong = pack(line.as_bytes()).expect_err(line);
@@ -140,7 +141,7 @@ fn the_request_for_a_profile_without_fuel_is_told() {
         json.contains("\"refused\":{\"number\":20,\"place\":0,"),
         "{json}"
     );
-    assert!(json.ends_with("},\"hour\":12}\n"), "{json}");
+    assert!(json.ends_with("},\"hour\":12,\"owner\":1}\n"), "{json}");
     let csv = call(&["levels", file.name(), "--hour=12", "--csv"]).out;
     assert!(csv.contains(",refused,12,,,,,,,20,0,"), "{csv}");
 }
@@ -195,7 +196,7 @@ fn changes_in_json() {
     let day = call(&["day", file.name(), "--from=23", "--hours=3", "--json"]).out;
     json::check(&day).unwrap();
     let change = format!(
-        "\"reserve\":0.25,\"change\":{{\"levels\":[\"energy\",\"start\",\"no-load\"],\"why\":[\"{gas} (line 8)\"]}}}}"
+        "\"reserve\":0.25,\"change\":{{\"levels\":[\"energy\",\"start\",\"no-load\"],\"why\":[\"{gas} (line 8)\"]}},\"owner\":1}}"
     );
     assert!(day.contains(&change), "{day}");
     assert_eq!(day.matches("\"change\":null").count(), 2);
@@ -285,14 +286,16 @@ fn marked_hours_are_those_of_the_model() {
     run("marked hours", 300, make, |random, dossier| {
         let from = make::hour(random, dossier).min(u32::MAX - 12);
         let given = Kept::new(dossier);
-        let day = call(&["day", given.name(), &format!("--from={from}"), "--hours=12"]);
+        let owner = random.pick(&OWNERS);
+        let [first, named] = [format!("--from={from}"), format!("--owner={owner}")];
+        let day = call(&["day", given.name(), &first, "--hours=12", &named]);
         let marked = day.out.lines().filter_map(|line| {
             let hour = line.strip_prefix("* hour ")?.split(',').next()?;
             hour.parse().ok()
         });
         let marked: BTreeSet<u32> = marked.collect();
         let levels = |hour: u32| {
-            model::levels(dossier, hour).ok().map(|mut levels| {
+            model::levels(dossier, hour, owner).ok().map(|mut levels| {
                 levels.profile = 0;
                 levels
             })

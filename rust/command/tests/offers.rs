@@ -17,6 +17,8 @@ const CONDITIONS: [&str; 3] = ["narrow", "broad", "global"];
 fn line(random: &mut Random, stations: &[(Kept, Vec<u8>)]) -> (String, String) {
     let (file, dossier) = &stations[random.below(stations.len() as u64) as usize];
     let hour = make::hour(random, dossier);
+    let named = random.pick(&[None, Some(1), Some(2)]);
+    let owner = named.unwrap_or(1);
     let condition = 1 + random.below(3) as u8;
     let price = random.between(0, 20_000) as i32;
     let dollars = format!("{}.{:02}", price / 100, price % 100);
@@ -25,16 +27,17 @@ fn line(random: &mut Random, stations: &[(Kept, Vec<u8>)]) -> (String, String) {
         true => {
             let offer = format!("{}@{dollars}", random.between(1, 90));
             let pairs = bytes(&read(&offer).expect("an offer"));
-            let verdict = bench::energy_test(dossier, hour, condition, &pairs);
+            let verdict = bench::energy_test(dossier, hour, owner, condition, &pairs);
             (format!("offer={offer}"), verdict)
         }
         false => {
-            let verdict = bench::price_test(dossier, hour, 4, condition, price);
+            let verdict = bench::price_test(dossier, hour, owner, 4, condition, price);
             (format!("level=reserve price={dollars}"), verdict)
         }
     };
+    let owner = named.map_or(String::new(), |owner| format!(" owner={owner}"));
     let line = format!(
-        "{offered} station={} hour={hour} condition={name}",
+        "{offered} station={} hour={hour}{owner} condition={name}",
         file.name()
     );
     (line, told(verdict))
@@ -167,7 +170,7 @@ fn objects_and_tables_have_a_row_a_line() {
     assert_eq!(rows.len(), 4);
     assert!(rows[0].starts_with("line,file,answer,hour,condition,"));
     assert!(
-        rows[1].contains(",passes,0,narrow,energy,,,60.45 66.45,,,"),
+        rows[1].contains(",passes,0,narrow,energy,,,60.45 66.45,,,,1"),
         "{}",
         rows[1]
     );

@@ -8,6 +8,7 @@ use calls::{call, Kept};
 use command::answer::Status;
 use model::cases::{run, same, Check};
 use model::make;
+use model::table::OWNERS;
 
 /// The cells of a line without quotes.
 fn cells(line: &str) -> Vec<&str> {
@@ -47,10 +48,14 @@ fn expected(hour: u32, levels: &Levels) -> Vec<String> {
 fn rows_are_the_levels_of_the_library() {
     run("tables", 300, make::dossier, |random, dossier| {
         let from = make::hour(random, dossier).min(u32::MAX - 2);
+        let owner = random.pick(&OWNERS);
+        let named = format!("--owner={owner}");
         let file = Kept::new(dossier);
         let hours = from..=from + 2;
-        let levels: Result<Vec<Levels>, _> =
-            hours.clone().map(|h| bench::levels(dossier, h)).collect();
+        let levels: Result<Vec<Levels>, _> = hours
+            .clone()
+            .map(|h| bench::levels(dossier, h, owner))
+            .collect();
         let Ok(levels) = levels else {
             return Ok(());
         };
@@ -59,18 +64,16 @@ fn rows_are_the_levels_of_the_library() {
             .flat_map(|(h, l)| expected(h, l))
             .collect();
         let start = from.to_string();
-        let hour = ["levels", "--hour", &start, file.name()];
-        shows(&hour, 12, &expected(from, &levels[0]))?;
-        shows(
-            &["day", "--hours", "3", "--from", &start, file.name()],
-            15,
-            &day,
-        )
+        let hour = ["levels", "--hour", &start, &named, file.name()];
+        shows(&hour, (13, owner), &expected(from, &levels[0]))?;
+        let hours = ["day", "--hours", "3", "--from", &start, &named, file.name()];
+        shows(&hours, (16, owner), &day)
     });
 }
 
-/// Whether a call's table has so many columns and these rows, with nothing behind the levels.
-fn shows(words: &[&str], columns: usize, expected: &[String]) -> Check {
+/// Whether a call's table has so many columns and these rows, with nothing behind the levels but the
+/// owner.
+fn shows(words: &[&str], (columns, owner): (usize, u8), expected: &[String]) -> Check {
     let ended = call(&[words, &["--csv"]].concat());
     let mut lines = ended.out.lines();
     let head = lines.next().map(|head| cells(head).len());
@@ -79,7 +82,9 @@ fn shows(words: &[&str], columns: usize, expected: &[String]) -> Check {
     same("cells", rows.iter().all(|row| row.len() == columns), true)?;
     let shown: Vec<String> = rows.iter().map(|row| row[1..9].join(",")).collect();
     same("rows", &shown[..], expected)?;
-    let empty = |row: &Vec<&str>| row[9..].iter().all(|cell| cell.is_empty());
+    let named = |row: &Vec<&str>| row[columns - 1] == owner.to_string();
+    same("the owner is last", rows.iter().all(named), true)?;
+    let empty = |row: &Vec<&str>| row[9..columns - 1].iter().all(|cell| cell.is_empty());
     same("the rest is empty", rows.iter().all(empty), true)
 }
 
@@ -93,7 +98,7 @@ fn names_and_refusals_stand_between_quotes() {
     let name = path.to_str().expect("a path that is text");
     let ended = call(&["levels", name, "--hour", "0", "--csv"]);
     let quoted = format!("\"{}\"", name.replace('"', "\"\""));
-    let row = format!("{quoted},levels,0,1,energy,1,0.0,100.0,42.30,,,");
+    let row = format!("{quoted},levels,0,1,energy,1,0.0,100.0,42.30,,,,1");
     assert_eq!(ended.out.lines().nth(1), Some(row.as_str()));
     let ended = call(&[
         "test",
@@ -105,7 +110,7 @@ fn names_and_refusals_stand_between_quotes() {
     ]);
     assert_eq!(ended.status, Status::Refused);
     let says = "a condition that isn't 1 to 3, or no threshold for it and the level; the dossier has no TH";
-    let row = format!("{quoted},refused,0,broad,energy,,,,14,0,\"{says}\"");
+    let row = format!("{quoted},refused,0,broad,energy,,,,14,0,\"{says}\",1");
     assert_eq!(ended.out.lines().nth(1), Some(row.as_str()));
     assert!(ended.err.contains(": refused 14 at 0: "), "{}", ended.err);
     std::fs::remove_dir_all(&folder).expect("removed");

@@ -8,12 +8,14 @@ use calls::{call, Kept};
 use command::answer::Status;
 use command::input::Input;
 use command::lines::Lines;
+use command::query::Query;
 use command::terms::Explanation;
 use model::accept::accepted;
 use model::cases::{run, same, Check};
 use model::levels::{reckon, Levels, Micro};
 use model::make;
 use model::random::Random;
+use model::table::OWNERS;
 use std::sync::atomic::{AtomicU64, Ordering};
 
 fn input(dossier: &[u8]) -> Input {
@@ -26,13 +28,15 @@ fn input(dossier: &[u8]) -> Input {
 
 fn explained(random: &mut Random, dossier: &[u8]) -> Option<Explanation> {
     let hour = make::hour(random, dossier);
-    Explanation::of(&input(dossier), hour).ok()
+    let owner = random.pick(&OWNERS);
+    Explanation::of(&input(dossier), Query { hour, owner }).ok()
 }
 
 /// The sums in micro-dollars are those of the model, which is written from the papers alone.
 fn sums_are_those_of_the_model(explanation: &Explanation, dossier: &[u8]) -> Check {
     let station = accepted(dossier).map_err(|refusal| format!("{refusal:?}"))?;
-    let levels = reckon(&station, explanation.hour);
+    let Query { hour, owner } = explanation.query;
+    let levels = reckon(&station, hour, owner);
     let levels: Levels<Micro> = levels.map_err(|refusal| format!("{refusal:?}"))?;
     let model: Vec<i128> = levels.all().map(|micro| micro.0 as i128).collect();
     let sums: Vec<i128> = explanation.levels.iter().map(|level| level.sum()).collect();
@@ -76,12 +80,15 @@ fn terms_add_up_at_the_edges() {
     assert!(edges.len() > 30, "{} edges", edges.len());
     let mut explained = 0;
     for dossier in edges {
-        let Ok(explanation) = Explanation::of(&input(&dossier), 0) else {
-            continue;
-        };
-        assert_eq!(explanation.differences(), Vec::<String>::new());
-        sums_are_those_of_the_model(&explanation, &dossier).unwrap();
-        explained += 1;
+        for owner in OWNERS {
+            let query = Query { hour: 0, owner };
+            let Ok(explanation) = Explanation::of(&input(&dossier), query) else {
+                continue;
+            };
+            assert_eq!(explanation.differences(), Vec::<String>::new());
+            sums_are_those_of_the_model(&explanation, &dossier).unwrap();
+            explained += 1;
+        }
     }
     assert!(explained > 20, "{explained} explained");
 }
@@ -125,7 +132,8 @@ fn a_broken_term_is_told() {
 /// A level that is missing, one too many and another profile are told too.
 #[test]
 fn other_levels_and_profiles_are_told() {
-    let whole = || Explanation::of(&input(&make::written::r1()), 0).expect("R1");
+    let query = Query { hour: 0, owner: 1 };
+    let whole = || Explanation::of(&input(&make::written::r1()), query).expect("R1");
     assert_eq!(whole().differences().len(), 0);
     let mut fewer = whole();
     fewer.levels.pop();
@@ -193,6 +201,10 @@ fn a_refusal_has_its_hour() {
         let words = ["explain", file, "--hour=7", "--json"];
         let ended = call(&[&words, more].concat());
         assert_eq!(ended.status, Status::Refused);
-        assert!(ended.out.ends_with("},\"hour\":7}\n"), "{}", ended.out);
+        assert!(
+            ended.out.ends_with("},\"hour\":7,\"owner\":1}\n"),
+            "{}",
+            ended.out
+        );
     }
 }

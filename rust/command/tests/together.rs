@@ -65,7 +65,7 @@ fn records_are_joined_whole() {
         let hour = make::hour(random, dossier);
         let ended = together("levels", &files, &["--hour", &hour.to_string()]);
         let mut buffer = [0; 4_096];
-        match bench::report(&joined, hour, &mut buffer) {
+        match bench::report(&joined, hour, 1, &mut buffer) {
             Ok(length) => same("report", ended.out.as_bytes(), &buffer[..length]),
             Err(refusal) => {
                 let head = format!(": refused {} at {}: ", refusal.number, refusal.place);
@@ -90,7 +90,7 @@ fn the_order_of_files_says_nothing() {
         let before = together("levels", &files, &["--hour", &hour]);
         random.shuffle(&mut files);
         let after = together("levels", &files, &["--hour", &hour]);
-        let has_fuel = model::levels(&joined, hour.parse().expect("an hour")).is_ok();
+        let has_fuel = model::levels(&joined, hour.parse().expect("an hour"), 1).is_ok();
         same("levels there", after.status == Status::Done, has_fuel)?;
         same("status", after.status, before.status)?;
         same("levels", after.out, before.out)

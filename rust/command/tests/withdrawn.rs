@@ -8,12 +8,14 @@ use calls::{call, Kept};
 use command::answer::Status;
 use command::input::Input;
 use command::lines::Lines;
+use command::query::Query;
 use command::terms::Explanation;
 use command::text::unpack;
 use model::cases::{run, same};
 use model::make;
 use model::make::written::r1;
 use model::random::Random;
+use model::table::OWNERS;
 
 const PAYMENT: &str = "AD issue=1 profile=1 cost=third-party level=reserve amount=0.40";
 const AHEAD: &str = "AV issue=2 first=24 profile=1 cost=third-party level=energy amount=2.00";
@@ -35,7 +37,7 @@ fn levels_tell_how_many() {
         assert!(told(&[]).ends_with(&last), "{}", told(&[]));
         let line = format!("; reserve 0.25; retired {count}\n");
         assert!(told(&[file.name()]).contains(&line));
-        let member = format!(",\"reserve\":0.25,\"retired\":{count}}}\n");
+        let member = format!(",\"reserve\":0.25,\"retired\":{count},\"owner\":1}}\n");
         json::check(&told(&["--json"])).unwrap();
         assert!(
             told(&["--json"]).ends_with(&member),
@@ -114,7 +116,8 @@ fn explained_as_the_report_counts() {
         make::dossier,
         |random: &mut Random, dossier| {
             let hour = make::hour(random, dossier);
-            let Ok(report) = model::report::text(dossier, hour) else {
+            let owner = random.pick(&OWNERS);
+            let Ok(report) = model::report::text(dossier, hour, owner) else {
                 return Ok(());
             };
             let input = Input {
@@ -122,7 +125,8 @@ fn explained_as_the_report_counts() {
                 dossier: dossier.to_vec(),
                 lines: Lines::default(),
             };
-            let explanation = Explanation::of(&input, hour).map_err(|r| r.to_string())?;
+            let query = Query { hour, owner };
+            let explanation = Explanation::of(&input, query).map_err(|r| r.to_string())?;
             let levels = explanation.levels.iter();
             let first = levels.filter(|l| l.place.lamination.is_none_or(|(n, ..)| n == 1));
             let terms = first.flat_map(|l| &l.sides).flat_map(|s| &s.terms);

@@ -2,7 +2,7 @@
 
 use crate::dossier::Record;
 use crate::station::{Current, Station};
-use crate::table::{ad, fp, hp, hr, mm, rq, rs, th, Field, Mark, Technology};
+use crate::table::{ad, ao, fp, hp, hr, mm, rq, rs, th, Field, Mark, Technology, OWNERS};
 use crate::{refuse, Refusal};
 
 /// Accepted, or refused with number and place.
@@ -28,6 +28,16 @@ pub fn accepted(dossier: &[u8]) -> Result<Station<'_>, Refusal> {
     }
 }
 
+/// The station that a query of an hour asks about. The owner whom it names is tried before all else: 3
+/// at 0 for one that no plant has.
+pub fn asked(dossier: &[u8], owner: u8) -> Result<Station<'_>, Refusal> {
+    if OWNERS.contains(&owner) {
+        accepted(dossier)
+    } else {
+        refuse(3, 0)
+    }
+}
+
 /// 6, at the unfit record that lies first in the dossier, of those that count at some hour.
 fn all_fit(station: &Station) -> Answer {
     let unfit = |record: &Record| !fits(station, record);
@@ -48,17 +58,19 @@ fn fits(station: &Station, record: &Record) -> bool {
     let technology = station.technology;
     let thermal = technology == Technology::Thermal;
     let held = |level: Field| technology.holds(record.get(level) as u8);
+    // Nuclear holds level 1 alone, so a held level is the 1 that cost 5 wants.
+    let adds = |cost: Field, level: Field| {
+        let prorated = record.get(cost) == ad::PRORATED;
+        held(level) && (!prorated || technology == Technology::Nuclear)
+    };
     match &record.kind.of {
         b"RS" => rs_fits(technology, record),
         b"HP" => thermal,
         b"HR" | b"CH" | b"LC" => technology == Technology::Storage,
         b"FP" => technology == Technology::Hydro,
         b"FU" => technology.unpriced().iter().all(|f| record.get(*f) == 0),
-        // Nuclear holds level 1 alone, so a held level is the 1 that cost 5 wants.
-        b"AD" => {
-            let prorated = record.get(ad::COST) == ad::PRORATED;
-            held(ad::LEVEL) && (!prorated || technology == Technology::Nuclear)
-        }
+        b"AD" => adds(ad::COST, ad::LEVEL),
+        b"AO" => adds(ao::COST, ao::LEVEL),
         b"TH" => held(th::LEVEL),
         b"MM" => thermal || record.get(mm::S) == 0,
         _ => true,

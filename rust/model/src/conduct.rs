@@ -1,6 +1,6 @@
 //! "The test": whether an energy offer or a single price passes under a condition.
 
-use crate::accept::accepted;
+use crate::accept::asked;
 use crate::dossier::Record;
 use crate::levels::{levels_of, Lamination};
 use crate::station::Station;
@@ -25,15 +25,16 @@ pub struct Failing {
 pub const PAIR: usize = 6;
 pub const MOST_PAIRS: usize = 20;
 
-/// The energy test: 1 to 9, 13 and 17, then 20, 14, 10 and 11.
+/// The energy test: 3 for the owner; 13, 1 to 9 and 17; then 20, 14, 10 and 11.
 pub fn energy_test(
     dossier: &[u8],
     hour: u32,
+    owner: u8,
     condition: u8,
     offer: &[u8],
 ) -> Result<Verdict, Refusal> {
-    let station = &accepted(dossier)?;
-    let laminations = levels_of(station, hour)?.energy;
+    let station = &asked(dossier, owner)?;
+    let laminations = levels_of(station, hour, owner)?.energy;
     let threshold = Threshold::of(station, condition, ENERGY)?;
     let pairs = pairs(offer)?;
     // Quantities rise, but the place is that of the first pair above the capacity.
@@ -50,16 +51,17 @@ pub fn energy_test(
     Ok(Verdict::Passes)
 }
 
-/// The single-price test: 1 to 9, 13 and 17, then 20, 12 and 14.
+/// The single-price test: 3 for the owner; 13, 1 to 9 and 17; then 20, 12 and 14.
 pub fn price_test(
     dossier: &[u8],
     hour: u32,
+    owner: u8,
     level: u8,
     condition: u8,
     price: i32,
 ) -> Result<Verdict, Refusal> {
-    let station = &accepted(dossier)?;
-    let levels = levels_of(station, hour)?;
+    let station = &asked(dossier, owner)?;
+    let levels = levels_of(station, hour, owner)?;
     let Some((_, cents)) = levels.single().find(|(number, _)| *number == level) else {
         return refuse(12, 0);
     };

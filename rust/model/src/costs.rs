@@ -4,22 +4,45 @@ use crate::accept::{hours_of_charge, place_from_the_top, priced, rise};
 use crate::dossier::Record;
 use crate::levels::{profile_at, Lamination, Money};
 use crate::station::{Current, Station};
-use crate::table::{ad, ch, fp, fu, hp, hr, lc, mm, rs, ENERGY, NO_LOAD, START};
+use crate::table::{ad, ao, ch, fp, fu, hp, hr, lc, mm, rs, Field, ENERGY, NO_LOAD, START};
 use crate::{refuse, Refusal};
 use std::borrow::Cow;
 
-/// A station's costs in the profile of an hour.
+/// A station's costs in the profile of an hour, as an owner has them.
 pub struct Costs<'s, 'a> {
     station: &'s Station<'a>,
     in_force: Cow<'s, Current<'a>>,
     pub profile: u8,
+    owner: u8,
     fuel: u128,
     emission: u128,
 }
 
+/// What an AD or AO adds to a level.
+struct Adder {
+    cost: i128,
+    level: i128,
+    amount: u128,
+}
+
+impl Adder {
+    fn of(record: &Record, [cost, level, amount]: [Field; 3]) -> Adder {
+        Adder {
+            cost: record.get(cost),
+            level: record.get(level),
+            amount: record.amount(amount),
+        }
+    }
+
+    /// Whether it is a payment to a third party, which no level has.
+    fn is_withdrawn(&self) -> bool {
+        self.cost == ad::THIRD_PARTY
+    }
+}
+
 impl<'s, 'a> Costs<'s, 'a> {
-    /// The costs at an hour, or 20: its profile has no fuel in force.
-    pub fn at(station: &'s Station<'a>, hour: u32) -> Result<Self, Refusal> {
+    /// The costs of an owner at an hour, or 20: its profile has no fuel in force.
+    pub fn at(station: &'s Station<'a>, hour: u32, owner: u8) -> Result<Self, Refusal> {
         let profile = profile_at(station, hour);
         let in_force = station.current.in_force(hour);
         let Some(fuel) = in_force.get(b"FU", &[profile]) else {
@@ -28,30 +51,34 @@ impl<'s, 'a> Costs<'s, 'a> {
         Ok(Costs {
             station,
             profile,
+            owner,
             fuel: fuel.amount(fu::FUEL),
             emission: fuel.amount(fu::EMISSION),
             in_force,
         })
     }
 
-    /// The profile's AD records: third-party payments, which are withdrawn, or the others.
-    fn adders(&self, withdrawn: bool) -> impl Iterator<Item = &Record<'a>> {
-        let profile = i128::from(self.profile);
-        let records = self.in_force.of_mark(b"AD");
-        let mine = records.filter(move |r| r.get(ad::PROFILE) == profile);
-        mine.filter(move |r| (r.get(ad::COST) == ad::THIRD_PARTY) == withdrawn)
+    /// The profile's AD records, which both owners have, and beside them the AO records of this one.
+    fn adders(&self) -> impl Iterator<Item = Adder> + use<'_, 's, 'a> {
+        let (profile, owner) = (i128::from(self.profile), i128::from(self.owner));
+        let common = self.in_force.of_mark(b"AD");
+        let common = common.filter(move |r| r.get(ad::PROFILE) == profile);
+        let own = self.in_force.of_mark(b"AO");
+        let own = own.filter(move |r| (r.get(ao::OWNER), r.get(ao::PROFILE)) == (owner, profile));
+        let common = common.map(|r| Adder::of(r, [ad::COST, ad::LEVEL, ad::AMOUNT]));
+        common.chain(own.map(|r| Adder::of(r, [ao::COST, ao::LEVEL, ao::AMOUNT])))
     }
 
-    /// The AD amounts that join one level.
+    /// The AD and AO amounts that join one level.
     pub fn additions<M: Money>(&self, level: u8) -> M {
-        let adders = self.adders(false);
-        let mine = adders.filter(|r| r.get(ad::LEVEL) == i128::from(level));
-        total(mine.map(|r| M::quotient(r.amount(ad::AMOUNT), 1)))
+        let adders = self.adders().filter(|adder| !adder.is_withdrawn());
+        let mine = adders.filter(|adder| adder.level == i128::from(level));
+        total(mine.map(|adder| M::quotient(adder.amount, 1)))
     }
 
     /// How many third-party payments are in force, whatever their level and amount.
     pub fn retired(&self) -> usize {
-        self.adders(true).count()
+        self.adders().filter(Adder::is_withdrawn).count()
     }
 
     /// The profile's MM records, each with its own division.
@@ -62,7 +89,7 @@ impl<'s, 'a> Costs<'s, 'a> {
         total(mine.map(term))
     }
 
-    /// What AD and MM add to energy.
+    /// What AD, AO and MM add to energy.
     fn energy_additions<M: Money>(&self) -> M {
         let maintenance = self.maintenance(|r| {
             let running = r.amount(mm::W) * r.amount(mm::T);
@@ -127,7 +154,7 @@ impl<'s, 'a> Costs<'s, 'a> {
         heat.plus(&self.additions(NO_LOAD))
     }
 
-    /// The greater of the short-run cost, which AD and MM join, and the opportunity cost.
+    /// The greater of the short-run cost, which AD, AO and MM join, and the opportunity cost.
     pub fn storage_energy<M: Money>(&self) -> M {
         let efficiency = self.station.amount(rs::EFFICIENCY);
         let bought = charging_cost::<M>(self.station).plus(&M::quotient(self.fuel, 1));
@@ -136,7 +163,7 @@ impl<'s, 'a> Costs<'s, 'a> {
         short_run.max(opportunity_cost(self.station))
     }
 
-    /// The forecast's price, 0 if below 0, which AD and MM join.
+    /// The forecast's price, 0 if below 0, which AD, AO and MM join.
     pub fn hydro_energy<M: Money>(&self) -> M {
         let price = forecast_price(self.station).max(0).unsigned_abs();
         M::quotient(price * 10_000, 1).plus(&self.energy_additions())

@@ -1,7 +1,7 @@
 //! The exact level: the formulas of `costs.rs` with no division and no cent rounded, and the distance
 //! that demand 3 promises between it and the level.
 
-use crate::accept::accepted;
+use crate::accept::asked;
 use crate::levels::{reckon, Levels, Micro, Money};
 use crate::station::Station;
 use crate::whole::{Ratio, Whole};
@@ -22,12 +22,12 @@ impl Money for Ratio {
     }
 }
 
-pub fn exact_levels(dossier: &[u8], hour: u32) -> Result<Levels<Ratio>, Refusal> {
-    exact_levels_of(&accepted(dossier)?, hour)
+pub fn exact_levels(dossier: &[u8], hour: u32, owner: u8) -> Result<Levels<Ratio>, Refusal> {
+    exact_levels_of(&asked(dossier, owner)?, hour, owner)
 }
 
-pub fn exact_levels_of(station: &Station, hour: u32) -> Result<Levels<Ratio>, Refusal> {
-    reckon(station, hour)
+pub fn exact_levels_of(station: &Station, hour: u32, owner: u8) -> Result<Levels<Ratio>, Refusal> {
+    reckon(station, hour, owner)
 }
 
 /// 0.005006 dollar, in micro-dollars.

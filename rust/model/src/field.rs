@@ -53,8 +53,13 @@ impl Field {
 
     /// The field in a dated record, where it stands behind the first hour.
     pub const fn dated(self) -> Field {
+        self.behind(FIRST_HOUR)
+    }
+
+    /// The field in a record that has one field more, the first.
+    pub const fn behind(self, first: Field) -> Field {
         Field {
-            at: self.at + FIRST_HOUR.width,
+            at: self.at + first.width,
             ..self
         }
     }

@@ -4,7 +4,7 @@
 //! level takes each division to the nearest micro-dollar, the exact level (`exact.rs`) keeps its
 //! fraction.
 
-use crate::accept::accepted;
+use crate::accept::asked;
 use crate::costs::Costs;
 use crate::station::Station;
 use crate::table::{rq, Technology, ENERGY, NO_LOAD, RESERVE, START};
@@ -124,23 +124,24 @@ impl Micro {
     }
 }
 
-/// The levels of a dossier at an hour, in cents.
-pub fn levels(dossier: &[u8], hour: u32) -> Result<Levels<u64>, Refusal> {
-    levels_of(&accepted(dossier)?, hour)
+/// The levels of a dossier at an hour and for an owner, in cents.
+pub fn levels(dossier: &[u8], hour: u32, owner: u8) -> Result<Levels<u64>, Refusal> {
+    levels_of(&asked(dossier, owner)?, hour, owner)
 }
 
-pub fn levels_of(station: &Station, hour: u32) -> Result<Levels<u64>, Refusal> {
-    Ok(reckon(station, hour)?.map(Micro::cents))
+pub fn levels_of(station: &Station, hour: u32, owner: u8) -> Result<Levels<u64>, Refusal> {
+    Ok(reckon(station, hour, owner)?.map(Micro::cents))
 }
 
-/// How many third-party payments are in force at an hour in its profile: no level has them.
-pub fn retired(station: &Station, hour: u32) -> Result<usize, Refusal> {
-    Costs::at(station, hour).map(|costs| costs.retired())
+/// How many third-party payments are in force at an hour in its profile, common ones and the owner's:
+/// no level has them.
+pub fn retired(station: &Station, hour: u32, owner: u8) -> Result<usize, Refusal> {
+    Costs::at(station, hour, owner).map(|costs| costs.retired())
 }
 
 /// The levels of an accepted dossier, each a finished sum, or 20.
-pub fn reckon<M: Money>(station: &Station, hour: u32) -> Result<Levels<M>, Refusal> {
-    let costs = Costs::at(station, hour)?;
+pub fn reckon<M: Money>(station: &Station, hour: u32, owner: u8) -> Result<Levels<M>, Refusal> {
+    let costs = Costs::at(station, hour, owner)?;
     let held = |level| station.technology.holds(level);
     Ok(Levels {
         profile: costs.profile,

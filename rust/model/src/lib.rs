@@ -1,4 +1,4 @@
-//! Document 01 with requests 1 to 3, 6, 8 and 10 of document 02 in plain Rust: a dossier's
+//! Document 01 with requests 1 to 3, 6, 8, 10 and 12 of document 02 in plain Rust: a dossier's
 //! acceptance, its levels, the conduct test, the report and the charging week.
 //!
 //! Bench is run against this crate. It is written to be read beside the papers, goes over a dossier
@@ -28,7 +28,7 @@ pub use accept::{accept, Answer};
 pub use conduct::{energy_test, price_test, Failing, Verdict};
 pub use exact::exact_levels;
 pub use levels::levels;
-pub use report::{program, report};
+pub use report::{program, report, OWNER};
 pub use station::{current, current_start};
 pub use week::{week, week_into, Week};
 

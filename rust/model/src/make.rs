@@ -1,8 +1,8 @@
-//! A seeded maker of test dossiers, hours, offers and prices.
+//! A seeded maker of test dossiers, hours, owners, offers and prices.
 //!
 //! Sound dossiers (`sound`) are accepted; damaged ones (`damage`) draw the number they aim at; some
-//! are written out (`written`, `forecast`, `idle`, `nearest`, `dated`, `withdrawn`) or made to a
-//! length (`sized`). The offers and prices (`offers`) crowd around the floors and limits of the
+//! are written out (`written`, `forecast`, `idle`, `nearest`, `dated`, `withdrawn`, `owners`) or made
+//! to a length (`sized`). The offers and prices (`offers`) crowd around the floors and limits of the
 //! dossier they are put to.
 
 pub mod damage;
@@ -12,6 +12,7 @@ pub mod idle;
 mod incomplete;
 pub mod nearest;
 pub mod offers;
+pub mod owners;
 pub mod sized;
 pub mod small;
 pub mod sound;
@@ -22,7 +23,7 @@ pub mod written;
 
 use crate::random::Random;
 use crate::table::{as_in, dated_kind_of, kind_of, rq, rs};
-use crate::table::{Field, Kind, Mark, Technology, FIRST_HOUR, HEAD};
+use crate::table::{Field, Kind, Mark, Technology, FIRST_HOUR, HEAD, OWNERS};
 
 /// A dossier in the making: its records in the order they lie.
 #[derive(Clone, Debug)]
@@ -161,8 +162,8 @@ fn reconcile(record: &mut [u8]) {
     }
 }
 
-/// Written dossiers at the edges of forecasts, of idle weeks, of divisions, of first hours and of
-/// payments that are withdrawn.
+/// Written dossiers at the edges of forecasts, of idle weeks, of divisions, of first hours, of
+/// payments that are withdrawn and of what one owner adds.
 pub fn edges() -> Vec<Vec<u8>> {
     [
         forecast::edges(),
@@ -170,6 +171,7 @@ pub fn edges() -> Vec<Vec<u8>> {
         nearest::edges(),
         dated::edges(),
         withdrawn::edges(),
+        owners::edges(),
     ]
     .concat()
 }
@@ -193,7 +195,7 @@ pub fn noise(random: &mut Random) -> Vec<u8> {
         1 => {
             for _ in 0..random.below(8) {
                 let marks = [
-                    b"RS", b"FU", b"RQ", b"TH", b"FP", b"LC", b"FV", b"AV", b"MV",
+                    b"RS", b"FU", b"RQ", b"TH", b"FP", b"LC", b"FV", b"AV", b"MV", b"AO",
                 ];
                 let mark = random.pick(&marks);
                 let mut record = any_record(random, kind_of(mark).expect("a known mark"));
@@ -237,4 +239,13 @@ pub fn hour(random: &mut Random, dossier: &[u8]) -> u32 {
         hour = random.spread(ends[0], ends[1]);
     }
     hour as u32
+}
+
+/// An owner for a query: 1 or 2 and, now and then, one that no plant has.
+pub fn owner(random: &mut Random) -> u8 {
+    if random.one_in(12) {
+        random.pick(&[0, 3, 255])
+    } else {
+        random.pick(&OWNERS)
+    }
 }

@@ -1,14 +1,14 @@
 //! "Report": the lines, the lent buffer, and what the program `levels` prints.
 
-use crate::accept::accepted;
+use crate::accept::asked;
 use crate::levels::{levels_of, retired, Levels};
 use crate::{refuse, Refusal};
 
 /// The report's bytes, every line ended by byte 10.
-pub fn text(dossier: &[u8], hour: u32) -> Result<Vec<u8>, Refusal> {
-    let station = accepted(dossier)?;
-    let lines = level_lines(&levels_of(&station, hour)?);
-    let retired = retired(&station, hour)?;
+pub fn text(dossier: &[u8], hour: u32, owner: u8) -> Result<Vec<u8>, Refusal> {
+    let station = asked(dossier, owner)?;
+    let lines = level_lines(&levels_of(&station, hour, owner)?);
+    let retired = retired(&station, hour, owner)?;
     Ok(format!("{lines}retired {retired}\n").into_bytes())
 }
 
@@ -37,8 +37,8 @@ fn dollars(cents: u64) -> String {
 
 /// Writes the report to the buffer's first bytes and gives its length. A refused call, 15 for a
 /// short buffer among them, leaves every byte.
-pub fn report(dossier: &[u8], hour: u32, buffer: &mut [u8]) -> Result<usize, Refusal> {
-    let text = text(dossier, hour)?;
+pub fn report(dossier: &[u8], hour: u32, owner: u8, buffer: &mut [u8]) -> Result<usize, Refusal> {
+    let text = text(dossier, hour, owner)?;
     match buffer.get_mut(..text.len()) {
         Some(head) => head.copy_from_slice(&text),
         None => return refuse(15, 0),
@@ -51,6 +51,9 @@ pub fn refusal_line(refusal: Refusal) -> Vec<u8> {
     format!("refused {} at {}\n", refusal.number, refusal.place).into_bytes()
 }
 
+/// The owner whom the program `levels` names.
+pub const OWNER: u8 = 1;
+
 /// What the program `levels` prints for any standard input: an hour, then the dossier.
 pub fn program(input: &[u8]) -> Vec<u8> {
     let Some((hour, dossier)) = input.split_first_chunk() else {
@@ -60,5 +63,5 @@ pub fn program(input: &[u8]) -> Vec<u8> {
         });
     };
     let hour = u32::from_be_bytes(*hour);
-    text(dossier, hour).unwrap_or_else(refusal_line)
+    text(dossier, hour, OWNER).unwrap_or_else(refusal_line)
 }

@@ -1,4 +1,4 @@
-//! "A constant table holds each mark's whole length and key bounds": the fourteen marks, their
+//! "A constant table holds each mark's whole length and key bounds": the fifteen marks, their
 //! fields with their ranges, and what each technology holds and uses.
 
 pub use crate::field::{Field, Role, FIRST_HOUR, HEAD};
@@ -10,6 +10,9 @@ const ANY: i128 = 4_294_967_295;
 
 /// Prices, in cents per MWh.
 pub const PRICE: i128 = 200_000;
+
+/// The owners of a plant, of whom a query names one.
+pub const OWNERS: [u8; 2] = [1, 2];
 
 pub mod rs {
     use super::Field;
@@ -50,6 +53,16 @@ pub mod ad {
     pub const THIRD_PARTY: i128 = 4;
     /// The prorated start-up cost.
     pub const PRORATED: i128 = 5;
+}
+
+/// "AD with an owner byte, 1 or 2, first in its key".
+pub mod ao {
+    use super::{ad, Field, OWNERS};
+    pub const OWNER: Field = Field::first(1, OWNERS[0] as i128, OWNERS[1] as i128).key();
+    pub const PROFILE: Field = ad::PROFILE.behind(OWNER);
+    pub const COST: Field = ad::COST.behind(OWNER);
+    pub const LEVEL: Field = ad::LEVEL.behind(OWNER);
+    pub const AMOUNT: Field = ad::AMOUNT.behind(OWNER);
 }
 
 pub mod mm {
@@ -201,7 +214,7 @@ const MM: Kind = kind(
     &[mm::PROFILE, mm::ITEM, mm::C, mm::W, mm::T, mm::S],
 );
 
-pub static TABLE: [Kind; 14] = [
+pub static TABLE: [Kind; 15] = [
     kind(
         b"RS",
         31,
@@ -221,6 +234,12 @@ pub static TABLE: [Kind; 14] = [
     kind(b"HP", 13, 1, &[hp::POINT, hp::OUTPUT, hp::HEAT]),
     FU,
     AD,
+    kind(
+        b"AO",
+        18,
+        4,
+        &[ao::OWNER, ao::PROFILE, ao::COST, ao::LEVEL, ao::AMOUNT],
+    ),
     MM,
     kind(
         b"RQ",
@@ -264,7 +283,7 @@ pub fn as_in<'f>(record: &[u8], field: &'f Field) -> &'f Field {
     }
 }
 
-#[derive(Clone, Copy, Debug, PartialEq, Eq)]
+#[derive(Clone, Copy, Debug, PartialEq, Eq, PartialOrd, Ord)]
 pub enum Technology {
     Thermal,
     Nuclear,
@@ -346,6 +365,19 @@ mod tests {
             }
             assert_eq!(at, kind.length, "{:?}", kind.mark);
         }
+    }
+
+    /// No record of an owner has a first hour.
+    #[test]
+    fn a_record_of_an_owner_is_another_with_an_owner() {
+        let [common, own] = [b"AD", b"AO"].map(|mark| kind_of(mark).unwrap());
+        let fields: Vec<Field> = common.fields.iter().map(|f| f.behind(ao::OWNER)).collect();
+        assert_eq!(own.fields[1..], fields);
+        assert_eq!(own.length, common.length + 1);
+        assert_eq!(own.key_width, common.key_width + 1);
+        let allowed: Vec<i128> = (0..=255).filter(|n| ao::OWNER.allows(*n)).collect();
+        assert_eq!(allowed, [1, 2]);
+        assert!(dated_kind_of(b"AO").is_none());
     }
 
     #[test]

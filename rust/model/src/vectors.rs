@@ -20,6 +20,7 @@ pub enum Vector {
     Energy {
         dossier: Vec<u8>,
         hour: u32,
+        owner: u8,
         condition: u8,
         offer: Vec<u8>,
         verdict: Result<Verdict, Refusal>,
@@ -27,6 +28,7 @@ pub enum Vector {
     Price {
         dossier: Vec<u8>,
         hour: u32,
+        owner: u8,
         level: u8,
         condition: u8,
         price: i32,
@@ -43,31 +45,36 @@ impl Vector {
     /// case of another kind.
     pub fn judged<V>(
         &self,
-        energy: impl Fn(&[u8], u32, u8, &[u8]) -> V,
-        single: impl Fn(&[u8], u32, u8, u8, i32) -> V,
+        energy: impl Fn(&[u8], u32, u8, u8, &[u8]) -> V,
+        single: impl Fn(&[u8], u32, u8, u8, u8, i32) -> V,
     ) -> Option<(V, &Result<Verdict, Refusal>)> {
         match self {
             Vector::Energy {
                 dossier,
                 hour,
+                owner,
                 condition,
                 offer,
                 verdict,
-            } => Some((energy(dossier, *hour, *condition, offer), verdict)),
+            } => Some((energy(dossier, *hour, *owner, *condition, offer), verdict)),
             Vector::Price {
                 dossier,
                 hour,
+                owner,
                 level,
                 condition,
                 price,
                 verdict,
-            } => Some((single(dossier, *hour, *level, *condition, *price), verdict)),
+            } => Some((
+                single(dossier, *hour, *owner, *level, *condition, *price),
+                verdict,
+            )),
             _ => None,
         }
     }
 
-    /// The weeks were asked for before request 8: where one is refused for a mark that is known since,
-    /// it has another answer now.
+    /// The weeks were asked for before requests 8 and 12: where one is refused for a mark that is known
+    /// since, it has another answer now.
     fn is_overtaken(&self) -> bool {
         match self {
             Vector::Week {
@@ -88,7 +95,7 @@ pub fn read() -> Vec<Vector> {
         let path = format!("{folder}/{name}");
         std::fs::read_to_string(&path).expect(&path)
     };
-    let texts = ["request-10.txt", "week.txt"].map(text);
+    let texts = ["request-12.txt", "week.txt"].map(text);
     let vectors = texts.iter().flat_map(|t| t.lines()).map(vector);
     vectors.filter(|vector| !vector.is_overtaken()).collect()
 }
@@ -106,16 +113,18 @@ fn vector(line: &str) -> Vector {
             key: bytes(key),
             part: (start != "-").then(|| (number(start), bytes(record))),
         },
-        ["energy", dossier, hour, condition, offer, answer] => Vector::Energy {
+        ["energy", dossier, hour, owner, condition, offer, answer] => Vector::Energy {
             dossier: bytes(dossier),
             hour: number(hour),
+            owner: number(owner),
             condition: number(condition),
             offer: bytes(offer),
             verdict: verdict(answer),
         },
-        ["price", dossier, hour, level, condition, price, answer] => Vector::Price {
+        ["price", dossier, hour, owner, level, condition, price, answer] => Vector::Price {
             dossier: bytes(dossier),
             hour: number(hour),
+            owner: number(owner),
             level: number(level),
             condition: number(condition),
             price: number(price),

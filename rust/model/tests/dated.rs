@@ -18,12 +18,12 @@ use model::make::{hour, with_first_hour};
 use model::raise::is_raise;
 use model::random::Random;
 use model::table::FIRST_HOUR;
-use model::{accept, current, current_start, levels, program, refuse, report, week};
+use model::{accept, current, current_start, levels, program, refuse, report, week, OWNER};
 use std::collections::{BTreeMap, BTreeSet};
 
 /// The first energy level at an hour, in cents.
 fn energy(dossier: &[u8], hour: u32) -> u64 {
-    levels(dossier, hour).unwrap().energy[0].level
+    levels(dossier, hour, OWNER).unwrap().energy[0].level
 }
 
 /// A thermal station of 8 GJ per MWh whose energy level is 8 times its fuel price in force.
@@ -83,9 +83,9 @@ fn adders_and_items_from_an_hour_on() {
     let energies = at_hours(&dossier, &[0, 23, 24, 25, 26]);
     // 2.50 joins at 24, and the item goes from 0.80 to 1.60 at 26
     assert_eq!(energies, [4_230, 4_230, 4_480, 4_480, 4_560]);
-    let reserves = [24, 25].map(|hour| levels(&dossier, hour).unwrap().reserve);
+    let reserves = [24, 25].map(|hour| levels(&dossier, hour, OWNER).unwrap().reserve);
     assert_eq!(reserves, [Some(25), Some(75)]);
-    assert_eq!(levels(&dossier, 23), levels(&r1(), 23));
+    assert_eq!(levels(&dossier, 23, OWNER), levels(&r1(), 23, OWNER));
 }
 
 #[test]
@@ -213,13 +213,13 @@ fn an_hour_without_fuel_is_20() {
         let late = with(without_fuel(&station), &[fuel_from(1, 24, price)]);
         let twenty = || refuse(20, 0);
         assert_eq!((accept(&late), week(&late).is_ok()), (Ok(()), true));
-        assert_eq!(levels(&late, 23), refuse(20, 0));
-        assert_eq!(report(&late, 23, &mut []), refuse(20, 0));
-        assert_eq!(report(&late, 24, &mut []), refuse(15, 0));
-        assert_eq!(energy_test(&late, 23, 9, &[1]), twenty());
-        assert_eq!(energy_test(&late, 24, 9, &[1]), refuse(14, 0));
-        assert_eq!(price_test(&late, 23, 9, 9, 0), twenty());
-        assert_eq!(price_test(&late, 24, 9, 9, 0), refuse(12, 0));
+        assert_eq!(levels(&late, 23, OWNER), refuse(20, 0));
+        assert_eq!(report(&late, 23, OWNER, &mut []), refuse(20, 0));
+        assert_eq!(report(&late, 24, OWNER, &mut []), refuse(15, 0));
+        assert_eq!(energy_test(&late, 23, OWNER, 9, &[1]), twenty());
+        assert_eq!(energy_test(&late, 24, OWNER, 9, &[1]), refuse(14, 0));
+        assert_eq!(price_test(&late, 23, OWNER, 9, 9, 0), twenty());
+        assert_eq!(price_test(&late, 24, OWNER, 9, 9, 0), refuse(12, 0));
         let input = |hour: u32| [&hour.to_be_bytes()[..], &late].concat();
         assert_eq!(program(&input(23)), b"refused 20 at 0\n");
         assert!(program(&input(24)).starts_with(b"profile 1\n"));
@@ -235,14 +235,14 @@ fn the_hours_profile_needs_fuel() {
     ];
     let dossier = with(plain_thermal(), &records);
     for hour in [0, 9, 15, 19, 20, LAST] {
-        assert!(levels(&dossier, hour).is_ok(), "{hour}");
+        assert!(levels(&dossier, hour, OWNER).is_ok(), "{hour}");
     }
     for hour in 10..15 {
-        assert_eq!(levels(&dossier, hour), refuse(20, 0), "{hour}");
+        assert_eq!(levels(&dossier, hour, OWNER), refuse(20, 0), "{hour}");
     }
     // 17 comes before it
     let short = with(without_fuel(&hydro(&[0; 49])), &[fuel_from(1, LAST, 0)]);
-    assert_eq!(levels(&short, 0), refuse(17, short.len()));
+    assert_eq!(levels(&short, 0, OWNER), refuse(17, short.len()));
 }
 
 #[test]
@@ -322,11 +322,11 @@ fn before_its_first_hour_it_changes_nothing() {
         }
         let any = random.between(0, i128::from(left_out.first_hour()) - 1) as u32;
         for hour in [0, any, left_out.first_hour() - 1] {
-            assert_eq!(levels(&dossier, hour), levels(&without, hour));
+            assert_eq!(levels(&dossier, hour, OWNER), levels(&without, hour, OWNER));
             same += 1;
         }
         let hour = left_out.first_hour();
-        other += usize::from(levels(&dossier, hour) != levels(&without, hour));
+        other += usize::from(levels(&dossier, hour, OWNER) != levels(&without, hour, OWNER));
     }
     assert!(same > 3_000 && other > 300, "{same}, {other}");
 }
@@ -348,9 +348,9 @@ fn from_hour_0_on_is_undated() {
         }
         let hour = hour(&mut random, &dossier);
         assert_eq!(accept(&moved), Ok(()));
-        assert_eq!(levels(&moved, hour), levels(&dossier, hour));
+        assert_eq!(levels(&moved, hour, OWNER), levels(&dossier, hour, OWNER));
         let offer = offers::bytes(&[(1, 4_000)]);
-        let test = |dossier: &[u8]| energy_test(dossier, hour, 1, &offer);
+        let test = |dossier: &[u8]| energy_test(dossier, hour, OWNER, 1, &offer);
         assert_eq!(test(&moved), test(&dossier));
     }
 }
@@ -362,7 +362,7 @@ fn sorts(dossier: &[u8], hour: u32) -> Vec<(&'static str, bool)> {
     let dated = station.current.dated;
     let counting = station.current.at_some_hour();
     let current: BTreeSet<usize> = station.current.all().map(|r| r.start).collect();
-    let answer = levels_of(&station, hour);
+    let answer = levels_of(&station, hour, OWNER);
     let count = |list: &[Record]| list.iter().filter(|r| r.kind.is_dated()).count();
     let older = |r: &&Record| !current.contains(&r.start);
     let undated = |r: &Record| !r.kind.is_dated();
@@ -405,7 +405,7 @@ fn written_edges() {
     let mut seen: BTreeMap<u8, usize> = BTreeMap::new();
     for dossier in edges() {
         for hour in [0, 23, 24, 25, LAST] {
-            let number = levels(&dossier, hour).err().map_or(0, |r| r.number);
+            let number = levels(&dossier, hour, OWNER).err().map_or(0, |r| r.number);
             *seen.entry(number).or_default() += 1;
         }
     }

@@ -6,7 +6,7 @@ use model::make::written::{evenly_rising, r1, record};
 use model::make::{offers, sound};
 use model::random::Random;
 use model::table::Technology;
-use model::{accept, current, energy_test, levels, program, refuse, report, Verdict};
+use model::{accept, current, energy_test, levels, program, refuse, report, Verdict, OWNER};
 
 #[test]
 fn sixty_thousand_bytes() {
@@ -24,7 +24,10 @@ fn sixty_thousand_bytes() {
 #[test]
 fn twenty_one_points() {
     assert_eq!(
-        levels(&evenly_rising(21, 1_000), 0).unwrap().energy.len(),
+        levels(&evenly_rising(21, 1_000), 0, OWNER)
+            .unwrap()
+            .energy
+            .len(),
         20
     );
     let dossier = evenly_rising(22, 1_000);
@@ -38,7 +41,7 @@ fn twenty_pairs() {
         let pairs: Vec<_> = (1..=count).map(|n| (n, 6_345)).collect();
         offers::bytes(&pairs)
     };
-    let test = |offer: &[u8]| energy_test(&dossier, 0, 1, offer);
+    let test = |offer: &[u8]| energy_test(&dossier, 0, OWNER, 1, offer);
     let malformed = |place| refuse(10, place);
     assert_eq!(test(&offer(20)), Ok(Verdict::Passes));
     assert_eq!(test(&offer(21)), malformed(126));
@@ -66,10 +69,10 @@ fn the_program_wants_an_hour() {
 #[test]
 fn a_short_buffer_keeps_its_bytes() {
     let mut buffer = [7; 200];
-    let length = report(&r1(), 0, &mut buffer).unwrap();
+    let length = report(&r1(), 0, OWNER, &mut buffer).unwrap();
     for short in 0..length {
         let mut buffer = vec![7; short];
-        assert_eq!(report(&r1(), 0, &mut buffer), refuse(15, 0));
+        assert_eq!(report(&r1(), 0, OWNER, &mut buffer), refuse(15, 0));
         assert!(buffer.iter().all(|b| *b == 7));
     }
 }
@@ -87,18 +90,24 @@ fn the_largest_levels() {
     let ten_to_12 = 1_000_000_000_000;
     for (cost, level) in (1..=4).flat_map(|c| (1..=4).map(move |l| (c, l))) {
         records.push(record(b"AD", 1, &[1, cost, level, ten_to_12]));
+        let owner = OWNER.into();
+        records.push(record(b"AO", 1, &[owner, 1, cost, level, ten_to_12]));
     }
     let ten_to_11 = 100_000_000_000;
     records.extend((1..=8).map(|i| record(b"MM", 1, &[1, i, ten_to_11, 1, 1, 10_000])));
     let dossier = records.concat();
-    let levels = levels(&dossier, 0).unwrap();
-    // 1.6×10^14 fuel + 8×10^13 emission + 8×10^16 MM + 3×10^12 AD, in micro-dollars; cost 4 joins none
-    assert_eq!(levels.energy[0].level, 8_024_300_000_000);
-    // 1.6×10^13 + 8×10^12 + 8×10^18 + 3×10^12
-    assert_eq!(levels.start, Some(800_002_700_000_000));
-    assert_eq!(levels.no_load, Some(2_700_000_000));
-    assert_eq!(levels.reserve, Some(300_000_000));
-    assert!(all_near(&levels, &exact_levels(&dossier, 0).unwrap()));
+    let levels = levels(&dossier, 0, OWNER).unwrap();
+    // 1.6×10^14 fuel + 8×10^13 emission + 8×10^16 MM + 6×10^12 AD and AO, in micro-dollars; cost 4 joins
+    // none
+    assert_eq!(levels.energy[0].level, 8_024_600_000_000);
+    // 1.6×10^13 + 8×10^12 + 8×10^18 + 6×10^12
+    assert_eq!(levels.start, Some(800_003_000_000_000));
+    assert_eq!(levels.no_load, Some(3_000_000_000));
+    assert_eq!(levels.reserve, Some(600_000_000));
+    assert!(all_near(
+        &levels,
+        &exact_levels(&dossier, 0, OWNER).unwrap()
+    ));
 }
 
 /// Sound dossiers of a full week come up, and are accepted.

@@ -13,7 +13,9 @@ use model::make::written::{hydro, plain_thermal, record};
 use model::raise::is_raise;
 use model::random::Random;
 use model::table::{rs, Technology};
-use model::{accept, current, energy_test, price_test, program, refuse, report, Failing, Verdict};
+use model::{
+    accept, current, energy_test, price_test, program, refuse, report, Failing, Verdict, OWNER,
+};
 use std::collections::BTreeSet;
 
 /// Prices 1 to `count` cents in any order.
@@ -187,9 +189,9 @@ fn seventeen_comes_after_8_and_before_12() {
     let twin = record(b"FP", 1, &[49, 0]);
     assert_eq!(drawn(&with(short.clone(), &[twin])), 4);
     let seventeen = short.len();
-    assert_eq!(price_test(&short, 0, 9, 9, 0), refuse(17, seventeen));
-    assert_eq!(energy_test(&short, 0, 9, &[]), refuse(17, seventeen));
-    assert_eq!(report(&short, 0, &mut []), refuse(17, seventeen));
+    assert_eq!(price_test(&short, 0, OWNER, 9, 9, 0), refuse(17, seventeen));
+    assert_eq!(energy_test(&short, 0, OWNER, 9, &[]), refuse(17, seventeen));
+    assert_eq!(report(&short, 0, OWNER, &mut []), refuse(17, seventeen));
     let line = format!("refused 17 at {}\n", short.len());
     assert_eq!(program(&with(vec![0; 4], &[short])), line.as_bytes());
 }
@@ -269,13 +271,13 @@ fn levels_1_and_4_are_held() {
     let thresholds = [1, 4].map(|level| record(b"TH", 1, &[1, level, 0, 0, 0]));
     let dossier = with(plain(), &thresholds);
     for level in [0, 1, 2, 3, 5] {
-        assert_eq!(price_test(&dossier, 0, level, 1, 0), refuse(12, 0));
+        assert_eq!(price_test(&dossier, 0, OWNER, level, 1, 0), refuse(12, 0));
     }
-    assert_eq!(price_test(&dossier, 0, 4, 1, 0), Ok(Verdict::Passes));
-    assert_eq!(price_test(&dossier, 0, 4, 2, 0), refuse(14, 0));
+    assert_eq!(price_test(&dossier, 0, OWNER, 4, 1, 0), Ok(Verdict::Passes));
+    assert_eq!(price_test(&dossier, 0, OWNER, 4, 2, 0), refuse(14, 0));
     let offer = |quantity: u16, price: i32| {
         let offer = model::make::offers::bytes(&[(quantity, price)]);
-        energy_test(&dossier, 0, 1, &offer)
+        energy_test(&dossier, 0, OWNER, 1, &offer)
     };
     let fails = Verdict::Fails(Failing {
         pair: 1,

@@ -14,7 +14,7 @@ use model::memo::{is_idle, level_at, made_weeks, told, written_weeks, Week};
 use model::raise::is_raise;
 use model::random::Random;
 use model::table::{ch, lc, Technology};
-use model::{accept, current, current_start, refuse};
+use model::{accept, current, current_start, refuse, OWNER};
 use std::collections::BTreeMap;
 
 /// The levels that the memo gives weeks in turn are the model's. Gives the costs.
@@ -68,7 +68,7 @@ fn charged_energy_leaves_it_out() {
 
 /// A battery's sum in micro-dollars, before the rounding to cents.
 fn sum(dossier: &[u8]) -> u128 {
-    let sums: Levels<Micro> = reckon(&accepted(dossier).unwrap(), 0).unwrap();
+    let sums: Levels<Micro> = reckon(&accepted(dossier).unwrap(), 0, OWNER).unwrap();
     sums.energy[0].level.0
 }
 

@@ -7,11 +7,11 @@ use model::exact::{all_near, exact_levels_of};
 use model::levels::{levels_of, reckon, Levels, Micro};
 use model::make::damage::{damaged_by, DAMAGES};
 use model::make::offers::{condition, level, offer, price, Target};
-use model::make::{dossier, hour, sized, sound};
+use model::make::{dossier, hour, owner, sized, sound};
 use model::raise::{is_raise, none_lower, raised};
 use model::random::Random;
-use model::table::{Field, Mark, Role, TECHNOLOGIES};
-use model::{accept, energy_test, price_test, program, refuse, report, Refusal, Verdict};
+use model::table::{Field, Mark, Role, OWNERS, TECHNOLOGIES};
+use model::{accept, energy_test, price_test, program, refuse, report, Refusal, Verdict, OWNER};
 use std::collections::BTreeSet;
 
 #[test]
@@ -31,13 +31,13 @@ fn sound_dossiers_are_accepted() {
 fn sized_dossiers_are_accepted() {
     for technology in TECHNOLOGIES {
         let lengths = [1_000, 1_999, 4_444, 32_000, 60_000];
-        let makers = [sized::sized, sized::sized_dated];
+        let makers = [sized::sized, sized::sized_dated, sized::sized_owned];
         for (length, make) in lengths.iter().flat_map(|l| makers.map(|m| (*l, m))) {
             let dossier = make(technology, length);
             assert!((length - 31..=length).contains(&dossier.len()));
             let station = accepted(&dossier).unwrap();
             assert_eq!(station.technology, technology);
-            let levels = levels_of(&station, 0).unwrap();
+            let levels = levels_of(&station, 0, OWNER).unwrap();
             assert!(levels.all().all(|level| *level > 0));
         }
     }
@@ -57,7 +57,7 @@ fn sums_meet_the_half_cent() {
     let mut random = Random::new(6);
     let met = (0..1_000).filter(|_| {
         let dossier = sound::at_half_cent(&mut random);
-        let sums: Levels<Micro> = reckon(&accepted(&dossier).unwrap(), 0).unwrap();
+        let sums: Levels<Micro> = reckon(&accepted(&dossier).unwrap(), 0, OWNER).unwrap();
         let near = |sum: &Micro| [4_999, 5_000].contains(&(sum.0 % 10_000));
         let met = sums.all().any(near);
         met
@@ -90,20 +90,30 @@ fn every_number_occurs() {
     for _ in 0..20_000 {
         let dossier = dossier(&mut random);
         let hour = hour(&mut random, &dossier);
-        let target = Target::of(&dossier, hour);
+        let owner = owner(&mut random);
+        let target = Target::of(&dossier, hour, owner);
         let condition = condition(&mut random);
         let level = level(&mut random, &target);
         let offer = offer(&mut random, &target, condition);
-        note(energy_test(&dossier, hour, condition, &offer));
+        note(energy_test(&dossier, hour, owner, condition, &offer));
         let price = price(&mut random, &target, level, condition);
-        note(price_test(&dossier, hour, level, condition, price));
-        if let Err(refusal) = report(&dossier, hour, &mut [0; 20]) {
+        note(price_test(&dossier, hour, owner, level, condition, price));
+        if let Err(refusal) = report(&dossier, hour, owner, &mut [0; 20]) {
             note(Err(refusal));
         }
     }
     assert_eq!(program(&[0; 3]), b"refused 16 at 0\n");
     let expected: BTreeSet<u8> = (1..=15).chain([17, 20, 100, 200]).collect();
     assert_eq!(numbers, expected);
+}
+
+/// The levels of an accepted dossier, all near the exact ones.
+fn near_levels(dossier: &[u8], hour: u32, owner: u8) -> Result<Levels<u64>, Refusal> {
+    let station = accepted(dossier).unwrap();
+    let levels = levels_of(&station, hour, owner)?;
+    let exact = exact_levels_of(&station, hour, owner)?;
+    assert!(all_near(&levels, &exact));
+    Ok(levels)
 }
 
 #[test]
@@ -115,28 +125,23 @@ fn demand_3_holds() {
         let after = raised(&mut random, &before);
         assert!(is_raise(&before, &after) && is_raise(&before, &before));
         let hour = hour(&mut random, &before);
-        let low = accepted(&before).unwrap();
-        let high = accepted(&after).unwrap();
-        let (lows, highs) = match (levels_of(&low, hour), levels_of(&high, hour)) {
-            (Ok(lows), Ok(highs)) => (lows, highs),
-            neither => {
-                assert_eq!(neither, (refuse(20, 0), refuse(20, 0)));
-                without_fuel += 1;
-                continue;
-            }
+        let owner = random.pick(&OWNERS);
+        let levels = [&before, &after].map(|dossier| near_levels(dossier, hour, owner));
+        let [Ok(lows), Ok(highs)] = levels else {
+            assert_eq!(levels, [refuse(20, 0), refuse(20, 0)]);
+            without_fuel += 1;
+            continue;
         };
         assert!(none_lower(&lows, &highs));
-        assert!(all_near(&lows, &exact_levels_of(&low, hour).unwrap()));
-        assert!(all_near(&highs, &exact_levels_of(&high, hour).unwrap()));
         risen += usize::from(lows != highs);
-        let target = Target::of(&before, hour);
+        let target = Target::of(&before, hour, owner);
         let condition = condition(&mut random);
         let level = level(&mut random, &target);
         let offer = offer(&mut random, &target, condition);
         let price = price(&mut random, &target, level, condition);
         let passes = Ok(Verdict::Passes);
-        let energy = |d: &[u8]| energy_test(d, hour, condition, &offer) == passes;
-        let single = |d: &[u8]| price_test(d, hour, level, condition, price) == passes;
+        let energy = |d: &[u8]| energy_test(d, hour, owner, condition, &offer) == passes;
+        let single = |d: &[u8]| price_test(d, hour, owner, level, condition, price) == passes;
         assert!(!energy(&before) || energy(&after));
         assert!(!single(&before) || single(&after));
     }

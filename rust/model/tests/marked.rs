@@ -9,7 +9,7 @@ use model::levels::Micro;
 use model::make::offers;
 use model::make::written::{nuclear_at, plain_thermal, r1, record, storage, R1_LINES};
 use model::memo::examples;
-use model::{accept, energy_test, levels, price_test, program, report, Failing, Verdict};
+use model::{accept, energy_test, levels, price_test, program, report, Failing, Verdict, OWNER};
 
 const fn fails(pair: usize, lamination: usize) -> Verdict {
     Verdict::Fails(Failing { pair, lamination })
@@ -19,7 +19,7 @@ const fn fails(pair: usize, lamination: usize) -> Verdict {
 #[test]
 fn m1_five_lines() {
     let mut buffer = [b'x'; 100];
-    assert_eq!(report(&r1(), 0, &mut buffer), Ok(R1_LINES.len()));
+    assert_eq!(report(&r1(), 0, OWNER, &mut buffer), Ok(R1_LINES.len()));
     assert!(buffer.starts_with(R1_LINES));
     assert!(buffer[R1_LINES.len()..].iter().all(|b| *b == b'x'));
     assert_eq!(program(&[vec![0; 4], r1()].concat()), R1_LINES);
@@ -35,7 +35,7 @@ fn m2_half_up() {
 fn m3_percent_is_the_lesser() {
     let dossier = with(r1(), &[record(b"TH", 1, &[1, 1, 50, 2_500, 0])]);
     assert_eq!(energy_level(&dossier), 4_230);
-    let test = |price| energy_test(&dossier, 0, 1, &offers::bytes(&[(1_000, price)]));
+    let test = |price| energy_test(&dossier, 0, OWNER, 1, &offers::bytes(&[(1_000, price)]));
     assert_eq!(test(6_345), Ok(Verdict::Passes));
     assert_eq!(test(6_346), Ok(fails(1, 1)));
 }
@@ -47,9 +47,12 @@ fn m4_at_least_the_floor() {
         record(b"TH", 1, &[1, 4, 50, 2_500, 2_500]),
     ];
     let dossier = with(plain_thermal(), &costs);
-    assert_eq!(levels(&dossier, 0).unwrap().reserve, Some(1_000));
-    assert_eq!(price_test(&dossier, 0, 4, 1, 2_499), Ok(Verdict::Passes));
-    assert_eq!(price_test(&dossier, 0, 4, 1, 2_500), Ok(fails(0, 0)));
+    assert_eq!(levels(&dossier, 0, OWNER).unwrap().reserve, Some(1_000));
+    assert_eq!(
+        price_test(&dossier, 0, OWNER, 4, 1, 2_499),
+        Ok(Verdict::Passes)
+    );
+    assert_eq!(price_test(&dossier, 0, OWNER, 4, 1, 2_500), Ok(fails(0, 0)));
 }
 
 /// Table 4 of the memo, rows "Storage Duration", "DA State of Charge" and "RT State of Charge"
@@ -110,7 +113,7 @@ fn only_the_sum_is_rounded() {
     ];
     let dossier = with(plain_thermal(), &more);
     assert_eq!(accept(&dossier), Ok(()));
-    assert_eq!(levels(&dossier, 0).unwrap().reserve, Some(1));
+    assert_eq!(levels(&dossier, 0, OWNER).unwrap().reserve, Some(1));
 }
 
 /// The pair from 40.0 to 60.0 MW overlaps both laminations and is tested in the lower one too.
@@ -124,7 +127,8 @@ fn a_pair_is_not_tested_only_at_its_top() {
         record(b"FU", 1, &[1, 1_000_000, 0]),
         record(b"TH", 1, &[1, 1, 0, 0, 0]),
     ];
-    let test = |pairs: &[(u16, i32)]| energy_test(&records.concat(), 0, 1, &offers::bytes(pairs));
+    let test =
+        |pairs: &[(u16, i32)]| energy_test(&records.concat(), 0, OWNER, 1, &offers::bytes(pairs));
     assert_eq!(test(&[(400, 200), (600, 800)]), Ok(fails(2, 1)));
     assert_eq!(test(&[(500, 200), (600, 800)]), Ok(Verdict::Passes));
     assert_eq!(test(&[(500, 200), (600, 801)]), Ok(fails(2, 2)));

@@ -13,14 +13,14 @@ use model::make::sound::at_half_cent;
 use model::make::written::{hydro, record, storage};
 use model::random::Random;
 use model::table::th;
-use model::{levels, price_test, Failing, Verdict};
+use model::{levels, price_test, Failing, Verdict, OWNER};
 
 /// Each division less than half a micro-dollar past a whole one, half, and more.
 #[test]
 fn each_division_goes_half_up() {
     for term in terms() {
         for (dossier, cents) in term.dossiers.iter().zip([0, 1, 1]) {
-            let levels = levels(dossier, 0).unwrap();
+            let levels = levels(dossier, 0, OWNER).unwrap();
             for level in term.levels {
                 assert_eq!(levels.of(*level), Some(&cents), "{} in {level}", term.name);
             }
@@ -32,7 +32,7 @@ fn each_division_goes_half_up() {
 #[test]
 fn the_opportunity_cost_goes_to_the_nearest() {
     let dossier = storage(3_000, 800, &[31_520, 20_550, 10_641]);
-    let sums: Levels<Micro> = reckon(&accepted(&dossier).unwrap(), 0).unwrap();
+    let sums: Levels<Micro> = reckon(&accepted(&dossier).unwrap(), 0, OWNER).unwrap();
     assert_eq!(sums.energy[0].level, Micro(209_036_667));
 }
 
@@ -44,12 +44,15 @@ fn the_percentage_drops_its_fraction() {
         record(b"TH", 1, &[1, 4, 50, th::NONE, 0]),
     ];
     let dossier = with(storage(3_000, 800, &[0; 3]), &costs);
-    assert_eq!(price_test(&dossier, 0, 4, 1, 6_346), Ok(Verdict::Passes));
+    assert_eq!(
+        price_test(&dossier, 0, OWNER, 4, 1, 6_346),
+        Ok(Verdict::Passes)
+    );
     let fails = Verdict::Fails(Failing {
         pair: 0,
         lamination: 0,
     });
-    assert_eq!(price_test(&dossier, 0, 4, 1, 6_347), Ok(fails));
+    assert_eq!(price_test(&dossier, 0, OWNER, 4, 1, 6_347), Ok(fails));
 }
 
 /// 300.0 over 80.0 is 3 hours, and 99 over 50 place 1.
@@ -67,7 +70,7 @@ fn hours_and_places_drop_theirs() {
 fn the_farthest_level() {
     let dossier = farthest();
     assert_eq!(energy_level(&dossier), 1);
-    let exact = &exact_levels(&dossier, 0).unwrap().energy[0].level;
+    let exact = &exact_levels(&dossier, 0, OWNER).unwrap().energy[0].level;
     assert!(is_within(DISTANCE, 1, exact));
     assert!(!is_within(DISTANCE - 1, 1, exact));
 }
@@ -97,8 +100,8 @@ fn made_dossiers_tell_dropped_fractions() {
     let told = (0..1_000).filter(|_| {
         let dossier = at_half_cent(&mut random);
         let station = accepted(&dossier).unwrap();
-        let dropped = reckon::<Dropped>(&station, 0).unwrap();
-        dropped.map(|sum| Micro(sum.0).cents()) != levels_of(&station, 0).unwrap()
+        let dropped = reckon::<Dropped>(&station, 0, OWNER).unwrap();
+        dropped.map(|sum| Micro(sum.0).cents()) != levels_of(&station, 0, OWNER).unwrap()
     });
     assert!(told.count() > 100);
 }

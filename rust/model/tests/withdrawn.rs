@@ -14,8 +14,8 @@ use model::make::withdrawn::{edges, payment, payment_from, stations};
 use model::make::written::{plain_thermal, r1, record, R1_LINES};
 use model::raise::{is_raise, raised};
 use model::random::Random;
-use model::table::{ad, RESERVE};
-use model::{accept, current, levels, program, refuse, report};
+use model::table::{ad, ao, Mark, OWNERS, RESERVE};
+use model::{accept, current, levels, program, refuse, report, OWNER};
 use std::collections::BTreeMap;
 
 const DOLLAR: i128 = 1_000_000;
@@ -34,13 +34,16 @@ fn last_line(dossier: &[u8], hour: u32) -> String {
 fn no_level_has_them() {
     for (technology, station) in stations() {
         let energy = energy_level(&station);
-        let before = (levels(&station, 0), exact_levels(&station, 0));
+        let before = (levels(&station, 0, OWNER), exact_levels(&station, 0, OWNER));
         let mut dossier = station;
         assert_eq!(last_line(&dossier, 0), "retired 0");
         for (n, level) in (1..).zip(technology.levels()) {
             dossier.extend(payment(1, 1, *level, ad::AMOUNT.highest));
             assert_eq!(energy_level(&dossier), energy);
-            assert_eq!((levels(&dossier, 0), exact_levels(&dossier, 0)), before);
+            assert_eq!(
+                (levels(&dossier, 0, OWNER), exact_levels(&dossier, 0, OWNER)),
+                before
+            );
             assert_eq!(last_line(&dossier, 0), format!("retired {n}"));
         }
     }
@@ -51,7 +54,7 @@ fn no_level_has_them() {
 fn the_other_costs_join() {
     let costs = [1, 2, 3, 4].map(|cost| record(b"AD", 1, &[1, cost, 4, DOLLAR << cost]));
     let reserve = |costs: &[Vec<u8>]| {
-        let levels = levels(&with(plain_thermal(), costs), 0).unwrap();
+        let levels = levels(&with(plain_thermal(), costs), 0, OWNER).unwrap();
         levels.reserve
     };
     assert_eq!(reserve(&costs), Some(1_400));
@@ -86,7 +89,7 @@ fn first_hours_and_older_issues() {
     assert_eq!(counts(&ahead), [none, none, one, one, one]);
     let older = with(ahead, &[payment(1, 1, 1, DOLLAR)]);
     assert_eq!(counts(&older), [one; 5]);
-    assert_eq!(levels(&older, 24), levels(&r1(), 24));
+    assert_eq!(levels(&older, 24, OWNER), levels(&r1(), 24, OWNER));
 }
 
 #[test]
@@ -146,23 +149,34 @@ fn refusals_have_no_such_line() {
     assert_eq!(program(&[vec![0; 4], twice].concat()), line.as_bytes());
     assert!(R1_LINES.ends_with(b"reserve 0.25\nretired 0\n"));
     let length = R1_LINES.len();
-    assert_eq!(report(&r1(), 0, &mut vec![0; length - 1]), refuse(15, 0));
-    assert_eq!(report(&r1(), 0, &mut vec![0; length]), Ok(length));
+    assert_eq!(
+        report(&r1(), 0, OWNER, &mut vec![0; length - 1]),
+        refuse(15, 0)
+    );
+    assert_eq!(report(&r1(), 0, OWNER, &mut vec![0; length]), Ok(length));
 }
 
+/// A common payment, or one of either owner.
 fn is_payment(record: &Record) -> bool {
-    record.kind.of == *b"AD" && record.get(ad::COST) == ad::THIRD_PARTY
+    match &record.kind.of {
+        b"AD" => record.get(ad::COST) == ad::THIRD_PARTY,
+        b"AO" => record.get(ao::COST) == ad::THIRD_PARTY,
+        _ => false,
+    }
 }
 
 /// Which payments are in force, by the papers' words: some record of the key has come.
-fn counted(dossier: &[u8], hour: u32, profile: u8) -> usize {
+fn counted(dossier: &[u8], hour: u32, owner: u8, profile: u8) -> usize {
     let all = records(dossier).unwrap();
-    let come = |level: u8| {
-        let key = [profile, ad::THIRD_PARTY as u8, level];
-        let mut mine = all.iter().filter(|r| r.kind.of == *b"AD" && r.key() == key);
+    let come = |mark: &Mark, key: &[u8]| {
+        let mut mine = all.iter().filter(|r| r.kind.of == *mark && r.key() == key);
         mine.any(|r| r.first_hour() <= hour)
     };
-    (1..=RESERVE).filter(|level| come(*level)).count()
+    let cost = ad::THIRD_PARTY as u8;
+    let levels = 1..=RESERVE;
+    let common = levels.clone().filter(|l| come(b"AD", &[profile, cost, *l]));
+    let own = levels.filter(|l| come(b"AO", &[owner, profile, cost, *l]));
+    common.count() + own.count()
 }
 
 /// Sound dossiers have the levels that they have without their payments, whose raise moves nothing.
@@ -173,27 +187,31 @@ fn made_dossiers() {
     for _ in 0..8_000 {
         let dossier = sound(&mut random).bytes();
         let hour = hour(&mut random, &dossier);
+        let owner = random.pick(&OWNERS);
         let all = records(&dossier).unwrap();
         let others: Vec<_> = all.iter().filter(|r| !is_payment(r)).collect();
         let without: Vec<u8> = others.iter().flat_map(|r| r.bytes).copied().collect();
-        assert_eq!(levels(&dossier, hour), levels(&without, hour));
-        assert_eq!(exact_levels(&dossier, hour), exact_levels(&without, hour));
+        assert_eq!(levels(&dossier, hour, owner), levels(&without, hour, owner));
+        assert_eq!(
+            exact_levels(&dossier, hour, owner),
+            exact_levels(&without, hour, owner)
+        );
         let mut other = raised(&mut random, &dossier);
         for record in others {
             other[record.start..][..record.bytes.len()].copy_from_slice(record.bytes);
         }
         assert!(is_raise(&dossier, &other));
-        assert_eq!(levels(&dossier, hour), levels(&other, hour));
+        assert_eq!(levels(&dossier, hour, owner), levels(&other, hour, owner));
         let station = accepted(&dossier).unwrap();
-        if let Ok(count) = retired(&station, hour) {
+        if let Ok(count) = retired(&station, hour, owner) {
             let profile = profile_at(&station, hour);
-            assert_eq!(count, counted(&dossier, hour, profile));
-            assert_eq!(retired(&accepted(&without).unwrap(), hour), Ok(0));
+            assert_eq!(count, counted(&dossier, hour, owner, profile));
+            assert_eq!(retired(&accepted(&without).unwrap(), hour, owner), Ok(0));
             *seen.entry(count).or_default() += 1;
         }
     }
     let counts: Vec<usize> = seen.keys().copied().collect();
-    assert_eq!(counts, [0, 1, 2, 3, 4], "{seen:?}");
+    assert_eq!(counts, [0, 1, 2, 3, 4, 5, 6, 7, 8], "{seen:?}");
 }
 
 /// The written dossiers are accepted, or draw what a payment can draw.
@@ -202,7 +220,7 @@ fn written_edges() {
     let mut seen: BTreeMap<u8, usize> = BTreeMap::new();
     for dossier in edges() {
         for hour in [0, 23, 24, 25, u32::MAX] {
-            let number = levels(&dossier, hour).err().map_or(0, |r| r.number);
+            let number = levels(&dossier, hour, OWNER).err().map_or(0, |r| r.number);
             *seen.entry(number).or_default() += 1;
         }
     }

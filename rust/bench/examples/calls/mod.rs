@@ -1,5 +1,5 @@
-//! The calls that are timed and counted, of the model and of the library, all at hour 0 and under
-//! condition 1.
+//! The calls that are timed and counted, of the model and of the library, all at hour 0, for owner 1
+//! and under condition 1.
 
 use bench::INTERVALS;
 use model::make::offers;
@@ -17,6 +17,7 @@ pub const NAMES: [&str; 6] = [
 ];
 
 pub const HOUR: u32 = 0;
+pub const OWNER: u8 = 1;
 pub const CONDITION: u8 = 1;
 
 /// Bytes for a report, more than 20 laminations take.
@@ -35,7 +36,7 @@ impl Input {
     /// All prices are, 20 pairs of them above the laminations where they begin: the limit isn't
     /// looked at where a price is not above the level, and the first pair that fails ends the test.
     pub fn of(dossier: Vec<u8>) -> Input {
-        let levels = model::levels(&dossier, HOUR).expect("an accepted dossier");
+        let levels = model::levels(&dossier, HOUR, OWNER).expect("an accepted dossier");
         let above = |level: u64| level as i32 + 1;
         let energy = &levels.energy;
         let width = energy.last().map_or(0, |lamination| lamination.to) / 20;
@@ -65,26 +66,26 @@ impl Input {
             Call::of(accept, || model::accept(dossier), || bench::accept(dossier)),
             Call::of(
                 levels,
-                || model::levels(dossier, HOUR),
-                || bench::levels(dossier, HOUR),
+                || model::levels(dossier, HOUR, OWNER),
+                || bench::levels(dossier, HOUR, OWNER),
             ),
             Call::of(
                 energy_test,
-                || model::energy_test(dossier, HOUR, CONDITION, offer),
-                || bench::energy_test(dossier, HOUR, CONDITION, offer),
+                || model::energy_test(dossier, HOUR, OWNER, CONDITION, offer),
+                || bench::energy_test(dossier, HOUR, OWNER, CONDITION, offer),
             ),
         ];
         if let Some((level, price)) = self.single {
             calls.push(Call::of(
                 price_test,
-                move || model::price_test(dossier, HOUR, level, CONDITION, price),
-                move || bench::price_test(dossier, HOUR, level, CONDITION, price),
+                move || model::price_test(dossier, HOUR, OWNER, level, CONDITION, price),
+                move || bench::price_test(dossier, HOUR, OWNER, level, CONDITION, price),
             ));
         }
         calls.push(Call::of(
             report,
-            || lent(|buffer| model::report(dossier, HOUR, buffer)),
-            || lent(|buffer| bench::report(dossier, HOUR, buffer)),
+            || lent(|buffer| model::report(dossier, HOUR, OWNER, buffer)),
+            || lent(|buffer| bench::report(dossier, HOUR, OWNER, buffer)),
         ));
         calls.push(Call::of(
             week,

@@ -82,14 +82,18 @@ fn keys(random: &mut Random, kind: &Kind) -> Vec<u32> {
     let is_key = |field: &&Field| field.role == Role::Key;
     let key_fields: Vec<_> = kind.fields.iter().filter(is_key).collect();
     let mut record = vec![0; kind.length];
-    let mut keys = vec![0, 1, u32::MAX, 1 << (8 * width)];
+    // one byte more than the key has; there is none above the four bytes of AO
+    let above = 1_u32.checked_shl(8 * width as u32);
+    let mut keys = vec![0, 1, u32::MAX];
+    keys.extend(above);
     for _ in 0..2 {
         for field in &key_fields {
             let inside = random.between(field.lowest, field.highest);
             field.write(&mut record, inside);
         }
         let inside = number(kind.key(&record));
-        keys.extend([inside, inside + (1 << (8 * width))]);
+        keys.push(inside);
+        keys.extend(above.map(|above| inside + above));
     }
     if let Some(field) = key_fields.first() {
         let beyond = random.pick(&[field.lowest - 1, field.highest + 1]);

@@ -6,15 +6,16 @@ use model::dossier::{records, Record};
 use model::exact::{all_near, exact_levels};
 use model::levels::{Lamination, Levels};
 use model::make::nearest::terms;
-use model::make::written::evenly_rising;
+use model::make::owners::own;
+use model::make::written::{evenly_rising, r1};
 use model::make::{self, sound};
 use model::memo::{examples, made_weeks, told, written_weeks};
 use model::raise::{none_lower, raised};
 use model::random::Random;
 use model::report::level_lines;
-use model::table::{ad, Technology};
+use model::table::{ad, ao, Technology, OWNERS};
 use model::vectors::{read, Vector};
-use model::{refuse, Refusal};
+use model::{refuse, Refusal, OWNER};
 
 const STEPS: usize = 20;
 
@@ -56,8 +57,8 @@ fn expected(
 }
 
 /// Bench's answer in the model's terms.
-fn model_levels(dossier: &[u8], hour: u32) -> Result<Levels<u64>, Refusal> {
-    let levels = bench::levels(dossier, hour).map_err(refusal)?;
+fn model_levels(dossier: &[u8], hour: u32, owner: u8) -> Result<Levels<u64>, Refusal> {
+    let levels = bench::levels(dossier, hour, owner).map_err(refusal)?;
     let steps = levels.energy.iter().map(|step| Lamination {
         from: step.from,
         to: step.to,
@@ -72,19 +73,19 @@ fn model_levels(dossier: &[u8], hour: u32) -> Result<Levels<u64>, Refusal> {
     })
 }
 
-fn check_hour(random: &mut Random, dossier: &[u8], hour: u32) -> Check {
-    let model = model::levels(dossier, hour);
-    let found = model_levels(dossier, hour);
-    same(&format!("levels at {hour}"), &found, &model)?;
+fn check_hour(random: &mut Random, dossier: &[u8], hour: u32, owner: u8) -> Check {
+    let model = model::levels(dossier, hour, owner);
+    let found = model_levels(dossier, hour, owner);
+    same(&format!("levels at {hour}, owner {owner}"), &found, &model)?;
     let count = random.pick(&[0, 65, 66, 70]);
     let before: Vec<u64> = (0..count).map(|_| random.next()).collect();
     let mut list = before.clone();
-    let written = bench::levels_into(dossier, hour, &mut list).map_err(refusal);
-    let what = format!("{count} words at {hour}");
+    let written = bench::levels_into(dossier, hour, owner, &mut list).map_err(refusal);
+    let what = format!("{count} words at {hour}, owner {owner}");
     same(&what, (written, list), expected(&model, before))?;
     match found {
         Ok(found) => {
-            let exact = exact_levels(dossier, hour).expect("an accepted dossier");
+            let exact = exact_levels(dossier, hour, owner).expect("an accepted dossier");
             same("the promised distance", all_near(&found, &exact), true)
         }
         Err(_) => Ok(()),
@@ -94,7 +95,8 @@ fn check_hour(random: &mut Random, dossier: &[u8], hour: u32) -> Check {
 fn check(random: &mut Random, dossier: &[u8]) -> Check {
     for _ in 0..3 {
         let hour = make::hour(random, dossier);
-        check_hour(random, dossier, hour)?;
+        let owner = make::owner(random);
+        check_hour(random, dossier, hour, owner)?;
     }
     Ok(())
 }
@@ -122,7 +124,7 @@ fn batteries() {
 #[test]
 fn the_memos_examples() {
     for example in examples() {
-        let levels = model_levels(&example.dossier, 0).unwrap();
+        let levels = model_levels(&example.dossier, 0, OWNER).unwrap();
         assert_eq!(levels.energy.len(), 1, "{}", example.name);
         assert_eq!(levels.energy[0].level, example.level, "{}", example.name);
         check(&mut Random::new(0), &example.dossier).unwrap();
@@ -136,7 +138,7 @@ fn weeks_by_the_memo() {
     let made = (0..400).map(|_| made_weeks(&mut random));
     for weeks in made.chain([written_weeks().0]) {
         for (dossier, level) in told(&weeks).into_iter().flat_map(|week| week.dossiers) {
-            let levels = bench::levels(&dossier, 0).unwrap();
+            let levels = bench::levels(&dossier, 0, OWNER).unwrap();
             assert_eq!(levels.energy[0].level, level, "{weeks:?}");
         }
     }
@@ -147,7 +149,7 @@ fn weeks_by_the_memo() {
 fn each_division_goes_half_up() {
     for term in terms() {
         for (dossier, cents) in term.dossiers.iter().zip([0, 1, 1]) {
-            let levels = model_levels(dossier, 0).unwrap();
+            let levels = model_levels(dossier, 0, OWNER).unwrap();
             for level in term.levels {
                 assert_eq!(levels.of(*level), Some(&cents), "{} in {level}", term.name);
             }
@@ -157,7 +159,7 @@ fn each_division_goes_half_up() {
 
 #[test]
 fn sums_at_the_half_cent() {
-    let check = |random: &mut Random, dossier: &[u8]| check_hour(random, dossier, 0);
+    let check = |random: &mut Random, dossier: &[u8]| check_hour(random, dossier, 0, OWNER);
     run(
         "levels at the half cent",
         10_000,
@@ -172,8 +174,9 @@ fn a_raise_lowers_no_level() {
     run("levels of a raise", 20_000, make, |random, dossier| {
         let raised = raised(random, dossier);
         let hour = make::hour(random, dossier);
-        let before = model_levels(dossier, hour);
-        let after = model_levels(&raised, hour);
+        let owner = random.pick(&OWNERS);
+        let before = model_levels(dossier, hour, owner);
+        let after = model_levels(&raised, hour, owner);
         match (&before, &after) {
             (Ok(before), Ok(after)) => same("no level is lower", none_lower(before, after), true),
             // an hour without fuel has none before or after
@@ -186,23 +189,68 @@ fn a_raise_lowers_no_level() {
 /// no level.
 #[test]
 fn payments_join_no_level() {
-    let is_payment = |r: &Record| r.kind.of == *b"AD" && r.get(ad::COST) == ad::THIRD_PARTY;
+    let cost = |r: &Record| match &r.kind.of {
+        b"AD" => Some(r.get(ad::COST)),
+        b"AO" => Some(r.get(ao::COST)),
+        _ => None,
+    };
     let make = |random: &mut Random| sound::sound(random).bytes();
     run("payments", 20_000, make, |random, dossier| {
         let hour = make::hour(random, dossier);
+        let owner = random.pick(&OWNERS);
         let (mut without, mut raised) = (Vec::new(), dossier.to_vec());
         for record in records(dossier).expect("a sound dossier") {
-            if is_payment(&record) {
+            if cost(&record) == Some(ad::THIRD_PARTY) {
                 let amount = record.kind.fields.last().expect("an amount");
                 amount.write(&mut raised[record.start..], amount.highest);
             } else {
                 without.extend(record.bytes);
             }
         }
-        let levels = model_levels(dossier, hour);
-        same("without them", model_levels(&without, hour), levels.clone())?;
-        same("with more", model_levels(&raised, hour), levels)
+        let levels = model_levels(dossier, hour, owner);
+        same(
+            "without them",
+            model_levels(&without, hour, owner),
+            levels.clone(),
+        )?;
+        same("with more", model_levels(&raised, hour, owner), levels)
     });
+}
+
+/// Whatever the other owner's amounts are, an owner's levels stay.
+#[test]
+fn the_other_owner_moves_nothing() {
+    let make = |random: &mut Random| sound::sound(random).bytes();
+    run("two owners", 20_000, make, |random, dossier| {
+        let (hour, owner) = (make::hour(random, dossier), random.pick(&OWNERS));
+        let mut moved = dossier.to_vec();
+        for record in records(dossier).expect("a sound dossier") {
+            if record.kind.mark == *b"AO" && record.get(ao::OWNER) != i128::from(owner) {
+                let amount = random.spread(0, ao::AMOUNT.highest);
+                ao::AMOUNT.write(&mut moved[record.start..], amount);
+            }
+        }
+        let before = model_levels(dossier, hour, owner);
+        same("levels", model_levels(&moved, hour, owner), before)
+    });
+}
+
+/// Every byte for the owner: the levels of one of the two, or 3 at 0.
+#[test]
+fn owners() {
+    let both = OWNERS.map(|owner| own(1, [owner, 1, 1, 4], 1_000_000 * i128::from(owner)));
+    let dossier = [r1(), both.concat()].concat();
+    for owner in 0..=255 {
+        check_hour(&mut Random::new(0), &dossier, 0, owner).unwrap();
+        check_hour(&mut Random::new(0), &vec![0; 60_001], 0, owner).unwrap();
+        let reserve = model_levels(&dossier, 0, owner).map(|levels| levels.reserve);
+        let expected = match owner {
+            1 => Ok(Some(125)),
+            2 => Ok(Some(225)),
+            _ => refuse(3, 0),
+        };
+        assert_eq!(reserve, expected, "{owner}");
+    }
 }
 
 #[test]
@@ -216,9 +264,9 @@ fn edges() {
     let mut random = Random::new(60_000);
     for _ in 0..10 {
         let mut dossier = sound::filled(&mut random, 60_000).bytes();
-        check_hour(&mut random, &dossier, 0).unwrap();
+        check_hour(&mut random, &dossier, 0, OWNER).unwrap();
         dossier.push(0);
-        check_hour(&mut random, &dossier, 0).unwrap();
+        check_hour(&mut random, &dossier, 0, OWNER).unwrap();
     }
 }
 
@@ -230,7 +278,7 @@ fn every_vector() {
         };
         if output.starts_with(b"profile") {
             let (hour, dossier) = input.split_first_chunk().expect("an hour");
-            let levels = model_levels(dossier, u32::from_be_bytes(*hour));
+            let levels = model_levels(dossier, u32::from_be_bytes(*hour), OWNER);
             // the last line counts what no level has
             let lines = level_lines(&levels.unwrap()) + "retired ";
             assert!(output.starts_with(lines.as_bytes()), "{vector:?}");

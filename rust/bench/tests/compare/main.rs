@@ -31,3 +31,18 @@ fn sizes_in_other_languages() {
         assert!(python.contains(&assigned), "{assigned}");
     }
 }
+
+/// Every call of the header that names an hour names an owner behind it.
+#[test]
+fn an_owner_behind_every_hour() {
+    let path = concat!(env!("CARGO_MANIFEST_DIR"), "/../../include/bench.h");
+    let header = std::fs::read_to_string(path).expect(path);
+    let calls: Vec<&str> = header
+        .lines()
+        .filter(|line| line.contains("uint32_t hour"))
+        .collect();
+    assert_eq!(calls.len(), 4);
+    for call in calls {
+        assert!(call.contains("uint32_t hour, uint8_t owner, "), "{call}");
+    }
+}

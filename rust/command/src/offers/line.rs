@@ -7,6 +7,7 @@ use crate::input::STANDARD;
 use crate::marks::listed;
 use crate::offer;
 use crate::plain::{clean, lines};
+use crate::query::{owner, Query, FIRST};
 use crate::text::{quoted, unknown, BOM};
 use std::ffi::OsString;
 
@@ -17,7 +18,15 @@ pub struct Asked {
     pub question: Question,
 }
 
-const NAMES: [&str; 6] = ["station", "hour", "condition", "offer", "level", "price"];
+const NAMES: [&str; 7] = [
+    "station",
+    "hour",
+    "owner",
+    "condition",
+    "offer",
+    "level",
+    "price",
+];
 
 /// The lines that hold an offer with their numbers, from 1; what is wrong with those that are.
 pub fn all(text: &[u8]) -> Vec<(usize, Result<Asked, String>)> {
@@ -107,6 +116,14 @@ impl<'a> Fields<'a> {
         read.map_err(|says| self.wrong.push(says)).ok()
     }
 
+    /// The owner, the first where the line names none.
+    fn owner(&mut self) -> Option<u8> {
+        match self.has("owner") {
+            true => self.need("owner", owner),
+            false => Some(FIRST),
+        }
+    }
+
     fn stations(&mut self) -> Vec<OsString> {
         let stations = self.values("station");
         if stations.is_empty() {
@@ -151,13 +168,15 @@ fn asked(words: &[String]) -> Result<Asked, String> {
     let mut fields = Fields::of(words);
     let stations = fields.stations();
     let hour = fields.need("hour", hour);
+    let owner = fields.owner();
     let condition = fields.need("condition", offer::read_condition);
     let offered = fields.offered();
-    match (hour, condition, offered) {
-        (Some(hour), Some(condition), Some(offered)) if fields.wrong.is_empty() => Ok(Asked {
+    let query = hour.zip(owner).map(|(hour, owner)| Query { hour, owner });
+    match (query, condition, offered) {
+        (Some(query), Some(condition), Some(offered)) if fields.wrong.is_empty() => Ok(Asked {
             stations,
             question: Question {
-                hour,
+                query,
                 condition,
                 offered,
             },
@@ -184,24 +203,43 @@ mod tests {
         assert_eq!(numbers, [3, 4]);
         let asked = lines[1].1.as_ref().expect("an offer");
         assert_eq!(asked.stations, ["x#1"]);
-        assert_eq!((asked.question.hour, asked.question.condition), (0, 2));
+        let query = Query { hour: 0, owner: 1 };
+        assert_eq!((asked.question.query, asked.question.condition), (query, 2));
+    }
+
+    #[test]
+    fn an_owner_may_be_named() {
+        let line = |owner: &str| format!("station=a hour=7 {owner} condition=broad offer=1@2");
+        let asked = |owner: &str| {
+            all(line(owner).as_bytes())
+                .remove(0)
+                .1
+                .map(|a| a.question.query)
+        };
+        for (text, owner) in [("", 1), ("owner=1", 1), ("owner=2", 2)] {
+            assert_eq!(asked(text), Ok(Query { hour: 7, owner }));
+        }
+        assert_eq!(wrong(&line("owner=3")), "owner: '3' is no owner: 1 or 2");
+        assert_eq!(wrong(&line("owner=")), "owner: '' is no owner: 1 or 2");
+        assert_eq!(wrong(&line("owner=1 owner=2")), "owner stands twice");
     }
 
     #[test]
     fn everything_wrong_is_told() {
         assert_eq!(
             wrong("station=a station=b hours=3 condition=wide offer=1@x hour=1 hour=2"),
-            "'hours' is no field (did you mean hour?): station, hour, condition, offer, level or price; hour stands twice; \
+            "'hours' is no field (did you mean hour?): station, hour, owner, condition, offer, level or price; hour stands twice; \
              condition: 'wide' is not narrow, broad or global; \
              offer: 'x' is no number: -2000.00 to 2000.00 dollars per MWh"
         );
         assert_eq!(
             wrong("x"),
-            "'x' is no field: station, hour, condition, offer, level or price; station is missing; \
+            "'x' is no field: station, hour, owner, condition, offer, level or price; station is missing; \
              hour is missing; condition is missing; offer is missing, or level and price"
         );
         let record = wrong("FU issue=1 profile=1 station=a hour=1 condition=narrow offer=1@1");
-        let says = "'FU' and 2 more are no fields: station, hour, condition, offer, level or price";
+        let says =
+            "'FU' and 2 more are no fields: station, hour, owner, condition, offer, level or price";
         assert_eq!(record, says);
         assert_eq!(wrong("station=\"a"), "a quote that doesn't end");
         assert!(wrong("station=a\u{c}").starts_with("byte 10 is a form feed"));

@@ -79,10 +79,13 @@ impl<'a> Book<'a> {
         all
     }
 
-    /// The adders of a level, among them those that are withdrawn. Where an owner has its own, this is
-    /// where they are told apart.
-    pub fn adders(&self, level: u8) -> Vec<Record<'a>> {
-        let mut adders = self.of_profile("AD");
+    /// The adders of a level, among them those that are withdrawn: the common ones, and behind them the
+    /// owner's own.
+    pub fn adders(&self, level: u8, owner: u8) -> Vec<Record<'a>> {
+        let mut adders = ["AD", "AO"]
+            .map(|letters| self.of_profile(letters))
+            .concat();
+        adders.retain(|r| r.owner().is_none_or(|of| of == owner));
         adders.retain(|r| r.get("level") == i128::from(level));
         adders
     }

@@ -1,6 +1,6 @@
-//! The formulas of document 01, "From records to levels", with those of requests 1 to 3 and 10 of
-//! document 02, in micro-dollars: every division to the nearest, half up, and no payment to a third
-//! party.
+//! The formulas of document 01, "From records to levels", with those of requests 1 to 3, 10 and 12 of
+//! document 02, in micro-dollars: every division to the nearest, half up, no payment to a third party,
+//! and what an owner adds beside the common amounts.
 
 use super::book::Book;
 use super::charging::Charged;
@@ -19,8 +19,8 @@ pub fn share(of: i128, by: i128) -> i128 {
     (2 * of + by) / (2 * by)
 }
 
-/// The levels that the technology holds, in the order of the report.
-pub fn levels(book: &Book) -> Vec<Level> {
+/// The levels that the technology holds, as an owner has them, in the order of the report.
+pub fn levels(book: &Book, owner: u8) -> Vec<Level> {
     let Some(station) = book.counting("RS", 0) else {
         return Vec::new();
     };
@@ -30,6 +30,7 @@ pub fn levels(book: &Book) -> Vec<Level> {
     };
     let costs = Costs {
         book,
+        owner,
         station,
         fuel,
     };
@@ -58,6 +59,8 @@ pub fn joined(record: &Record) -> Vec<u8> {
 /// What the levels of a station rest on.
 struct Costs<'b, 'a> {
     book: &'b Book<'a>,
+    /// The owner whose own amounts join the common ones.
+    owner: u8,
     station: Record<'a>,
     fuel: Record<'a>,
 }
@@ -83,16 +86,19 @@ impl Costs<'_, '_> {
         }
     }
 
-    /// The adders of a level; one that is withdrawn joins with nothing.
+    /// The adders of a level; one that is withdrawn joins with nothing. The owner's own are named so.
     fn added(&self, level: u8) -> Vec<Term> {
         let term = |r: &Record| {
             let (amount, working) = match r.is_withdrawn() {
                 true => (0, format!("withdrawn: {} was claimed", r.value("amount"))),
                 false => (r.get("amount"), String::new()),
             };
-            self.term(&r.value("cost"), amount, working, &[*r])
+            let own = r.owner().map(|owner| format!(" of owner {owner}"));
+            let name = r.value("cost") + &own.unwrap_or_default();
+            self.term(&name, amount, working, &[*r])
         };
-        self.book.adders(level).iter().map(term).collect()
+        let adders = self.book.adders(level, self.owner);
+        adders.iter().map(term).collect()
     }
 
     /// The maintenance items, by a formula.

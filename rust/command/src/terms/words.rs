@@ -3,7 +3,7 @@
 use super::{Explanation, Level, Place, Side, Term};
 use crate::explain::{why, Standing};
 use crate::json::{object, Json};
-use crate::levels::{at, megawatts};
+use crate::levels::megawatts;
 use crate::unit::{decimal, parts, DOLLARS, FINE_DOLLARS, LEVEL};
 
 /// Micro-dollars with all their places.
@@ -71,7 +71,7 @@ impl Explanation {
     /// The levels, each under its name, behind the profile and what asks for it.
     pub fn words(&self) -> String {
         let why = why(self.request.as_ref());
-        let mut words = format!("hour {}: profile {}, {why}\n", self.hour, self.profile);
+        let mut words = format!("{}: profile {}, {why}\n", self.asked, self.profile);
         if let Some(station) = &self.station {
             words += &format!("station: {}\n", station.short());
         }
@@ -107,7 +107,7 @@ impl Explanation {
             level.json().with("library", library)
         });
         let cited = |record: &Option<Standing>| record.as_ref().map_or(Json::Null, Standing::json);
-        at(self.hour).and(object([
+        let explained = object([
             ("profile", Json::whole(self.profile.into())),
             ("request", cited(&self.request)),
             ("station", cited(&self.station)),
@@ -120,7 +120,8 @@ impl Explanation {
                 "ahead",
                 Json::List(self.ahead.iter().map(|a| a.record.json()).collect()),
             ),
-        ]))
+        ]);
+        self.query.hour().and(explained).and(self.query.owner())
     }
 }
 

@@ -7,7 +7,7 @@ use super::unfit::*;
 use super::{any_record, from_least, is_whole, kind, noise, reconcile, with_first_hour, Draft};
 use crate::dossier::LONGEST;
 use crate::random::Random;
-use crate::table::{as_in, kind_of, rq, rs, Field, Mark, Role, Technology};
+use crate::table::{ao, as_in, kind_of, rq, rs, Field, Mark, Role, Technology};
 
 /// One way: its name, the number it draws, and what it does to a sound dossier. `None` says that
 /// this dossier can't be broken in this way.
@@ -26,13 +26,14 @@ macro_rules! damages {
 pub static DAMAGES: &[Damage] = damages! {
     1: unknown_mark, unknown_mark_at_the_end;
     2: cut_short, one_byte_left;
-    3: below_range, above_range, first_after_last, long_window_elsewhere;
+    3: below_range, above_range, first_after_last, long_window_elsewhere, owner_unknown;
     4: twin, twin_of_the_other_mark;
     5: no_rs;
     6: used_field_zero, unused_field_set, point_not_thermal, hour_not_storage,
        interval_not_storage, last_cost_not_storage, place_not_hydro, fuel_at_hydro,
        emission_not_thermal, addition_not_held, prorated_not_nuclear,
-       start_hours_not_thermal, threshold_not_held, unfit_for_some_hours, unfit_from_some_hour;
+       own_addition_not_held, own_prorated_not_nuclear, start_hours_not_thermal,
+       threshold_not_held, unfit_for_some_hours, unfit_from_some_hour;
     7: no_point, one_point, point_missing, output_not_rising, heat_falling, slope_falling,
        curve_not_to_capacity;
     8: no_first_fuel, no_named_fuel;
@@ -202,6 +203,13 @@ fn long_window_elsewhere(random: &mut Random, draft: &mut Draft) -> Option<()> {
     Some(())
 }
 
+/// An AO of an owner that no plant has.
+fn owner_unknown(random: &mut Random, draft: &mut Draft) -> Option<()> {
+    let mut record = any_record(random, kind_of(b"AO")?);
+    ao::OWNER.write(&mut record, random.pick(&[0, 3, 4, 255]));
+    insert_whole(random, draft, record)
+}
+
 /// The mark, key and issue of a record, current or not, once more; the rest as it was or not.
 fn twin(random: &mut Random, draft: &mut Draft) -> Option<()> {
     let at = any_place(random, draft)?;
@@ -228,10 +236,14 @@ fn put_twin(random: &mut Random, draft: &mut Draft, mut twin: Vec<u8>) -> Option
         }
         reconcile(&mut twin);
     }
-    // A lone byte or a cut record stays last, or the twin would complete it.
+    insert_whole(random, draft, twin)
+}
+
+/// Adds a record anywhere. A lone byte or a cut record stays last, or the record would complete it.
+fn insert_whole(random: &mut Random, draft: &mut Draft, record: Vec<u8>) -> Option<()> {
     let end = draft.records.len() - usize::from(!is_whole(draft.records.last()?));
     let place = random.below(end as u64 + 1) as usize;
-    draft.records.insert(place, twin);
+    draft.records.insert(place, record);
     Some(())
 }
 

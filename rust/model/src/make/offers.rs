@@ -1,29 +1,29 @@
 //! Offers and prices that crowd around the floors and limits of a dossier, and malformed offers.
 
-use crate::accept::accepted;
+use crate::accept::asked;
 use crate::conduct::{Threshold, MOST_PAIRS, PAIR};
 use crate::levels::{levels_of, Lamination, Levels};
 use crate::random::Random;
 use crate::table::{ENERGY, PRICE};
 use std::collections::BTreeSet;
 
-/// What an offer is put to: the levels and thresholds of one dossier at one hour, none of them if
-/// the dossier isn't accepted, and no level at an hour without fuel.
+/// What an offer is put to: the levels and thresholds of one dossier at one hour and for one owner,
+/// none of them if the dossier isn't accepted, and no level at an hour without fuel.
 pub struct Target {
     levels: Option<Levels<u64>>,
     thresholds: Vec<(u8, u8, Threshold)>,
 }
 
 impl Target {
-    pub fn of(dossier: &[u8], hour: u32) -> Target {
+    pub fn of(dossier: &[u8], hour: u32, owner: u8) -> Target {
         let mut thresholds = Vec::new();
-        let station = accepted(dossier).ok();
+        let station = asked(dossier, owner).ok();
         for (condition, level) in (1..=3).flat_map(|c| (1..=4).map(move |l| (c, l))) {
             let found = station.as_ref().map(|s| Threshold::of(s, condition, level));
             thresholds.extend(found.into_iter().flatten().map(|t| (condition, level, t)));
         }
         Target {
-            levels: station.and_then(|s| levels_of(&s, hour).ok()),
+            levels: station.and_then(|s| levels_of(&s, hour, owner).ok()),
             thresholds,
         }
     }

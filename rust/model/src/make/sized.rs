@@ -1,12 +1,14 @@
 //! Dossiers of a length, to be timed: keys of all marks that a technology may have, several issues
-//! of each, in any order, without first hours or with them; and a full charging week.
+//! of each, in any order, without first hours or with them, and with amounts of two owners; and a full
+//! charging week.
 //!
 //! None has an LC, which says nothing where a battery charged.
 
+use super::owners::own;
 use super::written::record;
 use super::{set_issue, with_first_hour};
 use crate::random::Random;
-use crate::table::{Role, Technology};
+use crate::table::{Role, Technology, OWNERS};
 
 /// Issues of a key, and more where the station has too few keys to fill the length.
 const ISSUES: usize = 3;
@@ -15,26 +17,29 @@ pub(super) const CAPACITY: i128 = 1_000;
 
 /// A dossier of this length or a few bytes less; 1,000 are enough for each technology.
 pub fn sized(technology: Technology, length: usize) -> Vec<u8> {
-    filled(technology, length, |record, _| record)
+    filled(&keys(technology, length), length, |record, _| record)
+}
+
+/// The same with amounts of both owners beside the common ones.
+pub fn sized_owned(technology: Technology, length: usize) -> Vec<u8> {
+    let mut others = others(technology);
+    others.extend(OWNERS.map(|owner| own_additions(technology, owner)));
+    let keys = keys_with(technology, length, others);
+    filled(&keys, length, |record, _| record)
 }
 
 /// The same with a first hour in every newer issue of a cost that can have one: each counts from a
 /// day after the one before it.
 pub fn sized_dated(technology: Technology, length: usize) -> Vec<u8> {
-    filled(technology, length, |record, issue| {
+    filled(&keys(technology, length), length, |record, issue| {
         let first = (issue > 1).then(|| 24 * (issue - 1));
         with_first_hour(&record, first).unwrap_or(record)
     })
 }
 
 /// Issue upon issue of each key, as `told` makes it of a record, until the length is reached.
-fn filled(
-    technology: Technology,
-    length: usize,
-    told: impl Fn(Vec<u8>, u32) -> Vec<u8>,
-) -> Vec<u8> {
+fn filled(keys: &[Vec<u8>], length: usize, told: impl Fn(Vec<u8>, u32) -> Vec<u8>) -> Vec<u8> {
     let random = &mut Random::new(length as u64);
-    let keys = keys(technology, length);
     let mut left = length;
     let issues = (1..).flat_map(|issue| keys.iter().map(move |key| (key, issue)));
     let mut records: Vec<_> = issues
@@ -81,11 +86,15 @@ fn reissued(random: &mut Random, key: &[u8], issue: u32) -> Vec<u8> {
 /// the issues. A key's rank is the part of its mark that lies before it, so that there is as large a
 /// part of each mark.
 pub(super) fn keys(technology: Technology, length: usize) -> Vec<Vec<u8>> {
+    keys_with(technology, length, others(technology))
+}
+
+fn keys_with(technology: Technology, length: usize, others: Vec<Vec<Vec<u8>>>) -> Vec<Vec<u8>> {
     let mut keys = needed(technology, window(technology, length));
     let taken: usize = keys.iter().map(Vec::len).sum();
     let mut left = (length / ISSUES).saturating_sub(taken);
     let mut ranked = Vec::new();
-    for mark in others(technology) {
+    for mark in others {
         let count = mark.len();
         let ranks = (0..count).map(|i| i * 10_000 / count);
         ranked.extend(ranks.zip(mark));
@@ -183,21 +192,33 @@ fn others(technology: Technology) -> Vec<Vec<Vec<u8>>> {
     ]
 }
 
-/// All but those that are needed.
-fn additions(technology: Technology) -> Vec<Vec<u8>> {
+/// Every profile, cost and level that an amount may be added for.
+fn all_additions(technology: Technology) -> Vec<[u8; 3]> {
     let costs = if technology == Technology::Nuclear {
         5
     } else {
         4
     };
-    let mut records = Vec::new();
+    let mut keys = Vec::new();
     for (profile, cost) in (1..=4).flat_map(|p| (1..=costs).map(move |c| (p, c))) {
-        if (profile, cost) != (1, 1) {
-            let levels = technology.levels().iter();
-            records.extend(levels.map(|level| addition(profile, cost, *level)));
-        }
+        let levels = technology.levels().iter();
+        keys.extend(levels.map(|level| [profile, cost, *level]));
     }
-    records
+    keys
+}
+
+/// All but those that are needed.
+fn additions(technology: Technology) -> Vec<Vec<u8>> {
+    let keys = all_additions(technology).into_iter();
+    let others = keys.filter(|[profile, cost, _]| (*profile, *cost) != (1, 1));
+    let record = |[profile, cost, level]: [u8; 3]| addition(profile.into(), cost.into(), level);
+    others.map(record).collect()
+}
+
+fn own_additions(technology: Technology, owner: u8) -> Vec<Vec<u8>> {
+    let keys = all_additions(technology).into_iter();
+    let record = |[profile, cost, level]: [u8; 3]| own(1, [owner, profile, cost, level], 750_000);
+    keys.map(record).collect()
 }
 
 fn maintenance(technology: Technology) -> Vec<Vec<u8>> {

@@ -6,8 +6,9 @@ use crate::accept::accepted;
 use crate::dossier::LONGEST;
 use crate::levels::{levels, profile_at, reckon, Levels, Micro};
 use crate::random::Random;
-use crate::table::{ad, as_in, fu, kind_of, mm, rq, th};
-use crate::table::{Field, Mark, Role, Technology, ENERGY, TECHNOLOGIES};
+use crate::table::{ad, ao, as_in, fu, kind_of, mm, rq, th};
+use crate::table::{Field, Mark, Role, Technology, ENERGY, OWNERS, TECHNOLOGIES};
+use crate::OWNER;
 use std::collections::{BTreeMap, BTreeSet};
 
 pub fn sound(random: &mut Random) -> Draft {
@@ -32,6 +33,7 @@ pub fn sound_of(random: &mut Random, technology: Technology) -> Draft {
     }
     maker.requests_and_fuel();
     maker.additions();
+    maker.own_additions();
     maker.maintenance();
     maker.thresholds();
     maker.histories();
@@ -89,26 +91,34 @@ fn fourth_fuel(random: &mut Random, technology: Technology) -> Vec<u8> {
 pub fn with_levels_at(random: &mut Random, technology: Technology, hour: u32) -> Draft {
     loop {
         let draft = sound_of(random, technology);
-        if levels(&draft.bytes(), hour).is_ok() {
+        if levels(&draft.bytes(), hour, OWNER).is_ok() {
             return draft;
         }
     }
 }
 
-/// A sound dossier in which an AD amount brings the sum of one level at hour 0 to the half cent or
-/// one micro-dollar below it: one division that goes another way then shows.
+/// A sound dossier in which an AD amount, or an AO amount of owner 1, brings the sum of one level at
+/// hour 0 to the half cent or one micro-dollar below it: one division that goes another way then
+/// shows.
 pub fn at_half_cent(random: &mut Random) -> Vec<u8> {
     let technology = random.pick(&TECHNOLOGIES);
     let mut draft = with_levels_at(random, technology, 0);
     let level = random.pick(draft.technology.levels());
     let profile = profile_at(&accepted(&draft.bytes()).expect("sound"), 0);
     let cost = random.between(1, ad::THIRD_PARTY - 1);
-    draft.remove(b"AD", &[profile, cost as u8, level]);
+    let (mark, field, owner) = match random.one_in(2) {
+        true => (b"AD", ad::AMOUNT, None),
+        false => (b"AO", ao::AMOUNT, Some(OWNER)),
+    };
+    let key = owner.into_iter().chain([profile, cost as u8, level]);
+    let key: Vec<u8> = key.collect();
+    draft.remove(mark, &key);
     let amount = random.spread(0, 300_000_000);
-    let fields = [profile.into(), cost, level.into(), amount];
-    draft.records.push(record(b"AD", 1, &fields));
+    let fields = key.into_iter().map(i128::from).chain([amount]);
+    let fields: Vec<i128> = fields.collect();
+    draft.records.push(record(mark, 1, &fields));
     let bytes = draft.bytes();
-    let sums = reckon(&accepted(&bytes).expect("sound"), 0);
+    let sums = reckon(&accepted(&bytes).expect("sound"), 0, OWNER);
     let sums: Levels<Micro> = sums.expect("levels at hour 0");
     let sum = match sums.single().find(|(number, _)| *number == level) {
         Some((_, sum)) => *sum,
@@ -117,7 +127,7 @@ pub fn at_half_cent(random: &mut Random) -> Vec<u8> {
     let wanted = random.pick(&[4_999, 5_000]);
     let more = (wanted - sum.0 as i128).rem_euclid(10_000);
     let addition = draft.records.last_mut().expect("just added");
-    ad::AMOUNT.write(addition, amount + more);
+    field.write(addition, amount + more);
     random.shuffle(&mut draft.records);
     draft.bytes()
 }
@@ -187,19 +197,40 @@ impl Maker<'_> {
     }
 
     fn additions(&mut self) {
+        let fields = [ad::PROFILE, ad::COST, ad::LEVEL];
+        for key in self.some_additions() {
+            let key: Vec<_> = fields.into_iter().zip(key).collect();
+            self.add(b"AD", &key);
+        }
+    }
+
+    /// Amounts of each owner, of other keys or of the common ones'.
+    fn own_additions(&mut self) {
+        let fields = [ao::OWNER, ao::PROFILE, ao::COST, ao::LEVEL];
+        for owner in OWNERS {
+            for key in self.some_additions() {
+                let key = [i128::from(owner)].into_iter().chain(key);
+                let key: Vec<_> = fields.into_iter().zip(key).collect();
+                self.add(b"AO", &key);
+            }
+        }
+    }
+
+    /// Profiles, costs and levels that an amount may be added for: all, some or hardly any.
+    fn some_additions(&mut self) -> Vec<[i128; 3]> {
         let rarity = self.random.pick(&[1, 6, 12, 12, 12, 40, 40, 1_000]);
         let nuclear = self.technology == Technology::Nuclear;
+        let mut keys = Vec::new();
         for level in self.technology.levels() {
             for profile in 1..=4 {
                 for cost in 1..=if nuclear { 5 } else { 4 } {
                     if self.random.one_in(rarity) {
-                        let level = i128::from(*level);
-                        let key = [(ad::PROFILE, profile), (ad::COST, cost), (ad::LEVEL, level)];
-                        self.add(b"AD", &key);
+                        keys.push([profile, cost, i128::from(*level)]);
                     }
                 }
             }
         }
+        keys
     }
 
     /// 0 to 8 items in each profile.

@@ -3,7 +3,7 @@
 use super::damage::{change_rs, not, only, put};
 use super::{from_least, value, Draft};
 use crate::random::Random;
-use crate::table::{ad, ch, fp, fu, hr, kind_of, mm, rs, th, Technology};
+use crate::table::{ad, ao, ch, fp, fu, hr, kind_of, mm, rs, th, Technology};
 
 pub fn used_field_zero(random: &mut Random, draft: &mut Draft) -> Option<()> {
     let field = random.pick(draft.technology.uses());
@@ -86,6 +86,20 @@ pub fn prorated_not_nuclear(random: &mut Random, draft: &mut Draft) -> Option<()
     let level = random.pick(draft.technology.levels());
     let fields = [(ad::COST, ad::PRORATED), (ad::LEVEL, level.into())];
     put(random, draft, b"AD", &fields);
+    Some(())
+}
+
+pub fn own_addition_not_held(random: &mut Random, draft: &mut Draft) -> Option<()> {
+    let level = level_not_held(random, draft)?;
+    put(random, draft, b"AO", &[(ao::LEVEL, level)]);
+    Some(())
+}
+
+pub fn own_prorated_not_nuclear(random: &mut Random, draft: &mut Draft) -> Option<()> {
+    not(draft, Technology::Nuclear)?;
+    let level = random.pick(draft.technology.levels());
+    let fields = [(ao::COST, ad::PRORATED), (ao::LEVEL, level.into())];
+    put(random, draft, b"AO", &fields);
     Some(())
 }
 
