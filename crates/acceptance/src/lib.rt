@@ -1,4 +1,6 @@
 // Whether a dossier is accepted: 13, 1 to 9 and 17, each with its place.
+#![tactic(auto)]
+
 ghost use Rattle.std.specs.Prelude.{◌≡◌, true, false, [], ◌∷◌, ◌<◌, length};
 ghost use Rattle.records.specs.declared.Answer.TheVariants.{Accepted};
 ghost use Rattle.records.specs.Dossier.{records, scan};

@@ -1,4 +1,6 @@
 // The papers' formulas over plain numbers; each division goes to the nearest, half up.
+#![tactic(auto)]
+
 pub mod highest;
 
 ghost use Rattle.std.specs.Prelude.{◌≡◌, ◌+◌, ◌*◌, ◌-◌, ◌≤◌, max};

@@ -1,5 +1,6 @@
 // The levels at an hour as code hands them over: laminations in arrays, the other levels as numbers. How lines are packed into them is in
 // specs/, its laws in proofs/.
+#![tactic(auto)]
 
 // The levels at an hour: up to 20 laminations with from and to in 0.1 MW and their level, and the other levels where the
 // technology holds them, 0 where it doesn't; all levels in cents.
@@ -18,7 +19,7 @@ pub struct HourLevels {
 
 // What they are beside their laminations. Between layers the laminations are in lent arrays: handed on as values they would be copied at
 // each step.
-#[derive(Drop)]
+#[derive(Clone, Copy)]
 pub struct SingleLevels {
     pub technology: u8,
     pub profile: usize,

@@ -1,4 +1,6 @@
 // Bench for other languages. Each function answers one 64-bit number (specs/Codes.antt); include/bench.h declares them.
+#![tactic(auto)]
+
 ghost use Rattle.std.specs.Prelude.{◌≡◌, [], ◌∷◌, ◌/◌, ◌%◌, ◌<◌, length};
 ghost use Rattle.station.specs.InForce.{query};
 ghost use Rattle.records.specs.Record.{mark, kind_of};

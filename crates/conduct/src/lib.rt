@@ -1,4 +1,6 @@
 // The conduct test, worked out through the index.
+#![tactic(auto)]
+
 mod refusals;
 
 ghost use Rattle.std.specs.Prelude.{◌≡◌, ◌<◌, ◌≤◌, length};

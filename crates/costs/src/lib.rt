@@ -1,5 +1,7 @@
 // The sums behind the levels, in micro-dollars, worked out through the index: adders and maintenance, and each technology's
 // formulas. The definitions are in specs/, their laws in proofs/.
+#![tactic(auto)]
+
 pub mod hydro;
 pub mod maintenance;
 pub mod nuclear;

@@ -2,7 +2,7 @@ pub mod Group
 pub mod Loops
 pub mod Least
 pub mod Places
-pub mod Hidden
+pub mod Hiding
 pub mod Held
 pub mod Filling
 pub mod Fewer

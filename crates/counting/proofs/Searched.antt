@@ -31,7 +31,7 @@ use Rattle.counting.specs.Sweep.{shown, group, ids_from, group_in, place_in, rec
 use Rattle.counting.specs.Sweep.{never, nowhere, least_of, swept_by, stepped, swept_in, answer_at}
 use Rattle.counting.proofs.Group.{group-apart}
 use Rattle.counting.proofs.Least.{least_since, least-none, least_more, each_append, counts-least}
-use Rattle.counting.proofs.Hidden.{same_truth, counts-shown, unshown-fits}
+use Rattle.counting.proofs.Hiding.{same_truth, counts-shown, unshown-fits}
 use Rattle.counting.proofs.Loops.{since-first, fits-first}
 use Rattle.counting.proofs.Places.{stands, told, lowest, lowest-same, lowest-those, lowest-permuted, first-lowest}
 

@@ -1,4 +1,6 @@
 // 6: the first record that counts at some hour and doesn't fit the technology. The definitions are in specs/, their laws in proofs/.
+#![tactic(auto)]
+
 ghost use Rattle.std.specs.Prelude.{◌≡◌, true, cond, eqb, ◌+◌, ◌*◌, ◌/◌, ◌<◌, ◌≤◌, min, max, length, take, drop};
 ghost use Rattle.lists.specs.Lists.{Each, Member, those};
 ghost use Rattle.records.specs.Table.{marks};
@@ -16,7 +18,7 @@ use trials::tried_at;
 
 // What is known behind a record in the order of kind, key and issue: the kind and key of the next, the least first hour of these, and the
 // least place of a record that counts and doesn't fit.
-#[derive(Drop)]
+#[derive(Clone, Copy)]
 pub struct Swept {
     pub group: u64,
     pub least: u64,

@@ -1,5 +1,7 @@
 // The index of an hour, made of that of all records. Only kinds that may have first hours have other current records at another hour, and their slots lie
 // together.
+#![tactic(auto)]
+
 pub mod owners;
 
 ghost use Rattle.std.specs.Prelude.{◌≡◌, true, false, cond, ℕ, ◌+◌, ◌<◌, ◌≤◌, leb, length};

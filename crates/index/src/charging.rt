@@ -11,7 +11,7 @@ use crate::{higher_of, issue_held, newer_of};
 
 // What the record of an interval says: the issue plus 1, the price plus 2^31. Each number is read once, so that the compiler takes it with one load.
 // Interval 0 stands for no such record.
-#[derive(Drop)]
+#[derive(Clone, Copy)]
 pub struct Interval {
     pub n: usize,
     pub issue: u64,

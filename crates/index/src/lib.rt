@@ -1,4 +1,6 @@
 // One pass over a dossier fills an index: for each kind and key the place of the current record.
+#![tactic(auto)]
+
 pub mod charging;
 pub mod keys;
 pub mod reader;

@@ -1,4 +1,5 @@
 // The report's lines as bytes, 15 and 16, and what the program prints. The definitions are in specs/, their laws in proofs/.
+#![tactic(auto)]
 
 // What a report gives its caller: how many bytes were written, or a refusal.
 #[derive(Drop)]

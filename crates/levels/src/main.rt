@@ -1,6 +1,8 @@
 // The program `levels`: reads a big-endian 4-byte hour and then a dossier from standard input, and prints the report or the refusal. What it prints for any
 // input is `prints` of the layer layout. Which bytes the system's calls read and write is in no contract: it is assumed that reading leaves the input in
 // the buffer, or as much of it as the buffer holds, and that writing writes what it is handed.
+#![tactic(auto)]
+
 ghost use Rattle.std.specs.Prelude.{◌≡◌, List, ℕ, ◌≤◌, length, take};
 ghost use Rattle.text.specs.Text.{over};
 ghost use Rattle.layout.specs.Report.{longest_report, prints};

@@ -1,5 +1,7 @@
 // A price and an offer against levels in arrays: the limit, the laminations that a pair overlaps. The shapes of the definitions that code
 // takes are in specs/, their laws in proofs/.
+#![tactic(auto)]
+
 ghost use Rattle.std.specs.Prelude.{◌≡◌, ◌+◌, ◌*◌, ◌<◌, ◌≤◌, ◌/◌, min, length};
 ghost use Rattle.fields.specs.Numbers.{number, biased_of};
 ghost use Rattle.arrays.specs.Packed.{laminations_from, in_arrays};
@@ -9,7 +11,7 @@ ghost use Rattle.limits.specs.Thresholds.{fails_at, fails_in, first_failing, lea
 use verdicts::Verdict;
 
 // What a TH says of a condition and level.
-#[derive(Drop)]
+#[derive(Clone, Copy)]
 pub struct Threshold {
     pub percent: u16,
     pub margin: u32,
@@ -17,7 +19,7 @@ pub struct Threshold {
 }
 
 // A pair of an offer: from where to where it reaches, in 0.1 MW, and its price, held plus 2^31.
-#[derive(Drop)]
+#[derive(Clone, Copy)]
 pub struct Pair {
     pub low: u64,
     pub high: u64,

@@ -1,5 +1,7 @@
 // What the definitions need of lists and of tests over many things, and no paper defines; and what code needs of a test. The
 // definitions are in specs/, their laws in proofs/.
+#![tactic(auto)]
+
 ghost use Rattle.std.specs.Prelude.{◌≡◌, cond};
 
 // One of two numbers, without a branch.

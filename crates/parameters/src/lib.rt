@@ -1,5 +1,7 @@
 // What the current records say, by the paper's names, read through the index; each with its highest value, on which the
 // sums in 64 bits rest. The laws are in proofs/.
+#![tactic(auto)]
+
 ghost use Rattle.std.specs.Prelude.{◌≡◌, cond, ◌≤◌, length, eqb};
 ghost use Rattle.records.specs.Dossier.{records};
 ghost use Rattle.station.specs.Parameters.{parameters, amounts, technology, capacity, factor, start_heat, no_load_heat, incremental_fuel, charge, efficiency};

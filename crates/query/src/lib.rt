@@ -1,4 +1,6 @@
 // What a query draws before anything is asked of its levels. Every query begins here.
+#![tactic(auto)]
+
 mod profile;
 
 ghost use Rattle.std.specs.Prelude.{◌≡◌, not, [], ◌∷◌};

@@ -1,10 +1,13 @@
 // The records of a dossier. The table of marks, what one record may draw, and a raise are in specs/, their laws in proofs/.
+#![tactic(auto)]
+
 pub mod marks;
 
 ghost use Rattle.std.specs.Prelude.{◌≡◌, cond, ◌||◌, ◌+◌, ◌*◌, ◌<◌, ◌≤◌, eqb, get_or};
 ghost use Rattle.lists.specs.Tests.{between};
 ghost use Rattle.fields.specs.Numbers.{number, biased};
-ghost use Rattle.records.specs.Table.{RS, HP, FU, AD, MM, RQ, HR, CH, TH, FP, LC, AO, FV, AV, MV, marks};
+ghost use Rattle.records.specs.Table;
+ghost use Rattle.records.specs.Table.{marks};
 ghost use Rattle.records.specs.Record.{mark, is_dated, kind_of, size, ranges_hold};
 ghost use Rattle.records.specs.MarkShapes.{begins, shape_of, key_field, key_fits, key_test};
 
@@ -16,7 +19,7 @@ pub enum Answer {
 }
 
 // A mark's whole length, the bytes of its key, and the lowest and highest of its key fields.
-#[derive(Drop)]
+#[derive(Clone, Copy)]
 pub struct MarkShape {
     pub length: usize,
     pub width: usize,
@@ -163,7 +166,7 @@ pub fn kind_of(mark: usize) -> usize
 
 // The length of records of the marks that few dossiers have.
 fn rare_length(mark: usize) -> usize
-    requires { (LC ≤ mark) × (mark < marks) }
+    requires { (Table.LC ≤ mark) × (mark < marks) }
     ensures { result ≡ size mark }
 {
     if mark == marks::FV {
@@ -387,55 +390,55 @@ fn price(s: &[u8], at: usize) -> bool
 
 // The ranges of each mark.
 pub fn ch_ok(s: &[u8]) -> bool
-    ensures { result ≡ ranges_hold CH s.now }
+    ensures { result ≡ ranges_hold Table.CH s.now }
 {
     let m = CH;
     in2(s, 6, m.lowest[0], m.highest[0]) & price(s, 8) & in4(s, 12, 0, 1000000)
 }
 
 pub fn hr_ok(s: &[u8]) -> bool
-    ensures { result ≡ ranges_hold HR s.now }
+    ensures { result ≡ ranges_hold Table.HR s.now }
 {
     let m = HR;
     in1(s, 6, m.lowest[0], m.highest[0]) & price(s, 7)
 }
 
 pub fn fp_ok(s: &[u8]) -> bool
-    ensures { result ≡ ranges_hold FP s.now }
+    ensures { result ≡ ranges_hold Table.FP s.now }
 {
     let m = FP;
     in2(s, 6, m.lowest[0], m.highest[0]) & price(s, 8)
 }
 
 pub fn lc_ok(s: &[u8]) -> bool
-    ensures { result ≡ ranges_hold LC s.now }
+    ensures { result ≡ ranges_hold Table.LC s.now }
 {
     in4(s, 6, 0, 2000000000)
 }
 
 pub fn hp_ok(s: &[u8]) -> bool
-    ensures { result ≡ ranges_hold HP s.now }
+    ensures { result ≡ ranges_hold Table.HP s.now }
 {
     let m = HP;
     in1(s, 6, m.lowest[0], m.highest[0]) & in2(s, 7, 0, 20000) & in4(s, 9, 0, 20000000)
 }
 
 pub fn fu_ok(s: &[u8]) -> bool
-    ensures { result ≡ ranges_hold FU s.now }
+    ensures { result ≡ ranges_hold Table.FU s.now }
 {
     let m = FU;
     in1(s, 6, m.lowest[0], m.highest[0]) & in4(s, 7, 0, 400000000) & in4(s, 11, 0, 400000000)
 }
 
 pub fn fv_ok(s: &[u8]) -> bool
-    ensures { result ≡ ranges_hold FV s.now }
+    ensures { result ≡ ranges_hold Table.FV s.now }
 {
     let m = FV;
     in1(s, 10, m.lowest[0], m.highest[0]) & in4(s, 11, 0, 400000000) & in4(s, 15, 0, 400000000)
 }
 
 pub fn ad_ok(s: &[u8]) -> bool
-    ensures { result ≡ ranges_hold AD s.now }
+    ensures { result ≡ ranges_hold Table.AD s.now }
 {
     let m = AD;
     in1(s, 6, m.lowest[0], m.highest[0])
@@ -445,7 +448,7 @@ pub fn ad_ok(s: &[u8]) -> bool
 }
 
 pub fn ao_ok(s: &[u8]) -> bool
-    ensures { result ≡ ranges_hold AO s.now }
+    ensures { result ≡ ranges_hold Table.AO s.now }
 {
     let m = AO;
     in1(s, 6, m.lowest[0], m.highest[0])
@@ -456,7 +459,7 @@ pub fn ao_ok(s: &[u8]) -> bool
 }
 
 pub fn av_ok(s: &[u8]) -> bool
-    ensures { result ≡ ranges_hold AV s.now }
+    ensures { result ≡ ranges_hold Table.AV s.now }
 {
     let m = AV;
     in1(s, 10, m.lowest[0], m.highest[0])
@@ -466,7 +469,7 @@ pub fn av_ok(s: &[u8]) -> bool
 }
 
 pub fn mm_ok(s: &[u8]) -> bool
-    ensures { result ≡ ranges_hold MM s.now }
+    ensures { result ≡ ranges_hold Table.MM s.now }
 {
     let m = MM;
     in1(s, 6, m.lowest[0], m.highest[0])
@@ -478,7 +481,7 @@ pub fn mm_ok(s: &[u8]) -> bool
 }
 
 pub fn mv_ok(s: &[u8]) -> bool
-    ensures { result ≡ ranges_hold MV s.now }
+    ensures { result ≡ ranges_hold Table.MV s.now }
 {
     let m = MV;
     in1(s, 10, m.lowest[0], m.highest[0])
@@ -490,7 +493,7 @@ pub fn mv_ok(s: &[u8]) -> bool
 }
 
 pub fn rq_ok(s: &[u8]) -> bool
-    ensures { result ≡ ranges_hold RQ s.now }
+    ensures { result ≡ ranges_hold Table.RQ s.now }
 {
     let m = RQ;
     in1(s, 6, m.lowest[0], m.highest[0])
@@ -501,7 +504,7 @@ pub fn rq_ok(s: &[u8]) -> bool
 }
 
 pub fn th_ok(s: &[u8]) -> bool
-    ensures { result ≡ ranges_hold TH s.now }
+    ensures { result ≡ ranges_hold Table.TH s.now }
 {
     let m = TH;
     in1(s, 6, m.lowest[0], m.highest[0])
@@ -512,7 +515,7 @@ pub fn th_ok(s: &[u8]) -> bool
 }
 
 pub fn rs_ok(s: &[u8]) -> bool
-    ensures { result ≡ ranges_hold RS s.now }
+    ensures { result ≡ ranges_hold Table.RS s.now }
 {
     in1(s, 6, 1, 4)
         & in2(s, 7, 1, 20000)

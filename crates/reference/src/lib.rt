@@ -1,4 +1,6 @@
 // The reference levels at an hour, in arrays.
+#![tactic(auto)]
+
 mod laminations;
 
 ghost use Rattle.std.specs.Prelude.{◌≡◌, [], ◌∷◌, true, ◌≤◌, length, replicate};

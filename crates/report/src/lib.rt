@@ -1,4 +1,6 @@
 // The report, and what the program `levels` prints. The laws of both are in proofs/.
+#![tactic(auto)]
+
 ghost use Rattle.std.specs.Prelude.{◌≡◌, length};
 ghost use Rattle.station.specs.InForce.{query};
 ghost use Rattle.lookup.specs.Parts.{Empty};

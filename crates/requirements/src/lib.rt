@@ -1,4 +1,6 @@
 // 7, 8, 9 and 17: the curve, the fuel, the window and the forecast.
+#![tactic(auto)]
+
 ghost use Rattle.std.specs.Prelude.{◌≡◌, ◌-◌, ◌≤◌, length};
 ghost use Rattle.lists.specs.Tests.{all_to};
 ghost use Rattle.records.specs.Table.{FU, HR, FP};

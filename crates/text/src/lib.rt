@@ -1,6 +1,8 @@
 // How the report's numbers and words are written as bytes, each at the front of a lent buffer. A
 // writer returns how many bytes it wrote; the next one is lent the buffer from there on. The
 // lengths can be had before anything is written.
+#![tactic(auto)]
+
 ghost use Rattle.std.specs.Prelude.{◌≡◌, ◌++◌, ◌+◌, ◌<◌, ◌≤◌, length};
 ghost use Rattle.text.specs.Text.{over, decimal, tenths, hundredths, refusal_line};
 
@@ -9,7 +11,8 @@ pub fn put(buf: &mut [u8], word: &[u8]) -> usize
     requires { length word.now ≤ length buf.old }
     ensures { (result ≡ length word.now) × (buf.new ≡ over word.now buf.old) }
 {
-    bytes::copy(word, buf)
+    buf[..word.len()].copy_from_slice(word);
+    word.len()
 }
 
 // How many digits a number has: one more than the power of ten that it reaches. The power is held

@@ -1,4 +1,6 @@
 // Whether a record fits the technology. The definitions are in specs/, their laws in proofs/.
+#![tactic(auto)]
+
 ghost use Rattle.std.specs.Prelude.{◌≡◌, true, cond, ◌&&◌, ◌||◌, not, ◌<◌, ltb, eqb};
 ghost use Rattle.records.specs.Table.{RS, FU, AD, MM, AO, FV, AV, MV, thermal, hydro, marks};
 ghost use Rattle.records.specs.Record.{mark};

@@ -1,4 +1,6 @@
 // 4: kind, key and issue seen before.
+#![tactic(auto)]
+
 ghost use Rattle.std.specs.Prelude.{◌≡◌, [], ◌≤◌, length};
 ghost use Rattle.records.specs.declared.Answer.TheVariants.{Accepted};
 ghost use Rattle.records.specs.Dossier.{records, scan};

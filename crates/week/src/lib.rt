@@ -1,4 +1,6 @@
 // The charging week: the price and energy of each interval, in two lent lists.
+#![tactic(auto)]
+
 ghost use Rattle.std.specs.Prelude.{◌≡◌, cond, List, ◌++◌, ℕ, ◌+◌, ◌-◌, ◌≤◌, ◌<◌, eqb, ℤ, pos, length, get_or, set, drop};
 ghost use Rattle.fields.specs.Numbers.{unbiased};
 ghost use Rattle.records.specs.Table.{CH};

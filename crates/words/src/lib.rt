@@ -1,5 +1,7 @@
 // The levels at an hour as 66 numbers in a lent list, for callers in other languages. The definitions are in specs/, their
 // laws in proofs/.
+#![tactic(auto)]
+
 ghost use Rattle.std.specs.Prelude.{◌≡◌, ◌++◌, ◌≤◌, length, take, drop, replicate};
 ghost use Rattle.station.specs.InForce.{query};
 ghost use Rattle.lookup.specs.Parts.{Empty};
