@@ -51,7 +51,7 @@ twin-of : (r s : List ℕ) → kind r ≡ kind s → key_of r ≡ key_of s → i
 unfolding twin
 twin-of r s a b c = rw (a, b, c, eq-eqb (kind s) (kind s) refl, eq-eqb (key_of s) (key_of s) refl, eq-eqb (issue s) (issue s) refl) refl
 
-same-member : {l : List (List ℕ)} {r s : List ℕ} → Distinct l → Member r l → Member s l → twin r s ≡ true → twin s r ≡ true → r ≡ s
+same-member : {r s : List ℕ} {l : List (List ℕ)} → Distinct l → Member r l → Member s l → twin r s ≡ true → twin s r ≡ true → r ≡ s
 same-member d here here e f = refl
 same-member d here (there m) e f = absurd (false≢true (sym (member-each m d.0) ∙ e))
 same-member d (there m) here e f = absurd (false≢true (sym (member-each m d.0) ∙ f))

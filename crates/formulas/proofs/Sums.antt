@@ -50,7 +50,7 @@ list_to-mono (suc n) h = more (h (suc n)) (list_to-mono n h)
 insert-mono : {x y : ℕ} {l m : List ℕ} → x ≤ y → Pairwise ◌≤◌ l m → Pairwise ◌≤◌ (insert x l) (insert y m)
 unfolding insert
 insert-mono h none = more h none
-insert-mono h (more g r) = more (max-mono h g) (insert-mono (min-mono h g) r)
+insert-mono {x = x} {y = y} h (more {a = a} {b = b} g r) = more (max-mono h g) (insert-mono {x = min x a} {y = min y b} (min-mono h g) r)
 
 falling-mono : {l m : List ℕ} → Pairwise ◌≤◌ l m → Pairwise ◌≤◌ (falling l) (falling m)
 unfolding falling

@@ -1,0 +1,46 @@
+use borrow.Author.Rules.{rules}
+use mathlib.Core.Path.{◌≡◌}
+use Prim.Native.Nat.{min}
+use native.Mathlib.Nat.{le_refl}
+use native.Mathlib.Omega.{arith}
+use lib.Dec.{lit≤}
+use Rattle.arithmetic.specs.Highest.{in_turn, PriceIn}
+use Rattle.arithmetic.proofs.Selection.{topmost-le, all-least, threshold-lowest, none_above, lowest-in, topmost-in}
+use Rattle.arithmetic.proofs.highest.price_threshold.Goals as goal
+
+highest-price : PriceIn 2147683648
+highest-price = record { low = lit≤ tt; high = le_refl 2147683648 }
+
+-- the lowest is a price
+low-price : (c : goal.Then-s-most) → PriceIn c.lowest-low.result
+low-price c =
+    let e : c.lowest-low.result ≡ in_turn min 2147683648 c.args.s.now = c.lowest-low.ensures in
+    rw e (lowest-in 2147683648 c.requires.3 highest-price)
+
+pub returns-then-s-most : goal.returns-then-s-most
+returns-then-s-most c =
+    let p = low-price c in
+    (threshold-lowest _ _ _ 2147683648 c.args.s.now c.requires.1 c.if-s-most.true (omega arith), p.low, p.high)
+
+pub threshold-requires : goal.threshold-requires
+threshold-requires c =
+    let s = c.args.s.now in
+    let low = c.lowest-low.result in (
+      search rules,
+      search rules,
+      omega (arith, topmost-le low s),
+      omega (arith, all-least low 2147683648 s (omega arith)),
+      omega (arith, none_above c.topmost-high.result low s (omega arith)),
+    )
+
+-- the lowest is a price
+low-price-at-2 : (c : goal.After-threshold) → PriceIn c.lowest-low.result
+low-price-at-2 c =
+    let e : c.lowest-low.result ≡ in_turn min 2147683648 c.args.s.now = c.lowest-low.ensures in
+    rw e (lowest-in 2147683648 c.requires.3 highest-price)
+
+pub returns : goal.returns
+returns c =
+    let p = low-price-at-2 c in
+    let q = topmost-in c.lowest-low.result c.requires.3 p in
+    (c.threshold.ensures.0, omega arith, omega arith)

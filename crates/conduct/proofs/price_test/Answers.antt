@@ -1,0 +1,20 @@
+use mathlib.Core.Path.{ap, ◌∙◌}
+use mir.Facts.{to_z-of_z}
+use Rattle.query.proofs.WayIn.{way-closed}
+use Rattle.verdicts.proofs.Settled.{on-price-drawn}
+use Rattle.verdicts.specs.Verdict.{on_price}
+use Rattle.conduct.proofs.price_test.Goals as goal
+
+pub returns-in-Closed : goal.returns-in-Closed
+returns-in-Closed c =
+    let a = c.args in
+    on-price-drawn _ _ _ _ _ (way-closed a.d.now a.owner c.way_in.result c.way_in.ensures c.in-Closed.is a.hour)
+
+pub returns-in-Short : goal.returns-in-Short
+returns-in-Short c = c.price_test_in.ensures ∙ ap (on_price _ _ _ _) (to_z-of_z c.ranges.price)
+
+pub returns-in-Narrow : goal.returns-in-Narrow
+returns-in-Narrow c = c.price_test_in-in-Narrow.ensures ∙ ap (on_price _ _ _ _) (to_z-of_z c.ranges.price)
+
+pub returns-in-Wide : goal.returns-in-Wide
+returns-in-Wide c = c.price_test_in-in-Wide.ensures ∙ ap (on_price _ _ _ _) (to_z-of_z c.ranges.price)

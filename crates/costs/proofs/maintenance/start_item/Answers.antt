@@ -1,0 +1,24 @@
+use mathlib.Core.Path.{ap₂, ◌∙◌}
+use Prim.Native.Nat.{ℕ, ◌*◌}
+use native.Mathlib.Nat.{mul-le-mul}
+use native.Mathlib.Omega.{arith}
+use Rattle.formulas.specs.Exact.{quotient}
+use Rattle.costs.proofs.maintenance.start_item.Goals as goal
+
+pub overflow_mul-cost : goal.overflow_mul-cost
+overflow_mul-cost c = omega (arith, mul-le-mul c.item_cost-cost.ensures.1 c.item_hours-hours.ensures.1)
+
+pub overflow_mul-cost-2 : goal.overflow_mul-cost-2
+overflow_mul-cost-2 c = omega (arith, mul-le-mul c.item_cost-cost.ensures.1 c.item_hours-hours.ensures.1)
+
+pub returns : goal.returns
+returns c =
+    (
+      c.share.ensures.0 ∙ ap₂ quotient (ap₂ (λ (x y : ℕ). x * y * 1000) c.item_cost-cost.ensures.0 c.item_hours-hours.ensures.0)
+          c.item_interval-interval.ensures.0,
+      omega (
+        arith,
+        c.share.ensures.1,
+        mul-le-mul c.item_cost-cost.ensures.1 c.item_hours-hours.ensures.1,
+      ),
+    )

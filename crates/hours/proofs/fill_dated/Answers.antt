@@ -1,0 +1,52 @@
+use native.Mathlib.Omega.{arith}
+use mathlib.Core.Path.{refl}
+use Prim.Native.Nat.{◌≤◌, ◌-◌}
+use lib.ListN.{length}
+use Rattle.hours.proofs.Loop.{begin, finish, known, its-size, its-least, slot-in, turns}
+use Rattle.hours.proofs.fill_dated.Goals as goal
+
+pub loop-at-init : goal.loop-at-init
+loop-at-init c = (omega arith, refl, begin _ _ _ c.requires.2)
+
+pub returns-then-rest-lt-SHORTEST : goal.returns-then-rest-lt-SHORTEST
+returns-then-rest-lt-SHORTEST c =
+    absurd (its-least _ _ _ _ _ c.loop-at-test.true c.loop-at.invariant.2 c.if-rest-lt-SHORTEST.true)
+
+pub put_record-at-requires : goal.put_record-at-requires
+put_record-at-requires c =
+    let t = c.loop-at-test.true in
+    (
+      known _ _ _ _ _ t c.loop-at.invariant.2,
+      omega (arith, slot-in _ _ _ _ _ t c.loop-at.invariant.2, c.loop-at.invariant.1, c.requires.0),
+      c.requires.1,
+      omega (arith, t, c.requires.1),
+    )
+
+-- how long the record is
+abbrev Turn : Type 0
+Turn = tie.After-slice-known2 invariant-loop decreases-loop
+
+its-length : (c : Turn) → let l = c.before.before.before.before.before.before.before in
+    (1 ≤ c.before.before.put_record.result) × (c.before.before.put_record.result ≤ length l.before.before.before.args.d.now - l.loop.at)
+its-length c =
+    let t = c.before.before.before.before.before.before in
+    rw c.before.before.put_record.ensures.0 (its-size _ _ _ _ _ t.loop-test.true t.before.loop.invariant.2)
+
+pub overflow_add-at : goal.overflow_add-at
+overflow_add-at c = omega (arith, its-length c)
+
+pub loop-at-smaller : goal.loop-at-smaller
+loop-at-smaller c = omega (arith, its-length c)
+
+pub loop-at-preserved : goal.loop-at-preserved
+loop-at-preserved c =
+    let p = c.put_record-at in (
+      omega (arith, its-length c),
+      omega (arith, p.auto, c.loop-at.invariant.1),
+      turns _ _ _ _ _ c.loop-at-test.true c.loop-at.invariant.2 p.ensures.0 p.ensures.1,
+    )
+
+pub returns : goal.returns
+returns c =
+    let a = c.args in
+    finish a.hour a.d.now a.index.now c.loop-at.index c.loop-at.at c.loop-at-test.false c.loop-at.invariant.2

@@ -1,0 +1,7 @@
+use mathlib.Core.Path.{refl}
+use Rattle.index.specs.Slots.{slot}
+use Rattle.index.proofs.keys.slot_lc.Goals as goal
+
+pub returns : goal.returns
+unfolding slot
+returns c = refl

@@ -1,0 +1,13 @@
+use mathlib.Core.Path.{refl}
+use Rattle.records.specs.Table.{RQ, table, row_of}
+use Rattle.records.specs.Record.{is_dated, widths, size, fields_at}
+use Rattle.index.proofs.Entries.{as_short, as_long}
+use Rattle.index.proofs.reader.read_rq.Goals as goal
+
+pub returns-then-s : goal.returns-then-s
+unfolding size widths row_of table fields_at
+returns-then-s c = as_short RQ _ c.if-s.true
+
+pub returns : goal.returns
+unfolding is_dated size widths row_of table fields_at
+returns c = as_long RQ _ refl c.if-s.false c.rq_ok.ensures c.entry_rq.ensures c.checked.ensures

@@ -1,0 +1,65 @@
+use mathlib.Core.Path.{refl, ◌∙◌}
+use Prim.Native.Nat.{◌+◌, ◌-◌, ◌≤◌}
+use native.Mathlib.Nat.{mul-le-mul}
+use native.Mathlib.Omega.{arith}
+use Rattle.lists.specs.Tests.{among}
+use Rattle.records.specs.Table.{RS, HP, table}
+use Rattle.records.specs.Record.{datable}
+use Rattle.records.specs.Dossier.{records}
+use Rattle.lookup.proofs.Held.{says-always}
+use Rattle.requirements.proofs.Curve.{along-first, along-next, along-last}
+use Rattle.requirements.proofs.curve_holds.Goals as goal
+
+pub hp-requires : goal.hp-requires
+hp-requires c = (c.requires.0, omega arith, omega arith)
+
+pub loop-i-init : goal.loop-i-init
+unfolding datable among table
+loop-i-init c =
+    (
+      omega arith,
+      omega arith,
+      omega arith,
+      omega arith,
+      along-first (records c.args.d.now) c.hp.ensures (c.output-w.ensures.0 ∙ says-always c.requires.0 HP 1 refl 1)
+          (c.heat-h.ensures.0 ∙ says-always c.requires.0 HP 1 refl 2),
+    )
+
+abbrev Turn : Type 0
+Turn = tie.After-rise2 invariant-loop decreases-loop
+
+-- what is multiplied across, at most
+last-rises : (c : Turn) → let l = c.before.before.before.before.before.before.loop in (l.dw ≤ 20000) × (l.dh ≤ 20000000)
+last-rises c = let l = c.before.before.before.before.before.before.loop in (l.invariant.2, l.invariant.3)
+
+rises : (c : Turn) → (c.before.rise.result ≤ 20000) × (c.rise2.result ≤ 20000000)
+rises c = (
+  omega (arith, c.before.rise.ensures, c.before.before.before.output2.ensures.1),
+  omega (arith, c.rise2.ensures, c.before.before.heat2.ensures.1),
+)
+
+pub overflow_mul-ok : goal.overflow_mul-ok
+overflow_mul-ok c = omega (arith, mul-le-mul (last-rises c).1 (rises c).0)
+
+pub overflow_mul-ok-in-loop-i : goal.overflow_mul-ok-in-loop-i
+overflow_mul-ok-in-loop-i c = omega (arith, mul-le-mul (rises c).1 (last-rises c).0)
+
+pub loop-i-preserved : goal.loop-i-preserved
+unfolding datable among table
+loop-i-preserved c =
+    let i = c.loop-i.i in (
+      omega arith,
+      omega arith,
+      (rises c).0,
+      (rises c).1,
+      along-next (records c.args.d.now) i c.loop-i.invariant.0 c.loop-i.invariant.4 c.hp-in-loop-i.ensures
+          (c.output-w1.ensures.0 ∙ says-always c.requires.0 HP (i + 1) refl 1)
+          (c.heat-h1.ensures.0 ∙ says-always c.requires.0 HP (i + 1) refl 2)
+          c.rise-a.ensures c.rise-b.ensures refl refl,
+    )
+
+pub returns : goal.returns
+unfolding datable among table
+returns c =
+    along-last (records c.args.d.now) c.args.n c.loop-i.i c.requires.1 c.loop-i-test.false c.loop-i.invariant.1 c.loop-i.invariant.4
+    (c.capacity.ensures.0 ∙ says-always c.requires.0 RS 0 refl 1)
