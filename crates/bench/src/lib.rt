@@ -1,4 +1,4 @@
-// Bench for other languages. Each function answers one 64-bit number (specs/Codes.antt); include/bench.h declares them.
+// Bench for other languages. Each function answers one 64-bit number (specs/Codes.antt); the crate bench_c exports them to C.
 #![tactic(auto)]
 
 ghost use Rattle.std.specs.Prelude.{◌≡◌, [], ◌∷◌, ◌/◌, ◌%◌, ◌<◌, length};
@@ -25,8 +25,7 @@ fn code(class: u64, a: usize, b: usize) -> u64
 }
 
 // Whether a dossier is accepted.
-#[unsafe(no_mangle)]
-pub extern "C" fn bench_accept(dossier: &[u8]) -> u64
+pub fn bench_accept(dossier: &[u8]) -> u64
     ensures { result ≡ answer_code (answer dossier.now) }
 {
     match acceptance::accept(dossier) {
@@ -36,8 +35,7 @@ pub extern "C" fn bench_accept(dossier: &[u8]) -> u64
 }
 
 // Where the current record of a mark and key stands in a dossier.
-#[unsafe(no_mangle)]
-pub extern "C" fn bench_current(dossier: &[u8], letters: u16, key: u32) -> u64
+pub fn bench_current(dossier: &[u8], letters: u16, key: u32) -> u64
     ensures { result ≡ part_code (lookup_part dossier.now (kind_of (mark (letters / 256 ∷ letters % 256 ∷ []))) key) }
 {
     let part = lookup::current_by_number(dossier, letters, key);
@@ -47,8 +45,7 @@ pub extern "C" fn bench_current(dossier: &[u8], letters: u16, key: u32) -> u64
 }
 
 // The levels at an hour, as words in a lent list; class 0 with 66.
-#[unsafe(no_mangle)]
-pub extern "C" fn bench_levels(dossier: &[u8], hour: u32, owner: u8, words: &mut [u64]) -> u64
+pub fn bench_levels(dossier: &[u8], hour: u32, owner: u8, words: &mut [u64]) -> u64
     ensures answer { result ≡ words_code (words_answer dossier.now (query hour owner) (length words.old)) }
     ensures words { words.new ≡ words_after dossier.now (query hour owner) words.old }
 {
@@ -59,8 +56,7 @@ pub extern "C" fn bench_levels(dossier: &[u8], hour: u32, owner: u8, words: &mut
 }
 
 // The conduct test of an energy offer.
-#[unsafe(no_mangle)]
-pub extern "C" fn bench_energy_test(
+pub fn bench_energy_test(
     dossier: &[u8],
     hour: u32,
     owner: u8,
@@ -77,8 +73,7 @@ pub extern "C" fn bench_energy_test(
 }
 
 // The conduct test of a single price in cents.
-#[unsafe(no_mangle)]
-pub extern "C" fn bench_price_test(
+pub fn bench_price_test(
     dossier: &[u8],
     hour: u32,
     owner: u8,
@@ -96,8 +91,7 @@ pub extern "C" fn bench_price_test(
 }
 
 // The report, written to a lent buffer.
-#[unsafe(no_mangle)]
-pub extern "C" fn bench_report(dossier: &[u8], hour: u32, owner: u8, buffer: &mut [u8]) -> u64
+pub fn bench_report(dossier: &[u8], hour: u32, owner: u8, buffer: &mut [u8]) -> u64
     ensures answer { result ≡ written_code (written (report_answer dossier.now (query hour owner) (length buffer.old))
         (length (report dossier.now (query hour owner)))) }
     ensures buffer { buffer.new ≡ buffer_after dossier.now (query hour owner) buffer.old }
@@ -109,8 +103,7 @@ pub extern "C" fn bench_report(dossier: &[u8], hour: u32, owner: u8, buffer: &mu
 }
 
 // The charging week: prices in cents and energies in kWh, in two lent lists; class 0 with 2,016.
-#[unsafe(no_mangle)]
-pub extern "C" fn bench_week(dossier: &[u8], prices: &mut [i32], energies: &mut [u32]) -> u64
+pub fn bench_week(dossier: &[u8], prices: &mut [i32], energies: &mut [u32]) -> u64
     ensures answer { result ≡ week_code (week_answer dossier.now (length prices.old) (length energies.old)) }
     ensures prices { prices.new ≡ prices_after dossier.now prices.old energies.old }
     ensures energies { energies.new ≡ energies_after dossier.now prices.old energies.old }

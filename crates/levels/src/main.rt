@@ -1,14 +1,44 @@
 // The program `levels`: reads a big-endian 4-byte hour and then a dossier from standard input, and prints the report or the refusal. What it prints for any
-// input is `prints` of the layer layout. Which bytes the system's calls read and write is in no contract: it is assumed that reading leaves the input in
-// the buffer, or as much of it as the buffer holds, and that writing writes what it is handed.
+// input is `prints` of the layer layout. Which bytes the system's calls read and write is in no contract: it is assumed that each read leaves the next bytes
+// of the input where it is told to, and that writing writes what it is handed. A read or write that fails ends the program with the system's error.
 #![tactic(auto)]
 
-ghost use Rattle.std.specs.Prelude.{◌≡◌, List, ℕ, ◌≤◌, length, take};
+ghost use Rattle.std.specs.Prelude.{◌≡◌, List, ℕ, ◌+◌, ◌<◌, ◌≤◌, length, take, drop, IfOk, OnOk};
+ghost use Rattle.std.specs.Io.KnownBytes.{Consumes, IsAtEnd};
 ghost use Rattle.text.specs.Text.{over};
 ghost use Rattle.layout.specs.Report.{longest_report, prints};
 
 use layout::Written;
-use libc::{STDIN_FILENO, STDOUT_FILENO};
+use std::io;
+use std::io::{Read, Write};
+
+// One read into a buffer behind its first bytes: how many more it has then, none only where the input has ended.
+fn read_behind<R: Read>(reader: &mut R, buf: &mut [u8], at: usize) -> io::Result<usize>
+    requires { at < length buf.old }
+    ensures front { take at buf.new ≡ take at buf.old }
+    ensures fits { IfOk result (λ n. at + n ≤ length buf.new) }
+    ensures bytes { IfOk result (λ n. Consumes (R.remaining reader.old) (R.remaining reader.new) (take n (drop at buf.new))) }
+    ensures end { IfOk result (λ n. n ≡ 0 → IsAtEnd (R.remaining reader.new)) }
+{
+    reader.read(&mut buf[at..])
+}
+
+// Reads until a buffer is full or the input ends: how many bytes it put at the front. They are the reader's next bytes, and where there was room for more, all.
+fn read_full<R: Read>(reader: &mut R, buf: &mut [u8]) -> io::Result<usize>
+    ensures fits { IfOk result (λ n. n ≤ length buf.new) }
+    ensures bytes { IfOk result (λ n. Consumes (R.remaining reader.old) (R.remaining reader.new) (take n buf.new)) }
+    ensures end { IfOk result (λ n. n < length buf.new → IsAtEnd (R.remaining reader.new)) }
+{
+    let mut filled = 0;
+    while filled < buf.len() {
+        let n = read_behind(reader, buf, filled)?;
+        if n == 0 {
+            return Ok(filled);
+        }
+        filled += n;
+    }
+    Ok(filled)
+}
 
 // All that is to be printed for an input i, given n bytes that were read of it: an hour, the longest dossier, and one byte more, which tells that a dossier
 // is too long. So what it says holds of the whole input, however long it is.
@@ -27,10 +57,10 @@ fn answer(read: &[u8], n: usize, out: &mut [u8]) -> usize
     }
 }
 
-fn main() {
+fn main(rt: HostRuntime) -> io::Result<()> {
     let mut input = [0u8; 60005];
-    let n = io::read_full(STDIN_FILENO, &mut input);
+    let n = read_full(&mut rt.stdin(), &mut input)?;
     let mut out = [0u8; layout::LONGEST];
     let len = answer(&input, n, &mut out);
-    io::write_all(STDOUT_FILENO, &out[..len]);
+    io::writer(&rt).write_all(&out[..len])
 }

@@ -16,10 +16,9 @@ use Rattle.records.specs.declared.Answer.TheVariants.{Accepted, Refused as Turne
 use Rattle.records.specs.Answers.{or_else, refuse_if, is_accepted}
 use Rattle.records.proofs.Answers.{or_else-none}
 use Rattle.records.specs.Table.{thermal, nuclear, storage, hydro, HP}
-use Rattle.records.specs.Dossier.{records}
 use Rattle.index.proofs.Turn.{tail}
 use Rattle.station.specs.InForce.{Query, query}
-use Rattle.station.specs.Parameters.{Parameters, Amounts, parameters, amounts, technology}
+use Rattle.station.specs.Parameters.{Parameters, Amounts, technology}
 use Rattle.rules.proofs.Draws.{overlong}
 use Rattle.rules.specs.Curve.{points}
 use Rattle.formulas.specs.Levels.{parameters_at, amounts_at, fuelled, Line, profile, retired, laminations, lines_of, lines, levels, query_answer, shown}

@@ -19,18 +19,17 @@ pub rs-rs-requires : goal.rs-rs-requires
 rs-rs-requires c = whole-indexed c.requires.0
 
 pub unfit_in-requires : goal.unfit_in-requires
-unfit_in-requires c =
-    (
-      c.requires.0,
-      c.requires.1,
-      c.requires.4,
-      c.requires.3,
-      subst Known (sym (c.u8_at.ensures ∙ ap (number 6 1) c.rs-rs.ensures
-          ∙ sym (technology-at (records c.args.d.now)))) (technology-known _ _ (whole-indexed c.requires.0)
-          (one-there (records c.args.d.now) RS 0 c.rs-rs.ensures c.if-rs-eq0.false)),
-      c.rs-rs.ensures,
-      c.requires.2,
-    )
+unfit_in-requires c = (
+  c.requires.0,
+  c.requires.1,
+  c.requires.4,
+  c.requires.3,
+  subst Known (sym (c.u8_at.ensures ∙ ap (number 6 1) c.rs-rs.ensures
+      ∙ sym (technology-at (records c.args.d.now)))) (technology-known _ _ (whole-indexed c.requires.0)
+      (one-there (records c.args.d.now) RS 0 c.rs-rs.ensures c.if-rs-eq0.false)),
+  c.rs-rs.ensures,
+  c.requires.2,
+)
 
 pub unsupported_of-requires : goal.unsupported_of-requires
 unsupported_of-requires c =

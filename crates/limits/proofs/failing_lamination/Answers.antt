@@ -1,6 +1,4 @@
-use borrow.Author.Tests.{not-true}
 use mathlib.Core.Path.{sym, ◌∙◌}
-use Prim.Native.Nat.{◌-◌}
 use native.Mathlib.Omega.{arith}
 use Rattle.limits.specs.Thresholds.{first_failing}
 use Rattle.limits.proofs.Turns.{all_left}
@@ -10,7 +8,7 @@ use Rattle.limits.proofs.failing_lamination.Goals as goal
 pub returns-then-not-fails : goal.returns-then-not-fails
 returns-then-not-fails c =
     let a = c.args in
-    least-passes a.t a.pair a.from.now a.to.now a.cents.now a.least (sym c.fails.ensures ∙ not-true _ c.if-not-fails.true)
+    least-passes a.t a.pair a.from.now a.to.now a.cents.now a.least (sym c.fails.ensures ∙ c.if-not-fails.true)
     a.count c.requires.1
 
 pub loop-i-init : goal.loop-i-init

@@ -7,8 +7,8 @@ use Rattle.limits.proofs.offer_test.Given as goal
 
 abbrev pub invariant-loop-k : goal.invariant-loop-k
 invariant-loop-k l =
-    let l = laminations_from (in_arrays l.from l.to l.cents l.count) 0 l.count in
-    (l.k ≤ l.pairs) × (l.pairs ≤ 20) × (l.low ≡ before l.offer l.k) × (offer_shown l.t l l.offer l.k (l.pairs - l.k) ≡ offer_shown l.t l l.offer 0 l.pairs)
+    let m = laminations_from (in_arrays l.from l.to l.cents l.count) 0 l.count in
+    (l.k ≤ l.pairs) × (l.pairs ≤ 20) × (l.low ≡ before l.offer l.k) × (offer_shown l.t m l.offer l.k (l.pairs - l.k) ≡ offer_shown l.t m l.offer 0 l.pairs)
 
 abbrev pub decreases-loop-k : goal.decreases-loop-k
 decreases-loop-k l = l.pairs - l.k

@@ -1,9 +1,8 @@
 use mathlib.Core.Path.{refl}
-use Prim.Native.Nat.{◌+◌, ◌<◌, ◌≤◌}
+use Prim.Native.Nat.{◌≤◌}
 use native.Mathlib.Omega.{arith}
 use lib.Dec.{eqb}
-use lib.ListN.{length, get_or}
-use Rattle.lookup.specs.Parts.{body_start}
+use lib.ListN.{get_or}
 use Rattle.lookup.proofs.Parts.{first-most, body-none, body-there}
 use Rattle.lookup.proofs.body_of.Goals as goal
 
@@ -12,13 +11,9 @@ returns-then-q-eq0 c =
     let a = c.args in
     body-none a.d.now a.v a.len c.if-q-eq0.true
 
--- where the fields lie
-inside : (c : goal.After-shared_slice_known-2-1-unread) → let a = c.args in
-    (a.v < length a.d.now) × (body_start a.d.now a.v + a.len ≤ length a.d.now)
-inside c = c.requires.1 c.if-q-eq0.false
-
+-- the fields lie within the dossier
 pub bounds-d-q : goal.bounds-d-q
-bounds-d-q c = (inside c).0
+bounds-d-q c = (c.requires.1 c.if-q-eq0.false).0
 
 -- what a first hour takes
 low : (c : goal.After-choose) → c.choose.result ≤ 4
@@ -31,14 +26,6 @@ overflow_add-start c = omega (arith, low c, c.ranges.v)
 
 pub overflow_add-result : goal.overflow_add-result
 overflow_add-result c = omega (arith, low c, c.ranges.v, c.requires.0)
-
--- where the fields lie
-inside-at-2 : (c : goal.Then-q-eq0) → let a = c.args in
-    (a.v < length a.d.now) × (body_start a.d.now a.v + a.len ≤ length a.d.now)
-inside-at-2 c = c.requires.1 c.if-q-eq0.false
-
-pub slice_bounds-result-end : goal.slice_bounds-result-end
-slice_bounds-result-end c = omega (arith, BAD‽c.choose.ensures, (inside-at-2 c).1)
 
 pub returns : goal.returns
 returns c =

@@ -1,4 +1,3 @@
-use Prim.Native.Nat.{◌-◌}
 use native.Mathlib.Omega.{arith}
 use Rattle.records.proofs.EveryMark.{mark-lt}
 use Rattle.records.proofs.Record.{size-ge}

@@ -15,14 +15,13 @@ first_twin-requires c =
 
 pub returns-then-rising-top : goal.returns-then-rising-top
 returns-then-rising-top c =
-    let s = c.scan in
-    let g = c.rising-1.given in
-    let j = s.ensures.1 _ _ _ g.1 in
+    let e = c.in-Ended in
+    let j = c.scan.ensures.1 _ _ _ e.is in
     let i = j.0 in
     let t = c.if-rising-top.true in
-    let z = ltb-true g.0.1.0 _ (and_right g.0.0 _ t) in (
-      scan-rising _ _ (ap (λ (b : Bool). Ended b g.0.1.0 g.0.1.1.0) (sym (and_left g.0.0 _ t)) ∙ sym g.1
-          ∙ s.ensures.0) (omega (arith, z, s.auto)) i,
+    let z = ltb-true e.top _ (and_right e.rising _ t) in (
+      scan-rising _ _ (ap (λ (b : Bool). Ended b e.top e.dated) (sym (and_left e.rising _ t)) ∙ sym e.is
+          ∙ c.scan.ensures.0) (omega (arith, z, c.scan.auto.index)) i,
       λ _. (i, j.2),
     )
 

@@ -7,7 +7,7 @@ pub place_of-requires : goal.place_of-requires
 place_of-requires c =
     let p = c.requires in
     let o = c.open in
-    ((o.ensures.1 c.in-Accepted.is).0, p.1, omega (arith, p.2, o.auto.1.0))
+    ((o.ensures.1 c.in-Accepted.is).0, p.1, omega (arith, p.2, o.auto.index))
 
 pub returns-in-Accepted : goal.returns-in-Accepted
 returns-in-Accepted c =

@@ -1,5 +1,4 @@
 use mathlib.Core.Path.{refl}
-use native.Mathlib.Omega.{arith}
 use Rattle.lookup.proofs.Parts.{record-none, record-there}
 use Rattle.lookup.proofs.record_of.Goals as goal
 
@@ -7,9 +6,6 @@ pub returns-then-v-eq0 : goal.returns-then-v-eq0
 returns-then-v-eq0 c =
     let a = c.args in
     record-none a.d.now a.v a.len c.if-v-eq0.true
-
-pub slice_bounds-result-end : goal.slice_bounds-result-end
-slice_bounds-result-end c = omega (arith, c.requires.1 c.if-v-eq0.false)
 
 pub returns : goal.returns
 returns c =

@@ -1,6 +1,4 @@
-use Prim.Native.Nat.{◌<◌}
 use native.Mathlib.Omega.{arith}
-use lib.ListN.{length}
 use Rattle.index.proofs.Slots.{slot_lt}
 use Rattle.lookup.proofs.Keys.{fuel-key}
 use Rattle.query.proofs.Drawn.{fuel-slot, without, with-fuel}
@@ -22,10 +20,7 @@ returns c =
     let p = c.profile-profile.ensures in
     with-fuel c.args.hour c.requires p.0 p.1 p.2 c.slot_fu.ensures c.if-index-slot_fu-eq0.false
 
-in-index : (c : goal.After-shared_slice_known-3-1-unread) → c.slot_fu.result < length c.args.index.now
-in-index c =
+pub bounds-index-slot_fu : goal.bounds-index-slot_fu
+bounds-index-slot_fu c =
     let p = c.profile-profile.ensures in
     rw c.slot_fu.ensures (fuel-slot c.args.hour c.requires p.0 p.1 p.2)
-
-pub bounds-index-slot_fu : goal.bounds-index-slot_fu
-bounds-index-slot_fu c = in-index c

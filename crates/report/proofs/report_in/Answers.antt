@@ -27,10 +27,13 @@ pub returns-in-Answered : goal.returns-in-Answered
 returns-in-Answered c =
     let args = c.args in
     let g = ready _ _ c.judge_at.ensures.0 c.judge_at.ensures.1 c.in-Answered.is in
-    told-levels args.d.now (query args.hour args.owner) args.buf.now _ _ g.drawn (packed-is g c.profile_levels-lv.ensures c.retired-retired.ensures)
-    c.put_report.ensures
+    let same = packed-is g c.profile_levels-lv.ensures c.retired-retired.ensures in
+    let put = c.put_report.ensures in
+    let told = told-levels args.d.now (query args.hour args.owner) args.buf.now _ _ g.drawn same (put.answer, put.buffer) in
+    record { answer = told.0; buffer = told.1 }
 
 pub returns-in-Refused : goal.returns-in-Refused
 returns-in-Refused c =
     let args = c.args in
-    told-refusal args.d.now (query args.hour args.owner) args.buf.now _ _ (asked-refused _ _ c.judge_at.ensures.0 c.in-Refused.is)
+    let told = told-refusal args.d.now (query args.hour args.owner) args.buf.now _ _ (asked-refused _ _ c.judge_at.ensures.0 c.in-Refused.is) in
+    record { answer = told.0; buffer = told.1 }

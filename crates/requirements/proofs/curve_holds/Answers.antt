@@ -1,5 +1,5 @@
 use mathlib.Core.Path.{refl, ◌∙◌}
-use Prim.Native.Nat.{◌+◌, ◌-◌, ◌≤◌}
+use Prim.Native.Nat.{◌+◌, ◌≤◌}
 use native.Mathlib.Nat.{mul-le-mul}
 use native.Mathlib.Omega.{arith}
 use Rattle.lists.specs.Tests.{among}
@@ -15,34 +15,25 @@ hp-requires c = (c.requires.0, omega arith, omega arith)
 
 pub loop-i-init : goal.loop-i-init
 unfolding datable among table
-loop-i-init c =
-    (
-      omega arith,
-      omega arith,
-      omega arith,
-      omega arith,
-      along-first (records c.args.d.now) c.hp.ensures (c.output-w.ensures.0 ∙ says-always c.requires.0 HP 1 refl 1)
-          (c.heat-h.ensures.0 ∙ says-always c.requires.0 HP 1 refl 2),
-    )
-
-abbrev Turn : Type 0
-Turn = tie.After-rise2 invariant-loop decreases-loop
-
--- what is multiplied across, at most
-last-rises : (c : Turn) → let l = c.before.before.before.before.before.before.loop in (l.dw ≤ 20000) × (l.dh ≤ 20000000)
-last-rises c = let l = c.before.before.before.before.before.before.loop in (l.invariant.2, l.invariant.3)
-
-rises : (c : Turn) → (c.before.rise.result ≤ 20000) × (c.rise2.result ≤ 20000000)
-rises c = (
-  omega (arith, c.before.rise.ensures, c.before.before.before.output2.ensures.1),
-  omega (arith, c.rise2.ensures, c.before.before.heat2.ensures.1),
+loop-i-init c = (
+  omega arith,
+  omega arith,
+  omega arith,
+  omega arith,
+  along-first (records c.args.d.now) c.hp.ensures (c.output-w.ensures.0 ∙ says-always c.requires.0 HP 1 refl 1)
+      (c.heat-h.ensures.0 ∙ says-always c.requires.0 HP 1 refl 2),
 )
 
+-- what is multiplied across, at most: the last rises, and these
 pub overflow_mul-ok : goal.overflow_mul-ok
-overflow_mul-ok c = omega (arith, mul-le-mul (last-rises c).1 (rises c).0)
+overflow_mul-ok c =
+    let most : c.rise-a.result ≤ 20000 = omega (arith, c.output-w1.ensures.1) in
+    omega (arith, mul-le-mul c.loop-i.invariant.3 most)
 
 pub overflow_mul-ok-in-loop-i : goal.overflow_mul-ok-in-loop-i
-overflow_mul-ok-in-loop-i c = omega (arith, mul-le-mul (rises c).1 (last-rises c).0)
+overflow_mul-ok-in-loop-i c =
+    let most : c.rise-b.result ≤ 20000000 = omega (arith, c.heat-h1.ensures.1) in
+    omega (arith, mul-le-mul most c.loop-i.invariant.2)
 
 pub loop-i-preserved : goal.loop-i-preserved
 unfolding datable among table
@@ -50,8 +41,8 @@ loop-i-preserved c =
     let i = c.loop-i.i in (
       omega arith,
       omega arith,
-      (rises c).0,
-      (rises c).1,
+      omega (arith, c.output-w1.ensures.1),
+      omega (arith, c.heat-h1.ensures.1),
       along-next (records c.args.d.now) i c.loop-i.invariant.0 c.loop-i.invariant.4 c.hp-in-loop-i.ensures
           (c.output-w1.ensures.0 ∙ says-always c.requires.0 HP (i + 1) refl 1)
           (c.heat-h1.ensures.0 ∙ says-always c.requires.0 HP (i + 1) refl 2)

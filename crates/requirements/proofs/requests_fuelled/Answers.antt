@@ -1,5 +1,5 @@
 use mathlib.Core.Path.{◌≡◌, refl, ap, sym, ◌∙◌}
-use Prim.Native.Nat.{ℕ, ◌-◌}
+use Prim.Native.Nat.{ℕ}
 use native.Mathlib.Omega.{arith}
 use Rattle.lists.specs.Tests.{all_to}
 use Rattle.lists.proofs.Tests.{to-next}
@@ -30,12 +30,11 @@ pub request_fuelled-ok-requires : goal.request_fuelled-ok-requires
 request_fuelled-ok-requires c = (c.requires, omega arith, omega arith)
 
 pub loop-n-preserved : goal.loop-n-preserved
-loop-n-preserved c =
-    (
-      omega arith,
-      to-next c.loop-n.n (fuelled (parameters (records c.args.d.now))) c.loop-n.invariant.1
-          c.request_fuelled-ok.ensures,
-    )
+loop-n-preserved c = (
+  omega arith,
+  to-next c.loop-n.n (fuelled (parameters (records c.args.d.now))) c.loop-n.invariant.1
+      c.request_fuelled-ok.ensures,
+)
 
 pub returns : goal.returns
 returns c =

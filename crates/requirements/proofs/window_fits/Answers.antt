@@ -27,16 +27,15 @@ unfolding datable among table
 window-is c = c.window-window.ensures.0 ∙ says-always (whole-indexed c.requires.0) RS 0 refl 8
 
 pub hours_there-requires : goal.hours_there-requires
-hours_there-requires c =
-    (
-      c.requires.0,
-      c.requires.1,
-      omega (
-        arith,
-        storage-window _ _ (whole-indexed c.requires.0) (sym (technology-is-at-2 c) ∙ c.if-technology-ne3.false),
-        window-is c,
-      ),
-    )
+hours_there-requires c = (
+  c.requires.0,
+  c.requires.1,
+  omega (
+    arith,
+    storage-window _ _ (whole-indexed c.requires.0) (sym (technology-is-at-2 c) ∙ c.if-technology-ne3.false),
+    window-is c,
+  ),
+)
 
 technology-is-at-3 : (c : goal.After-hours_there) → c.technology.result ≡ technology (parameters (records c.args.d.now))
 unfolding datable among table

@@ -30,10 +30,6 @@ loop-m-preserved c =
 pub bounds-buf-0 : goal.bounds-buf-0
 bounds-buf-0 c = omega (arith, decimal-within c.loop-m.m)
 
--- ‽ 
-same_length : tie.Need-same-length invariant-loop decreases-loop
-same_length c = simp length-set c.before.before.loop.invariant.3
-
 pub returns : goal.returns
 returns c =
     let l = c.loop-m in

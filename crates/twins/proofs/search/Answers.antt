@@ -10,82 +10,77 @@ use Rattle.index.specs.Slots.{slot_at, wide}
 use Rattle.index.specs.declared.Entry.{Entry}
 use Rattle.twins.proofs.Loop.{start, spans, slot-fits, twin-there, none-there, finish}
 use Rattle.twins.proofs.search.Goals as goal
+use Rattle.twins.proofs.search.Goals.{After-entry_at-s}
 
 -- a turn's dossier and place, and the record that stands there
-abbrev Turn : Type 0
-Turn = tie.After-entry-at invariant-loop decreases-loop
+abbrev d-of : After-entry_at-s → List ℕ
+d-of c = c.args.d.now
 
-abbrev d-of : Turn → List ℕ
-d-of c = (St c).args.d.now
+abbrev at_of : After-entry_at-s → ℕ
+at_of c = c.loop-at.at
 
-abbrev at_of : Turn → ℕ
-at_of c = (At c).loop.at
-
-abbrev rest_of : Turn → List ℕ
+abbrev rest_of : After-entry_at-s → List ℕ
 rest_of c = take (length (d-of c) - at_of c) (drop (at_of c) (d-of c))
 
-abbrev len_of : Turn → ℕ
-len_of c = c.entry_at.result.len
+abbrev len_of : After-entry_at-s → ℕ
+len_of c = c.entry_at-s.result.len
 
 -- the record lies within the dossier
-inside : (c : Turn) → at_of c < length (d-of c)
-inside c = omega (arith, (In c).loop-test.true)
+inside : (c : After-entry_at-s) → at_of c < length (d-of c)
+inside c = omega (arith, c.loop-at-test.true)
 
-its-slot : (c : Turn) → c.entry_at.result.slot ≡ slot_at (mark (rest_of c)) (rest_of c)
-its-slot c = ap (λ (s : Entry). s.slot) c.entry_at.ensures
+-- its slot and its length are those of its mark
+its-slot : (c : After-entry_at-s) → c.entry_at-s.result.slot ≡ slot_at (mark (rest_of c)) (rest_of c)
+its-slot c = ap (λ (s : Entry). s.slot) c.entry_at-s.ensures
 
-its-size : (c : Turn) → len_of c ≡ size (mark (rest_of c))
-its-size c = ap (λ (s : Entry). s.len) c.entry_at.ensures
+its-size : (c : After-entry_at-s) → len_of c ≡ size (mark (rest_of c))
+its-size c = ap (λ (s : Entry). s.len) c.entry_at-s.ensures
 
-slot-below : (c : Turn) → c.entry_at.result.slot < wide
-slot-below c = slot-fits (d-of c) (at_of c) (inside c) (At c).loop.invariant.4 (its-size c) (its-slot c)
+-- the slot is one of the widest index
+slot-below : (c : After-entry_at-s) → c.entry_at-s.result.slot < wide
+slot-below c = slot-fits (d-of c) (at_of c) (inside c) c.loop-at.invariant.4 (its-size c) (its-slot c)
 
 -- it is within the dossier, and there is room for it
-its : (c : Turn) → (shortest ≤ len_of c) × (len_of c ≤ length (d-of c) - at_of c) × (shortest * (At c).loop.count ≤ at_of c)
-    × (length (d-of c) + shortest < shortest * length (At c).loop.ids) × (length (At c).loop.ids ≤ 65535)
+its : (c : After-entry_at-s) → (shortest ≤ len_of c) × (len_of c ≤ length (d-of c) - at_of c) × (shortest * c.loop-at.count ≤ at_of c)
+    × (length (d-of c) + shortest < shortest * length c.loop-at.ids) × (length c.loop-at.ids ≤ 65535)
 its c = (
-  (spans (d-of c) (at_of c) (inside c) (At c).loop.invariant.4 (its-size c)).0,
-  (spans (d-of c) (at_of c) (inside c) (At c).loop.invariant.4 (its-size c)).1,
-  (At c).loop.invariant.1,
-  omega (arith, (St c).requires.0.room, (At c).loop.invariant.3),
-  omega (arith, (St c).requires.0.narrow, (At c).loop.invariant.3),
+  (spans (d-of c) (at_of c) (inside c) c.loop-at.invariant.4 (its-size c)).0,
+  (spans (d-of c) (at_of c) (inside c) c.loop-at.invariant.4 (its-size c)).1,
+  c.loop-at.invariant.1,
+  omega (arith, c.requires.0.room, c.loop-at.invariant.3),
+  omega (arith, c.requires.0.narrow, c.loop-at.invariant.3),
 )
 
 pub loop-at-init : goal.loop-at-init
 loop-at-init c = (search rules, search rules, refl, refl, start _ _ _ _ c.requires.0 c.requires.1)
 
 pub overflow_add-next : goal.overflow_add-next
-overflow_add-next c = omega (arith, its c)
+overflow_add-next c = omega (arith, its (goal.at.overflow_add-next c).After-entry_at-s)
 
 pub overflow_mul-x : goal.overflow_mul-x
-overflow_mul-x c = omega (arith, slot-below c)
+overflow_mul-x c = omega (arith, slot-below (goal.at.overflow_mul-x c).After-entry_at-s)
 
 pub overflow_add-x : goal.overflow_add-x
-overflow_add-x c = omega (arith, slot-below c, c.u32_at.type_inv)
-
-pub enter-requires : goal.enter-requires
-enter-requires c = (At c).loop.inv.4.shape
+overflow_add-x c = omega (arith, slot-below (goal.at.overflow_add-x c).After-entry_at-s, c.u32_at.type_inv)
 
 pub returns-then-enter : goal.returns-then-enter
 returns-then-enter c =
-    twin-there (d-of c) (at_of c) (inside c) (At c).loop.invariant.4 (its-size c) (its-slot c) c.u32_at.ensures c.u32_at.type_inv
+    let t = (goal.at.returns-then-enter c).After-entry_at-s in
+    twin-there (d-of t) (at_of t) (inside t) c.loop-at.invariant.4 (its-size t) (its-slot t) c.u32_at.ensures c.u32_at.type_inv
     c.enter.ensures c.if-enter.true
 
-pub overflow_add-count : goal.overflow_add-count
-overflow_add-count c = omega (arith, its c)
-
 pub loop-at-smaller : goal.loop-at-smaller
-loop-at-smaller c = omega (arith, its c)
+loop-at-smaller c = omega (arith, its (goal.at.loop-at-smaller c).After-entry_at-s)
 
 pub loop-at-preserved : goal.loop-at-preserved
 loop-at-preserved c =
-    (
-      omega (arith, its c),
-      omega (arith, its c),
+    let t = (goal.at.loop-at-preserved c).After-entry_at-s in (
+      omega (arith, its t),
+      omega (arith, its t),
       search rules,
       search rules,
-      none-there (d-of c) (at_of c) (inside c) (At c).loop.invariant.4 (its-size c) (its-slot c) c.u32_at.ensures c.u32_at.type_inv
-          c.enter.ensures c.if-enter.false (omega (arith, its c)),
+      none-there (d-of t) (at_of t) (inside t) c.loop-at.invariant.4 (its-size t) (its-slot t) c.u32_at.ensures c.u32_at.type_inv
+          c.enter.ensures c.if-enter.false (omega (arith, its t)),
     )
 
 pub returns : goal.returns

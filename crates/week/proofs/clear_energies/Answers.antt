@@ -1,5 +1,4 @@
 use mathlib.Core.Path.{◌≡◌}
-use Prim.Native.Nat.{◌-◌}
 use native.Mathlib.Omega.{arith}
 use Rattle.week.proofs.Stands.{cleared-none, cleared-next, cleared-all}
 use Rattle.week.proofs.clear_energies.Goals as goal
@@ -14,10 +13,6 @@ pub loop-i-preserved : goal.loop-i-preserved
 loop-i-preserved c =
     let l = c.loop-i in
     (omega (arith, c.loop-i-test.true), cleared-next 0 _ l.i l.energies (omega (arith, c.loop-i-test.true, c.requires)) l.invariant.1)
-
--- ‽ 
-same_length : tie.Need-same-length invariant-loop decreases-loop
-same_length c = c.before.loop.invariant.1.long
 
 pub returns : goal.returns
 returns c =

@@ -1,5 +1,4 @@
 use mathlib.Core.Path.{◌≡◌}
-use Prim.Native.Nat.{◌-◌}
 use native.Mathlib.Omega.{arith}
 use lib.IntN.{pos}
 use Rattle.week.proofs.Stands.{cleared-none, cleared-next, cleared-all}
@@ -8,17 +7,10 @@ use Rattle.week.proofs.clear_prices.Goals as goal
 pub loop-i-init : goal.loop-i-init
 loop-i-init c = (omega arith, cleared-none (pos 0) _)
 
-pub slice_set_of-prices : goal.slice_set_of-prices
-slice_set_of-prices c = omega (arith, c.loop-i-test.true, c.loop-i.invariant.1.long, c.requires)
-
 pub loop-i-preserved : goal.loop-i-preserved
 loop-i-preserved c =
     let l = c.loop-i in
     (omega (arith, c.loop-i-test.true), cleared-next (pos 0) _ l.i l.prices (omega (arith, c.loop-i-test.true, c.requires)) l.invariant.1)
-
--- ‽ 
-same_length : tie.Need-same-length invariant-loop decreases-loop
-same_length c = c.before.loop.invariant.1.long
 
 pub returns : goal.returns
 returns c =

@@ -20,10 +20,6 @@ pub bounds-index-slot_ch : goal.bounds-index-slot_ch
 unfolding slot
 bounds-index-slot_ch c = let p = c.requires in omega (arith, c.slot_ch.ensures, p.0, p.3)
 
--- ‽ 
-cast-if1 : tie.Need-overflow-cast-if1
-cast-if1 c = omega (arith, c.shared-slice-known2.given c.before.slot-ch.result)
-
 pub returns-then-index-slot_ch : goal.returns-then-index-slot_ch
 returns-then-index-slot_ch c =
     let a = c.args in

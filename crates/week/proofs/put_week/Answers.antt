@@ -1,5 +1,5 @@
 use mathlib.Core.Path.{◌≡◌, sym, ◌∙◌}
-use Prim.Native.Nat.{ℕ, ◌-◌, ◌≤◌}
+use Prim.Native.Nat.{ℕ, ◌≤◌}
 use native.Mathlib.Omega.{arith}
 use lib.IntN.{pos}
 use lib.ListN.{get_or, drop}
@@ -66,14 +66,6 @@ loop-at-preserved c =
     let l = c.loop-at in
     let r = c.put_record-at in
     (omega (arith, r.auto, l.invariant.0), omega (arith, r.auto, l.invariant.1), λ p e f. r.ensures.1 p e (l.invariant.2 p e f))
-
--- ‽ 
-same-length-3 : tie.Need-same-length-3 invariant-loop decreases-loop
-same-length-3 c = omega (arith, c.before.loop.invariant.0, c.before.before.before.before.before.before.before.before.before.before.clear-prices.auto)
-
--- ‽ 
-same-length-4 : tie.Need-same-length-4 invariant-loop decreases-loop
-same-length-4 c = omega (arith, c.before.loop.invariant.1, c.before.before.before.before.before.before.before.clear-energies.auto)
 
 pub returns : goal.returns
 unfolding week_prices week_energies

@@ -1,6 +1,4 @@
 use borrow.Author.Rules.{rules}
-use mathlib.Core.Bool.{Bool}
-use Prim.Native.Nat.{◌-◌}
 use native.Mathlib.Omega.{arith}
 use lib.Dec.{ltb}
 use lib.ListN.{get_or}
@@ -14,21 +12,15 @@ loop-k-init c = (search rules, search rules, omega arith)
 pub overflow_cast-n : goal.overflow_cast-n
 overflow_cast-n c = tt
 
-test : goal.After-shared_slice_known-1 → Bool
-test c = ltb c.args.v (get_or c.args.s.now c.loop-k.k 0)
-
 pub overflow_add-n : goal.overflow_add-n
-unfolding test
-overflow_add-n c = omega (arith, one-high (test c))
+overflow_add-n c = omega (arith, one-high (ltb c.args.v (get_or c.args.s.now c.loop-k.k 0)))
 
 pub loop-k-preserved : goal.loop-k-preserved
-unfolding test
 loop-k-preserved c =
-    (
+    let test = ltb c.args.v (get_or c.args.s.now c.loop-k.k 0) in (
       omega arith,
-      omega (arith, one-high (test c)),
-      sum-turn _ c.args.s.now c.loop-k.k _ _ _ c.loop-k-test.true c.loop-k.invariant.2
-          (one-if (test c)),
+      omega (arith, one-high test),
+      sum-turn _ c.args.s.now c.loop-k.k _ _ _ c.loop-k-test.true c.loop-k.invariant.2 (one-if test),
     )
 
 pub returns : goal.returns

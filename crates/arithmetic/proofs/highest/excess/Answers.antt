@@ -1,5 +1,4 @@
 use borrow.Author.Rules.{rules}
-use Prim.Native.Nat.{◌-◌}
 use native.Mathlib.Omega.{arith}
 use Rattle.arithmetic.proofs.Selection.{sum-turn, sum-end}
 use Rattle.arithmetic.proofs.highest.excess.Goals as goal
@@ -7,20 +6,15 @@ use Rattle.arithmetic.proofs.highest.excess.Goals as goal
 pub loop-k-init : goal.loop-k-init
 loop-k-init c = (search rules, search rules, omega arith)
 
--- ‽ 
-cast-less : tie.Need-overflow-cast-less invariant-loop decreases-loop
-cast-less c = omega (arith, c.shared-slice-known2.given c.before.before.loop.k)
-
 pub overflow_add-sum : goal.overflow_add-sum
-overflow_add-sum c = omega (arith, c.less-sum.ensures, c.shared_slice_known-in-loop-k-1.given c.loop-k.k)
+overflow_add-sum c = omega (arith, c.less-sum.ensures, c.type_inv.s c.loop-k.k)
 
 pub loop-k-preserved : goal.loop-k-preserved
-loop-k-preserved c =
-    (
-      omega arith,
-      omega (arith, c.less-sum.ensures, c.shared_slice_known-in-loop-k-1.given c.loop-k.k),
-      sum-turn _ c.args.s.now c.loop-k.k _ _ _ c.loop-k-test.true c.loop-k.invariant.2 c.less-sum.ensures,
-    )
+loop-k-preserved c = (
+  omega arith,
+  omega (arith, c.less-sum.ensures, c.type_inv.s c.loop-k.k),
+  sum-turn _ c.args.s.now c.loop-k.k _ _ _ c.loop-k-test.true c.loop-k.invariant.2 c.less-sum.ensures,
+)
 
 pub returns : goal.returns
 returns c = (sum-end _ c.args.s.now _ _ _ c.loop-k-test.false c.loop-k.invariant.2, omega arith)

@@ -1,6 +1,6 @@
 use borrow.Author.Rules.{rules}
 use mathlib.Core.Path.{refl}
-use Prim.Native.Nat.{◌-◌, max}
+use Prim.Native.Nat.{max}
 use native.Mathlib.Omega.{arith}
 use Rattle.arithmetic.proofs.Selection.{turn-next, turn_end}
 use Rattle.arithmetic.proofs.highest.topmost.Goals as goal
@@ -9,12 +9,11 @@ pub loop-k-init : goal.loop-k-init
 loop-k-init c = (search rules, refl)
 
 pub loop-k-preserved : goal.loop-k-preserved
-loop-k-preserved c =
-    (
-      omega arith,
-      turn-next max c.args.s.now c.loop-k.k _ _ _ c.loop-k-test.true c.loop-k.invariant.1
-          c.higher-top.ensures,
-    )
+loop-k-preserved c = (
+  omega arith,
+  turn-next max c.args.s.now c.loop-k.k _ _ _ c.loop-k-test.true c.loop-k.invariant.1
+      c.higher-top.ensures,
+)
 
 pub returns : goal.returns
 returns c = turn_end max c.args.s.now _ _ _ c.loop-k-test.false c.loop-k.invariant.1

@@ -21,4 +21,4 @@ forecast_through-requires-2 c =
     let f = c.fill in
     let h = whole-indexed f.ensures in
     let p = c.requires in
-    (h, complete h (omega (arith, f.auto.1.0, length-replicate {A = ℕ} wide 0)), p.1, p.2, p.3)
+    (h, complete h (omega (arith, f.auto.index, length-replicate {A = ℕ} wide 0)), p.1, p.2, p.3)

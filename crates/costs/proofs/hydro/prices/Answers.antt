@@ -1,9 +1,7 @@
 use borrow.Author.Rules.{rules}
 use mathlib.Core.Path.{refl}
-use Prim.Native.Nat.{◌-◌}
 use native.Mathlib.Omega.{arith}
 use lib.ListN.{length, length-set}
-use Rattle.station.specs.Parameters.{place_price}
 use Rattle.costs.proofs.Prices.{prices-none, prices-more, prices-end}
 use Rattle.costs.proofs.hydro.prices.Goals as goal
 

@@ -1,5 +1,4 @@
 use borrow.Author.Rules.{rules}
-use Prim.Native.Nat.{◌-◌}
 use native.Mathlib.Omega.{arith}
 use Rattle.lists.specs.Sums.{sum_to}
 use Rattle.lists.proofs.Sums.{sum_more, sum-ends}

@@ -12,9 +12,8 @@ pub overflow_mul-output : goal.overflow_mul-output
 overflow_mul-output c = omega (arith, mul-le-mul c.item_output-output.ensures.1 c.item_interval-interval.ensures.1)
 
 pub returns : goal.returns
-returns c =
-    (
-      c.share.ensures.0 ∙ ap₂ quotient (ap (λ (x : ℕ). x * 100000) c.item_cost-cost.ensures.0)
-          (ap₂ (λ (x y : ℕ). x * y) c.item_output-output.ensures.0 c.item_interval-interval.ensures.0),
-      omega (arith, c.share.ensures.1, c.item_cost-cost.ensures.1),
-    )
+returns c = (
+  c.share.ensures.0 ∙ ap₂ quotient (ap (λ (x : ℕ). x * 100000) c.item_cost-cost.ensures.0)
+      (ap₂ (λ (x y : ℕ). x * y) c.item_output-output.ensures.0 c.item_interval-interval.ensures.0),
+  omega (arith, c.share.ensures.1, c.item_cost-cost.ensures.1),
+)

@@ -10,8 +10,7 @@ overflow_add-result-2 c =
     record { fits = omega (arith, some-le c.ad.result.now, some-le c.ao.result.now, some-le c.ao-2.result.now) }
 
 pub returns : goal.returns
-returns c =
-    (
-      payments-there c.requires.0 c.args.p c.args.v c.ad.ensures c.ao.ensures c.ao-2.ensures,
-      omega (arith, some-le c.ad.result.now, some-le c.ao.result.now, some-le c.ao-2.result.now),
-    )
+returns c = (
+  payments-there c.requires.0 c.args.p c.args.v c.ad.ensures c.ao.ensures c.ao-2.ensures,
+  omega (arith, some-le c.ad.result.now, some-le c.ao.result.now, some-le c.ao-2.result.now),
+)

@@ -12,13 +12,12 @@ pub overflow_mul-cost-2 : goal.overflow_mul-cost-2
 overflow_mul-cost-2 c = omega (arith, mul-le-mul c.item_cost-cost.ensures.1 c.item_hours-hours.ensures.1)
 
 pub returns : goal.returns
-returns c =
-    (
-      c.share.ensures.0 ∙ ap₂ quotient (ap₂ (λ (x y : ℕ). x * y * 1000) c.item_cost-cost.ensures.0 c.item_hours-hours.ensures.0)
-          c.item_interval-interval.ensures.0,
-      omega (
-        arith,
-        c.share.ensures.1,
-        mul-le-mul c.item_cost-cost.ensures.1 c.item_hours-hours.ensures.1,
-      ),
-    )
+returns c = (
+  c.share.ensures.0 ∙ ap₂ quotient (ap₂ (λ (x y : ℕ). x * y * 1000) c.item_cost-cost.ensures.0 c.item_hours-hours.ensures.0)
+      c.item_interval-interval.ensures.0,
+  omega (
+    arith,
+    c.share.ensures.1,
+    mul-le-mul c.item_cost-cost.ensures.1 c.item_hours-hours.ensures.1,
+  ),
+)

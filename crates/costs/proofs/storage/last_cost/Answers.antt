@@ -13,4 +13,4 @@ returns-then-fits_short c = (no-last-cost _ (sym c.if-fits_short.true ∙ c.fits
 pub last_cost-requires-2 : goal.last_cost-requires-2
 last_cost-requires-2 c =
     let f = c.fill in
-    (whole-indexed f.ensures, omega (arith, f.auto.1.0, length-replicate {A = ℕ} narrow 0))
+    (whole-indexed f.ensures, omega (arith, f.auto.index, length-replicate {A = ℕ} narrow 0))

@@ -1,8 +1,6 @@
 use borrow.Author.Rules.{rules}
-use Prim.Native.Nat.{◌-◌}
 use native.Mathlib.Omega.{arith}
 use lib.ListN.{length-set}
-use Rattle.station.specs.Parameters.{hour_price}
 use Rattle.costs.proofs.Prices.{prices-none, prices-more, prices-end}
 use Rattle.costs.proofs.storage.prices.Goals as goal
 

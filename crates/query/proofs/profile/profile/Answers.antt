@@ -21,12 +21,11 @@ pub slots_empty-requires : goal.slots_empty-requires
 slots_empty-requires c = omega (arith, c.requires.index.roomy, c.slot_rq.ensures, at_one)
 
 pub returns-then-slots_empty : goal.returns-then-slots_empty
-returns-then-slots_empty c =
-    (
-      profile-none _ _ c.requires c.slot_rq.ensures (sym c.slots_empty.ensures ∙ c.if-slots_empty.true) c.args.hour,
-      omega arith,
-      omega arith,
-    )
+returns-then-slots_empty c = (
+  profile-none _ _ c.requires c.slot_rq.ensures (sym c.slots_empty.ensures ∙ c.if-slots_empty.true) c.args.hour,
+  omega arith,
+  omega arith,
+)
 
 pub loop-n-init : goal.loop-n-init
 unfolding profile
