@@ -1,20 +1,18 @@
 -- The turns of the loop that numbers the records.
 use mathlib.Core.Path.{◌≡◌, refl, ap, sym, ◌∙◌}
-use mathlib.Core.Bool.{Bool, true, false, cond, ◌&&◌, ◌||◌, not}
+use mathlib.Core.Bool.{Bool, true, false, ◌&&◌, ◌||◌, not}
 use mathlib.Core.List.{List, [], ◌∷◌, ◌++◌, append-nil}
 use Prim.Native.Nat.{ℕ, ◌+◌, ◌-◌, ◌≤◌, ◌<◌}
 use native.Mathlib.Numerals.{add-one}
 use native.Mathlib.Omega.{arith}
 use lib.Dec.{ltb}
-use lib.ListN.{length, get_or, take, drop, set, length-take, length-drop}
+use lib.ListN.{length, get_or, take, drop, set, length-drop}
 use lib.Seq.{append_snoc, take-suc-set, take-set-le}
 use borrow.Author.Tests.{le-ltb}
 use mir.Val.{bool_byte}
 use Rattle.lists.specs.Lists.{Each, done, also}
 use Rattle.lists.proofs.Lists.{each_both}
-use Rattle.lists.proofs.Tests.{split}
 use Rattle.fields.specs.Numbers.{number}
-use Rattle.records.specs.Table.{marks}
 use Rattle.records.specs.Record.{mark, kind, key_of, size, issue, since, fault}
 use Rattle.records.specs.MarkShapes.{shortest}
 use Rattle.records.specs.Dossier.{first_of, records}

@@ -104,7 +104,7 @@ additions s m p = adders m p energy ⊕ maintenance s m p
 unfoldable pub start_maintenance : Parameters → Amounts → ℕ → Sum
 start_maintenance s m p = total 8 (λ j. share (cost_c m p j * hours_per_start_s s p j * 1000) (interval_t s p j))
 
--- "Thermal lamination i, points i to i+1, rises d_h and d_w: d_h × fuel × factor / (100,000 × d_w) plus d_h × emission / (100 × d_w)"
+-- "Thermal lamination i, points i to i+1, rises dH and dW: dH × fuel × factor / (100,000 × dW) plus dH × emission / (100 × dW)"
 unfoldable pub thermal_energy : Parameters → Amounts → ℕ → ℕ → Sum
 thermal_energy s m p i =
     share (rise (heat s) i * fuel m p * factor s) (100000 * rise (output s) i)

@@ -5,8 +5,12 @@ use Prim.Native.Nat.{ℕ, suc, ◌+◌, ◌-◌, ◌<◌, ◌≤◌}
 use native.Mathlib.Numerals.{add-one}
 use native.Mathlib.Omega.{arith}
 use lib.ListN.{length, take, drop, set, length-append, length-drop, length-set, drop_of_length-le}
-use lib.Seq.{take_all, take-append_seam, drop-append_seam, drop-drop, drop-cons, drop-set-lt, get_or-set_same, set-append_seam}
+use lib.Seq.{take-length, take_all, take-append_seam, drop-append_seam, drop-drop, drop-cons, drop-set-lt, get_or-set_same, set-append_seam}
 use Rattle.text.specs.Text.{over}
+
+-- what a copy of a whole text leaves
+pub copied : (x e : List ℕ) {b : List ℕ} → b ≡ take (length x) x ++ drop (length x) e → b ≡ over x e
+copied x e p = p ∙ ap (λ (l : List ℕ). l ++ drop (length x) e) (take-length x)
 
 -- a buffer from j on after a store there
 pub stored : (buf : List ℕ) (j v : ℕ) → j < length buf → drop j (set buf j v) ≡ v ∷ drop (suc j) buf

@@ -11,14 +11,14 @@ use Rattle.conduct.proofs.Turns.{last-highest, offer-formed}
 use Rattle.conduct.proofs.Outer.{offer-tested}
 use borrow.Author.Rules.{rules}
 use Rattle.conduct.proofs.offer_verdict.Goals as goal
+use Rattle.conduct.proofs.offer_verdict.Goals.{In-Accepted}
 
-no-refusal : (c : goal.After-cents-in-Accepted-1) → let a = c.args in offer_refusal
-    (parameters_held a.d.now a.index.now) a.condition a.offer.now ≡ Accepted
+no-refusal : (c : In-Accepted) → let a = c.args in offer_refusal (parameters_held a.d.now a.index.now) a.condition a.offer.now ≡ Accepted
 no-refusal c = sym c.offer_refusal.ensures ∙ c.in-Accepted.is
 
 pub threshold_of-t-requires : goal.threshold_of-t-requires
 threshold_of-t-requires c =
-    let q = offer-accepted _ _ _ (no-refusal c) in (
+    let q = offer-accepted _ _ _ (no-refusal (goal.at.threshold_of-t-requires c).In-Accepted) in (
       c.requires.1,
       q.0,
       q.1,
@@ -26,14 +26,10 @@ threshold_of-t-requires c =
       search rules,
     )
 
-no-refusal-at-2 : (c : goal.After-cents-in-Accepted-2-1) → let a = c.args in offer_refusal
-    (parameters_held a.d.now a.index.now) a.condition a.offer.now ≡ Accepted
-no-refusal-at-2 c = sym c.offer_refusal.ensures ∙ c.in-Accepted.is
-
 pub rising_offer_test-requires : goal.rising_offer_test-requires
 rising_offer_test-requires c =
     let a = c.args in
-    let z = no-refusal-at-2 c in (
+    let z = no-refusal (goal.at.rising_offer_test-requires c).In-Accepted in (
       handed-count a.d.now a.index.now a.p c.profile_levels-lv.ensures,
       (offer-accepted _ _ _ z).2,
       last-highest a.offer.now (length a.offer.now / 6) (offer-formed _ _ a.offer.now z),
@@ -45,14 +41,10 @@ returns-in-Refused c =
     offer-refused (parameters_held a.d.now a.index.now) a.condition (lines_held a.d.now a.index.now a.p) a.offer.now
     (sym c.offer_refusal.ensures ∙ c.in-Refused.is)
 
-no-refusal-at-3 : (c : goal.After-rising_offer_test) → let a = c.args in offer_refusal
-    (parameters_held a.d.now a.index.now) a.condition a.offer.now ≡ Accepted
-no-refusal-at-3 c = sym c.offer_refusal.ensures ∙ c.in-Accepted.is
-
 pub returns-in-Accepted : goal.returns-in-Accepted
 returns-in-Accepted c =
     let a = c.args in
     offer-tested (parameters_held a.d.now a.index.now) a.condition (lines_held a.d.now a.index.now a.p) a.offer.now _
     c.threshold_of-t.result
-    (no-refusal-at-3 c) (handed-shown a.d.now a.index.now a.p c.profile_levels-lv.ensures)
+    (no-refusal (goal.at.returns-in-Accepted c).In-Accepted) (handed-shown a.d.now a.index.now a.p c.profile_levels-lv.ensures)
     c.threshold_of-t.ensures c.rising_offer_test.ensures

@@ -1,4 +1,3 @@
-use Prim.Native.Nat.{◌-◌}
 use native.Mathlib.Omega.{arith}
 use Rattle.counting.proofs.Fewer.{some-like, some-lower, some-higher}
 use Rattle.counting.proofs.hider_of.Goals as goal

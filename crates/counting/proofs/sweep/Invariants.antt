@@ -1,4 +1,4 @@
-use Prim.Native.Nat.{◌≤◌, ◌-◌}
+use Prim.Native.Nat.{◌≤◌}
 use lib.ListN.{length}
 use Rattle.counting.proofs.Loops.{Sweeping}
 use Rattle.counting.proofs.sweep.Given as goal

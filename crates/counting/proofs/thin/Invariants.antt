@@ -1,6 +1,5 @@
 use Prim.Native.Nat.{◌-◌}
 use lib.ListN.{length}
-use Rattle.lists.specs.Lists.{those}
 use Rattle.counting.specs.Sweep.{kept_by}
 use Rattle.counting.proofs.Fewer.{Thinning}
 use Rattle.counting.proofs.thin.Given as goal

@@ -1,6 +1,5 @@
-use borrow.Author.Tests.{not-true, not-false}
 use mathlib.Core.Path.{refl, sym, ◌∙◌}
-use Prim.Native.Nat.{◌-◌, ◌/◌}
+use Prim.Native.Nat.{◌/◌}
 use native.Mathlib.Omega.{arith}
 use lib.ListN.{length}
 use Rattle.verdicts.specs.Test.{before}
@@ -19,7 +18,7 @@ returns-then-not-pair_holds c =
     let o = c.args.offer.now in
     malformed-stop o (length o / 6) i.k i.low i.last _ _ c.loop-k-test.true i.invariant.2 i.invariant.3
     c.quantity_at-high.ensures c.price_at-price.ensures.0
-    (sym c.pair_holds.ensures ∙ not-true _ c.if-not-pair_holds.true)
+    (sym c.pair_holds.ensures ∙ c.if-not-pair_holds.true)
     ∙ i.invariant.4
 
 pub loop-k-preserved : goal.loop-k-preserved
@@ -32,7 +31,7 @@ loop-k-preserved c =
       c.price_at-price.ensures.0 ∙ price_before-next o i.k,
       malformed-next o (length o / 6) i.k i.low i.last _ _ c.loop-k-test.true i.invariant.2 i.invariant.3
           c.quantity_at-high.ensures c.price_at-price.ensures.0
-          (sym c.pair_holds.ensures ∙ not-false _ c.if-not-pair_holds.false)
+          (sym c.pair_holds.ensures ∙ c.if-not-pair_holds.false)
           ∙ i.invariant.4,
     )
 
