@@ -1,6 +1,6 @@
 /* Every call of the library from C, on case R1 of README.md with two thresholds, with prices that come in later and one that is known early, with
  * a payment that is withdrawn, with what a second owner adds, and the charging week of a battery. docs/calls.py is the same from Python; both print docs/calls.out.
- * With the library built (rt staticlib bench), at the root of the repository:
+ * With the library built (tools/library), at the root of the repository:
  *
  *   cc -std=c99 -Iinclude -o target/calls docs/calls.c target/staticlib/libbench.a && target/calls
  */

@@ -1,6 +1,6 @@
 """Every call of the library from Python, on case R1 of README.md with two thresholds, with prices that come in later and one that is known early, with
 a payment that is withdrawn, with what a second owner adds, and the charging week of a battery. docs/calls.c is the same from C; both print docs/calls.out.
-With the library built (rt staticlib bench), at the root of the repository:
+With the library built (tools/library), at the root of the repository:
 
     cc -shared -o target/libbench.so -Wl,--whole-archive target/staticlib/libbench.a -Wl,--no-whole-archive
     python3 docs/calls.py target/libbench.so

@@ -18,7 +18,7 @@ fn main() {
     }
     if !archive.exists() {
         stop(
-            "target/staticlib/libbench.a is missing: `rt staticlib bench`, run at the root of the repository, makes it.\n\
+            "target/staticlib/libbench.a is missing: `tools/library`, run at the root of the repository, makes it.\n\
              Elsewhere, BENCH_LIB_DIR names the folder that has it.",
         );
     }

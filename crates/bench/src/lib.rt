@@ -56,13 +56,7 @@ pub fn bench_levels(dossier: &[u8], hour: u32, owner: u8, words: &mut [u64]) -> 
 }
 
 // The conduct test of an energy offer.
-pub fn bench_energy_test(
-    dossier: &[u8],
-    hour: u32,
-    owner: u8,
-    condition: u8,
-    offer: &[u8],
-) -> u64
+pub fn bench_energy_test(dossier: &[u8], hour: u32, owner: u8, condition: u8, offer: &[u8]) -> u64
     ensures { result ≡ verdict_code (on_offer dossier.now (query hour owner) condition offer.now) }
 {
     match conduct::energy_test(dossier, hour, owner, condition, offer) {

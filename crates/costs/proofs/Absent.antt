@@ -41,7 +41,7 @@ no-amount k n i l u e =
     rw (e, u, number-nil (offset (mark []) i) (field_of k i).width) (cond-holds (λ x. x ≡ 0) (is_money (field_of k i).role) 0 0 refl refl)
 
 -- what tells that no cost of a level is claimed
-abbrev none_claimed : List ℕ → ℕ → Bool
+abbrev pub none_claimed : List ℕ → ℕ → Bool
 none_claimed ix j = eqb (get_or ix j 0) 0 && eqb (get_or ix (j + 4) 0) 0 && eqb (get_or ix (j + 8) 0) 0 && eqb (get_or ix (j + 16) 0) 0
 
 module _ {d ix : List ℕ} (h : Indexed d ix) where

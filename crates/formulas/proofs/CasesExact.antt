@@ -1,7 +1,7 @@
 -- Worked exact levels, and a level as far from its exact level as one can lie.
 use mathlib.Core.Path.{◌≡◌, refl}
 use mathlib.Core.List.{List, [], ◌∷◌}
-use Prim.Native.Nat.{ℕ, ◌*◌, ◌-◌}
+use Prim.Native.Nat.{ℕ, ◌*◌}
 use native.Mathlib.Omega.{arith}
 use lib.Dec.{lit≤, lit<}
 use Rattle.records.specs.Table.{RS, FU, AD, MM, HR, CH}

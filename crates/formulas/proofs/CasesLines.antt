@@ -1,7 +1,7 @@
 -- Worked profiles, all the lines of a station of each technology, and document 002's weeks.
 use mathlib.Core.Path.{◌≡◌, refl}
 use mathlib.Core.List.{List, [], ◌∷◌, map}
-use Prim.Native.Nat.{ℕ, ◌*◌, ◌-◌}
+use Prim.Native.Nat.{ℕ, ◌*◌}
 use Rattle.records.specs.Table.{RS, HP, FU, AD, MM, RQ, CH, LC}
 use Rattle.station.specs.Parameters.{adder_key, item_key}
 use Rattle.formulas.specs.Levels.{profile, retired, lines, shown_as, shown}

@@ -2,7 +2,7 @@
 use mathlib.Core.Path.{◌≡◌, refl}
 use mathlib.Core.Bool.{Bool, true, false, cond}
 use mathlib.Core.List.{List, []}
-use Prim.Native.Nat.{ℕ, zero, suc, ◌+◌, ◌*◌, ◌-◌, ◌≤◌}
+use Prim.Native.Nat.{ℕ, zero, suc, ◌+◌, ◌*◌, ◌≤◌}
 use native.Mathlib.Nat.{mul-le-mul_left, mul-le-mul_right, max-le}
 use native.Mathlib.Omega.{arith}
 use lib.Dec.{eqb, lit≤}
@@ -18,7 +18,7 @@ use Rattle.formulas.specs.Exact.{Sum, whole, share}
 use Rattle.formulas.specs.Levels.{profile, third_party, common_and_own, adders, maintenance, additions, start_maintenance, thermal_energy, heat_cost}
 use Rattle.formulas.specs.Levels.{start_cost, no_load_cost}
 use Rattle.formulas.specs.Levels.{nuclear_energy, total_energy, charging_sum, charging_cost, short_run_cost, highest_sum, opportunity_cost, storage_energy}
-use Rattle.formulas.specs.Levels.{forecast_place, forecast_price, hydro_energy, Line, line, amount, NoLower, CloseLine, laminations, one_lamination, single}
+use Rattle.formulas.specs.Levels.{forecast_place, forecast_price, hydro_energy, Line, line, NoLower, CloseLine, laminations, one_lamination, single}
 use Rattle.formulas.specs.Levels.{lines_of, lines}
 use Rattle.lists.proofs.Sums.{sum_to-mono}
 use Rattle.formulas.proofs.Sums.{list_to-mono, sum_highest-mono, from_top-mono}

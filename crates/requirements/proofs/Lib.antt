@@ -1,3 +1,4 @@
+pub mod Always
 pub mod Curve
 pub mod Fuel
 pub mod Window

@@ -19,7 +19,7 @@ use Rattle.records.proofs.Record.{faultless, field_in, range-high}
 use Rattle.records.proofs.Raise.{raised-kind, told_same}
 use Rattle.station.specs.Current.{matches, current}
 use Rattle.station.specs.Declared.{CurrentOf, absent, standing, Distinct}
-use Rattle.station.specs.InForce.{come, speaks_to, Query, query, in_force, varies}
+use Rattle.station.specs.InForce.{come, speaks_to, Query, in_force, varies}
 use Rattle.station.proofs.Current.{matches-kind, matches-key, current-found}
 use Rattle.station.proofs.InForce.{come-each, come-distinct, come-permuted, come-raised, come-always, all-those, current-those}
 use Rattle.station.proofs.Twins.{distinct-those}

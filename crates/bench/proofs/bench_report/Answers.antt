@@ -4,8 +4,10 @@ use Rattle.bench.proofs.bench_report.Goals as goal
 
 pub returns-in-Bytes : goal.returns-in-Bytes
 returns-in-Bytes c =
-    (bytes-code c.code.ensures (sym c.report.ensures.0 ∙ c.in-Bytes.is), c.report.ensures.1)
+    let w = c.report.ensures in
+    record { answer = bytes-code c.code.ensures (sym w.answer ∙ c.in-Bytes.is); buffer = w.buffer }
 
 pub returns-in-Refused : goal.returns-in-Refused
 returns-in-Refused c =
-    (unwritten-code c.code-in-Refused.ensures (sym c.report.ensures.0 ∙ c.in-Refused.is), c.report.ensures.1)
+    let w = c.report.ensures in
+    record { answer = unwritten-code c.code-in-Refused.ensures (sym w.answer ∙ c.in-Refused.is); buffer = w.buffer }

@@ -5,9 +5,9 @@ use Rattle.bench.proofs.bench_week.Goals as goal
 pub returns-in-Accepted : goal.returns-in-Accepted
 returns-in-Accepted c =
     let w = c.week.ensures in
-    (week-code (sym w.0 ∙ c.in-Accepted.is), (w.1, w.2))
+    record { answer = week-code (sym w.0 ∙ c.in-Accepted.is); prices = w.1; energies = w.2 }
 
 pub returns-in-Refused : goal.returns-in-Refused
 returns-in-Refused c =
     let w = c.week.ensures in
-    (weekless-code c.code.ensures (sym w.0 ∙ c.in-Refused.is), (w.1, w.2))
+    record { answer = weekless-code c.code.ensures (sym w.0 ∙ c.in-Refused.is); prices = w.1; energies = w.2 }

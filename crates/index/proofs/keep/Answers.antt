@@ -79,7 +79,7 @@ within-at-3 c =
 pub overflow_add-result : goal.overflow_add-result
 overflow_add-result c = omega (arith, within-at-3 c, c.requires.0)
 
--- ‽ 
+-- ‽
 same_length : tie.Need-same-length
 same_length c = elim c.before.before.if2.branch [ inl x ↦ rw x.5 (simp length-set refl) | inr x ↦ rw x.1 refl ]
 

@@ -8,6 +8,7 @@ use Rattle.lookup.specs.Parts.{held, parameters_held}
 use Rattle.lookup.proofs.Held.{held-always}
 use Rattle.conduct.proofs.Turns.{in-conditions, condition-in, condition-none, condition-out}
 use Rattle.conduct.proofs.refusals.condition_refusal.Goals as goal
+use Rattle.conduct.proofs.refusals.condition_refusal.Goals.{After-th-th}
 
 pub th-th-requires : goal.th-th-requires
 th-th-requires c =
@@ -16,7 +17,7 @@ th-th-requires c =
     (p.0, q.0, q.1, p.1, p.2)
 
 -- what was found is held
-found : (c : goal.Then-th-gt0) → let a = c.args in
+found : (c : After-th-th) → let a = c.args in
     c.th-th.result.now ≡ current TH (threshold_key a.condition a.level) (held a.d.now a.index.now)
 unfolding datable among table
 found c = c.th-th.ensures ∙ sym (held-always c.requires.0 TH _ refl)
@@ -24,18 +25,12 @@ found c = c.th-th.ensures ∙ sym (held-always c.requires.0 TH _ refl)
 pub returns-then-th-gt0 : goal.returns-then-th-gt0
 returns-then-th-gt0 c =
     let a = c.args in
-    condition-in (held a.d.now a.index.now) a.level a.condition _ c.if-condition.true (found c) c.if-th-gt0.true
-
--- what was found is held
-found-at-2 : (c : goal.Else-th-gt0) → let a = c.args in
-    c.th-th.result.now ≡ current TH (threshold_key a.condition a.level) (held a.d.now a.index.now)
-unfolding datable among table
-found-at-2 c = c.th-th.ensures ∙ sym (held-always c.requires.0 TH _ refl)
+    condition-in (held a.d.now a.index.now) a.level a.condition _ c.if-condition.true (found (goal.at.returns-then-th-gt0 c).After-th-th) c.if-th-gt0.true
 
 pub returns-else-th-gt0 : goal.returns-else-th-gt0
 returns-else-th-gt0 c =
     let a = c.args in
-    condition-none (held a.d.now a.index.now) a.level a.condition _ c.if-condition.true (found-at-2 c) c.if-th-gt0.false
+    condition-none (held a.d.now a.index.now) a.level a.condition _ c.if-condition.true (found (goal.at.returns-else-th-gt0 c).After-th-th) c.if-th-gt0.false
 
 pub returns-else-condition : goal.returns-else-condition
 returns-else-condition c =

@@ -1,37 +1,32 @@
 use borrow.Author.Tests.{eq-eqb, ne_eqb}
+use mathlib.Core.List.{List}
 use mathlib.Core.Path.{◌≡◌, ap, ap₂, sym, ◌∙◌}
 use Prim.Native.Nat.{ℕ, ◌*◌, ◌-◌}
 use native.Mathlib.Omega.{arith}
 use lib.ListN.{get_or}
+use Rattle.station.specs.Week.{WeekSums}
 use Rattle.formulas.specs.Exact.{quotient, micro_dollars}
 use Rattle.formulas.specs.Levels.{parameters_in, total_energy, charging_sum, charging_cost}
 use Rattle.formulas.proofs.Rounding.{quotient_le}
 use Rattle.costs.proofs.storage.charging_cost.Goals as goal
 
 -- the second of the sums is the energy of the formula
-energy-is : (c : goal.After-last_cost) → let a = c.args in get_or a.sums.now 1 0
-    ≡ total_energy (parameters_in a.d.now)
+energy-is : {d : List ℕ} {sum energy : ℕ} → WeekSums d sum energy → energy ≡ total_energy (parameters_in d)
 unfolding total_energy
-energy-is c = c.requires.2.energy-sum
+energy-is w = w.energy-sum
 
 pub returns-then-energy-eq0 : goal.returns-then-energy-eq0
 unfolding micro_dollars charging_cost
 returns-then-energy-eq0 c = (
-  rw (eq-eqb (total_energy _) 0 (sym (energy-is c) ∙ c.if-energy-eq0.true)) c.last_cost.ensures.0,
+  rw (eq-eqb (total_energy _) 0 (sym (energy-is c.requires.2) ∙ c.if-energy-eq0.true)) c.last_cost.ensures.0,
   c.last_cost.ensures.1,
 )
-
--- the second of the sums is the energy of the formula
-energy-is-at-2 : (c : goal.After-share) → let a = c.args in get_or a.sums.now 1 0
-    ≡ total_energy (parameters_in a.d.now)
-unfolding total_energy
-energy-is-at-2 c = c.requires.2.energy-sum
 
 pub returns : goal.returns
 unfolding micro_dollars charging_cost charging_sum
 returns c =
     let s = c.requires.2 in
-    let e = energy-is-at-2 c in
+    let e = energy-is s in
     let x = c.less-sum.result in
     let y = get_or c.args.sums.now 1 0 in (
       rw (ne_eqb (total_energy _) 0 (λ z. c.if-energy-eq0.false (e ∙ z)))

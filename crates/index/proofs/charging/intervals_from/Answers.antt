@@ -138,8 +138,7 @@ loop-i-preserved c =
 
 pub returns : goal.returns
 returns c =
-    let l = c.loop-i in
-    (
+    let l = c.loop-i in (
       l.invariant.1,
       l.invariant.0,
       sums-put c.args.d.now l.index c.args.lent.now l.sums.cost l.sums.energy c.requires.2 l.invariant.4,

@@ -72,16 +72,15 @@ returns-then-is_mark-9 c =
     (sym c.is_mark-9.ensures ∙ c.if-is_mark-9.true)
 
 pub read_rare-requires : goal.read_rare-requires
-read_rare-requires c =
-    (
-      c.if-rest-lt2.false,
-      letters-rare _ (sym c.is_mark.ensures ∙ c.if-is_mark.false)
-          (sym c.is_mark-5.ensures ∙ c.if-is_mark-5.false) (sym c.is_mark-6.ensures ∙ c.if-is_mark-6.false)
-          (sym c.is_mark-7.ensures ∙ c.if-is_mark-7.false) (sym c.is_mark-8.ensures ∙ c.if-is_mark-8.false)
-          (sym c.is_mark-3.ensures ∙ c.if-is_mark-3.false) (sym c.begins_with.ensures ∙ c.if-begins_with.false)
-          (sym c.is_mark-2.ensures ∙ c.if-is_mark-2.false) (sym c.is_mark-4.ensures ∙ c.if-is_mark-4.false),
-      sym c.is_mark-9.ensures ∙ c.if-is_mark-9.false,
-    )
+read_rare-requires c = (
+  c.if-rest-lt2.false,
+  letters-rare _ (sym c.is_mark.ensures ∙ c.if-is_mark.false)
+      (sym c.is_mark-5.ensures ∙ c.if-is_mark-5.false) (sym c.is_mark-6.ensures ∙ c.if-is_mark-6.false)
+      (sym c.is_mark-7.ensures ∙ c.if-is_mark-7.false) (sym c.is_mark-8.ensures ∙ c.if-is_mark-8.false)
+      (sym c.is_mark-3.ensures ∙ c.if-is_mark-3.false) (sym c.begins_with.ensures ∙ c.if-begins_with.false)
+      (sym c.is_mark-2.ensures ∙ c.if-is_mark-2.false) (sym c.is_mark-4.ensures ∙ c.if-is_mark-4.false),
+  sym c.is_mark-9.ensures ∙ c.if-is_mark-9.false,
+)
 
 pub returns : goal.returns
 returns c = c.read_rare.ensures
