@@ -1,18 +1,17 @@
 -- The index that a pass fills is one of all the records.
 use mathlib.Core.Path.{◌≡◌, refl, ap, sym, ◌∙◌}
 use mathlib.Core.List.{List, []}
-use Prim.Native.Nat.{ℕ, ◌+◌, ◌-◌, ◌≤◌, ◌<◌}
+use Prim.Native.Nat.{ℕ, ◌+◌, ◌-◌, ◌≤◌}
 use native.Mathlib.Omega.{arith}
-use lib.Dec.{eqb}
-use lib.ListN.{length, get_or, take, drop, length-replicate}
+use lib.ListN.{length, drop, length-replicate}
 use borrow.Author.Tests.{ne_eqb}
 use Rattle.records.specs.declared.Answer.TheVariants.{Accepted}
-use Rattle.records.specs.Record.{mark, size}
+use Rattle.records.specs.Record.{mark}
 use Rattle.records.specs.Dossier.{first_of, records, scan}
 use Rattle.records.specs.Walk.{folded}
 use Rattle.records.proofs.Record.{mark-take, size-ge}
 use Rattle.station.specs.Current.{current}
-use Rattle.index.specs.Slots.{slot, short, fresh, keep_step}
+use Rattle.index.specs.Slots.{short, fresh, keep_step}
 use Rattle.index.specs.Holding.{held_record, IndexOf}
 use Rattle.index.proofs.KeyBounds.{test-key}
 use Rattle.index.proofs.Holds.{Holds, absent, there, index-holds, folded-length}

@@ -1,114 +1,55 @@
 use native.Mathlib.Omega.{arith}
 use mathlib.Core.Path.{◌≡◌, refl, ap, sym, ◌∙◌}
 use mathlib.Core.List.{List}
-use mathlib.Core.Logic.{inl, inr}
 use Prim.Native.Nat.{ℕ, ◌+◌, ◌≤◌}
-use lib.ListN.{length, drop, length-set}
+use lib.ListN.{length, drop}
 use Rattle.fields.specs.Numbers.{number}
-use Rattle.records.specs.Record.{mark, size}
+use Rattle.records.specs.Record.{mark, fault}
 use Rattle.records.specs.Dossier.{first_of}
-use Rattle.records.specs.Walk.{Record, found}
 use Rattle.index.specs.declared.Entry.{Entry}
-use Rattle.index.specs.Slots.{slot_at}
+use Rattle.index.specs.Entries.{entry_as}
 use Rattle.index.proofs.Turn.{tail, bounds, long, first_found, step-held, step-beyond}
 use Rattle.index.proofs.keep.Goals as goal
+use Rattle.index.proofs.keep.Goals.{then-j-index, else-j-index}
 
-abbrev at_of : goal.After-slice_known-1 → ℕ
-at_of c = c.args.before.end
-
-abbrev d-of : goal.After-slice_known-1 → List ℕ
-d-of c = c.args.d.now
-
-abbrev rest_of : goal.After-slice_known-1 → List ℕ
-rest_of c = drop (at_of c) (d-of c)
-
-its-found : (c : goal.After-slice_known-1) → found (rest_of c) ≡ Record (mark (rest_of c)) (size (mark (rest_of c)))
-its-found c = first_found (rest_of c) c.requires.1
-
-within : (c : goal.After-slice_known-1) → (6 ≤ c.args.entry.len) × (at_of c + c.args.entry.len ≤ length (d-of c))
-within c =
-    let l = ap (λ (y : Entry). y.len) c.requires.2 in
-    let b = bounds (d-of c) (at_of c) _ _ (its-found c) in
-    (omega (arith, l, long _ _ _ (its-found c)), omega (arith, l, b.0, b.1))
+-- the record is long enough for its issue, and lies within the dossier
+within : (d : List ℕ) (at : ℕ) {x : Entry} → fault (first_of (drop at d)) ≡ 0 → x ≡ entry_as (mark (drop at d)) (drop at d)
+    → (6 ≤ x.len) × (at + x.len ≤ length d)
+within d at z e =
+    let f = first_found (drop at d) z in
+    let l = ap (λ (y : Entry). y.len) e in
+    let b = bounds d at _ _ f in
+    (omega (arith, l, long _ _ _ f), omega (arith, l, b.0, b.1))
 
 pub slice_bounds-rest-count : goal.slice_bounds-rest-count
-slice_bounds-rest-count c = omega (arith, within c)
+slice_bounds-rest-count c = omega (arith, within c.args.d.now c.args.before.end c.requires.1 c.requires.2)
 
 pub slice_bounds-rest-start : goal.slice_bounds-rest-start
-slice_bounds-rest-start c = omega (arith, within c)
-
-abbrev at_of-at-2 : goal.Then-rest-lt6 → ℕ
-at_of-at-2 c = c.args.before.end
-
-abbrev d-of-at-2 : goal.Then-rest-lt6 → List ℕ
-d-of-at-2 c = c.args.d.now
-
-abbrev rest_of-at-2 : goal.Then-rest-lt6 → List ℕ
-rest_of-at-2 c = drop (at_of-at-2 c) (d-of-at-2 c)
-
-its-found-at-2 : (c : goal.Then-rest-lt6) → found (rest_of-at-2 c) ≡ Record (mark (rest_of-at-2 c)) (size (mark (rest_of-at-2 c)))
-its-found-at-2 c = first_found (rest_of-at-2 c) c.requires.1
-
-within-at-2 : (c : goal.Then-rest-lt6) → (6 ≤ c.args.entry.len) × (at_of-at-2 c + c.args.entry.len ≤ length (d-of-at-2 c))
-within-at-2 c =
-    let l = ap (λ (y : Entry). y.len) c.requires.2 in
-    let b = bounds (d-of-at-2 c) (at_of-at-2 c) _ _ (its-found-at-2 c) in
-    (omega (arith, l, long _ _ _ (its-found-at-2 c)), omega (arith, l, b.0, b.1))
+slice_bounds-rest-start c = omega (arith, within c.args.d.now c.args.before.end c.requires.1 c.requires.2)
 
 pub returns-then-rest-lt6 : goal.returns-then-rest-lt6
-returns-then-rest-lt6 c = absurd (omega (arith, within-at-2 c, c.if-rest-lt6.true))
-
-abbrev at_of-at-3 : goal.After-struct_known-1 → ℕ
-at_of-at-3 c = c.args.before.end
-
-abbrev d-of-at-3 : goal.After-struct_known-1 → List ℕ
-d-of-at-3 c = c.args.d.now
-
-abbrev rest_of-at-3 : goal.After-struct_known-1 → List ℕ
-rest_of-at-3 c = drop (at_of-at-3 c) (d-of-at-3 c)
-
-its-found-at-3 : (c : goal.After-struct_known-1) → found (rest_of-at-3 c) ≡ Record (mark (rest_of-at-3 c)) (size (mark (rest_of-at-3 c)))
-its-found-at-3 c = first_found (rest_of-at-3 c) c.requires.1
-
-within-at-3 : (c : goal.After-struct_known-1) → (6 ≤ c.args.entry.len) × (at_of-at-3 c + c.args.entry.len ≤ length (d-of-at-3 c))
-within-at-3 c =
-    let l = ap (λ (y : Entry). y.len) c.requires.2 in
-    let b = bounds (d-of-at-3 c) (at_of-at-3 c) _ _ (its-found-at-3 c) in
-    (omega (arith, l, long _ _ _ (its-found-at-3 c)), omega (arith, l, b.0, b.1))
+returns-then-rest-lt6 c = absurd (omega (arith, within c.args.d.now c.args.before.end c.requires.1 c.requires.2, c.if-rest-lt6.true))
 
 pub overflow_add-result : goal.overflow_add-result
-overflow_add-result c = omega (arith, within-at-3 c, c.requires.0)
-
--- ‽
-same_length : tie.Need-same-length
-same_length c = elim c.before.before.if2.branch [ inl x ↦ rw x.5 (simp length-set refl) | inr x ↦ rw x.1 refl ]
-
-abbrev at_of-at-4 : goal.After-higher_of → ℕ
-at_of-at-4 c = c.args.before.end
-
-abbrev d-of-at-4 : goal.After-higher_of → List ℕ
-d-of-at-4 c = c.args.d.now
-
-abbrev rest_of-at-4 : goal.After-higher_of → List ℕ
-rest_of-at-4 c = drop (at_of-at-4 c) (d-of-at-4 c)
-
-its-found-at-4 : (c : goal.After-higher_of) → found (rest_of-at-4 c) ≡ Record (mark (rest_of-at-4 c)) (size (mark (rest_of-at-4 c)))
-its-found-at-4 c = first_found (rest_of-at-4 c) c.requires.1
-
-its-slot : (c : goal.After-higher_of) → c.args.entry.slot ≡ slot_at (mark (rest_of-at-4 c)) (rest_of-at-4 c)
-its-slot c = ap (λ (y : Entry). y.slot) c.requires.2
+overflow_add-result c = omega (arith, within c.args.d.now c.args.before.end c.requires.1 c.requires.2, c.requires.0)
 
 pub returns : goal.returns
 unfolding first_of
 returns c =
-    let a = c.args in (
+    let a = c.args in
+    let d = a.d.now in
+    let at = a.before.end in
+    let s = drop at d in
+    let e = first_found s c.requires.1 in
+    let slot = ap (λ (y : Entry). y.slot) c.requires.2 in (
       refl,
       λ f.
           elim c.if-j-index.branch [
-            | inl x ↦ rw (x.5, x.6) (sym (step-held (rest_of-at-4 c) _ _ (its-found-at-4 c) (d-of-at-4 c) a.index.now a.before.rising a.before.top f (at_of-at-4 c)
-                (its-slot c) c.higher_of.ensures (ap (λ (y : ℕ). y + 1) (x.1.ensures ∙ ap (number 2 4) (tail (d-of-at-4 c) (at_of-at-4 c)))) x.3.ensures
-                x.4.ensures))
-            | inr x ↦ rw (x.1, x.2) (sym (step-beyond (rest_of-at-4 c) _ _ (its-found-at-4 c) (d-of-at-4 c) a.index.now a.before.rising a.before.top f (at_of-at-4 c)
-                (its-slot c) c.higher_of.ensures x.0.left))
+            | then-j-index w ↦
+                let issue = ap (λ (y : ℕ). y + 1) (w.u32_at.ensures ∙ ap (number 2 4) (tail d at)) in
+                rw (w.index-is, w.rising-is) (sym (step-held s _ _ e d a.index.now a.before.rising a.before.top f at slot c.higher_of.ensures issue
+                w.issue_held-held.ensures w.newer_of.ensures))
+            | else-j-index w ↦ rw (w.index-is, w.rising-is) (sym (step-beyond s _ _ e d a.index.now a.before.rising a.before.top f at slot
+                c.higher_of.ensures w.if-j-index.false))
           ],
     )

@@ -3,7 +3,6 @@ use mathlib.Core.Bool.{true, false}
 use Prim.Native.Nat.{◌≤◌, ◌-◌}
 use lib.ListN.{length}
 use Rattle.records.specs.Walk.{Rest}
-use Rattle.records.proofs.Walk.{end}
 use Rattle.index.specs.Slots.{kept, keep_step}
 use Rattle.index.specs.Intervals.{HeldIn}
 use Rattle.index.proofs.pass.Given as goal
