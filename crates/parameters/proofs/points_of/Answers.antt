@@ -12,26 +12,22 @@ use Rattle.lookup.proofs.Keys.{point-key}
 use Rattle.lookup.proofs.Held.{slot-fits}
 use Rattle.rules.specs.Curve.{points}
 use Rattle.parameters.proofs.Points.{count_next, point-counted}
+use Rattle.parameters.proofs.points_of.Goals.{After-slot_hp}
 use Rattle.parameters.proofs.points_of.Goals as goal
 
 pub loop-i-init : goal.loop-i-init
 loop-i-init c = (omega arith, omega arith, unfold count_to in refl)
 
-in-index : (c : goal.After-slot_hp) → c.slot_hp.result < length c.args.index.now
+in-index : (c : After-slot_hp) → c.slot_hp.result < length c.args.index.now
 in-index c =
     slot-fits c.requires HP (c.loop-i.i + 1) refl (point-key _ (omega arith) (omega arith))
     c.slot_hp.ensures
 
 pub offset_bounds-index-slot_hp : goal.offset_bounds-index-slot_hp
-offset_bounds-index-slot_hp c = omega (arith, in-index c)
-
-in-index-at-2 : (c : goal.After-shared_slice_known-in-loop-i-1-unread) → c.slot_hp.result < length c.args.index.now
-in-index-at-2 c =
-    slot-fits c.requires HP (c.loop-i.i + 1) refl (point-key _ (omega arith) (omega arith))
-    c.slot_hp.ensures
+offset_bounds-index-slot_hp c = omega (arith, in-index (goal.at.offset_bounds-index-slot_hp c).After-slot_hp)
 
 pub bounds-index-slot_hp : goal.bounds-index-slot_hp
-bounds-index-slot_hp c = in-index-at-2 c
+bounds-index-slot_hp c = in-index (goal.at.bounds-index-slot_hp c).After-slot_hp
 
 at_most_one : (c : goal.After-counted-n) → c.counted-n.result ≤ 1
 at_most_one c =
