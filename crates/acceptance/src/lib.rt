@@ -1,8 +1,8 @@
 // Whether a dossier is accepted: 13, 1 to 9 and 17, each with its place.
 #![tactic(auto)]
 
-ghost use Rattle.std.specs.Prelude.{◌≡◌, true, false, [], ◌∷◌, ◌<◌, length};
-ghost use Rattle.records.specs.declared.Answer.TheVariants.{Accepted};
+ghost use Rattle.std.specs.Prelude.{◌≡◌, true, false, [], ◌∷◌, ◌<◌, ◌≤◌, length, IfOk};
+ghost use Rattle.records.specs.Answers.{Accepted, refusal_of};
 ghost use Rattle.records.specs.Dossier.{records, scan};
 ghost use Rattle.station.specs.Current.{current, twins, readable};
 ghost use Rattle.station.specs.Week.{WeekIn};
@@ -12,16 +12,16 @@ ghost use Rattle.rules.specs.Fit.{Known, unfit};
 ghost use Rattle.trials.specs.Trials.{KeysFit};
 ghost use Rattle.records.specs.Table.{RS};
 ghost use Rattle.rules.specs.Answer.{answer};
+ghost use Rattle.index.specs.Slots.{short, wide};
 
-use index::Passed;
+use index::Summary;
 use lookup::Room;
-use records::Answer;
+use records::{Answer, Refusal};
 use requirements::unsupported_of;
 
-// The answer to a dossier, and whether a record may have a first hour, or name an owner.
-#[derive(Drop)]
+// Whether a record of an accepted dossier may have a first hour, or name an owner.
+#[derive(Clone, Copy)]
 pub struct Judged {
-    pub answer: Answer,
     pub dated: bool,
     pub owned: bool,
 }
@@ -40,7 +40,7 @@ fn unfit_dated(d: &[u8], index: &[u16], t: u8, slots: bool) -> Answer
         return counting::first_unfit(d, index, t, true);
     }
     if fit::values_fit(d, t) {
-        return Answer::Accepted;
+        return Ok(());
     }
     counting::first_unfit(d, index, t, false)
 }
@@ -67,26 +67,23 @@ fn rules_after_reading(d: &[u8], index: &[u16], top: usize, dated: bool) -> Answ
 {
     let rs = lookup::rs(d, index);
     if rs.len() == 0 {
-        return Answer::Refused {
+        return Err(Refusal {
             number: 5,
             place: d.len(),
-        };
+        });
     }
-    match unfit_in(d, index, rs, fields::u8_at(rs, 6), top, dated) {
-        Answer::Accepted => unsupported_of(d, index),
-        Answer::Refused { number, place } => Answer::Refused { number, place },
-    }
+    unfit_in(d, index, rs, fields::u8_at(rs, 6), top, dated)?;
+    unsupported_of(d, index)
 }
 
-// The answer to a dossier, with an empty index that has a slot for each of its records.
-fn answer_in(d: &[u8], index: &mut [u16], sums: &mut [u64], top: usize, dated: bool) -> Answer
-    requires { Empty index.old × (sums.old ≡ 0 ∷ 0 ∷ []) × UpTo d.now top × (top < length index.old) × (dated ≡ false → Undated d.now) }
+// The answer to a dossier, with an index of so many slots, one for each of its records.
+fn answer_in<const SLOTS: usize>(d: &[u8], sums: &mut [u64], top: usize, dated: bool) -> Answer
+    requires { (short ≤ SLOTS) × (SLOTS ≤ wide) × (sums.old ≡ 0 ∷ 0 ∷ []) × UpTo d.now top × (top < SLOTS) × (dated ≡ false → Undated d.now) }
     ensures { (result ≡ answer d.now) × (result ≡ Accepted → WeekIn d.now sums.new) }
 {
-    match lookup::open(d, index, sums) {
-        Answer::Accepted => rules_after_reading(d, index, top, dated),
-        Answer::Refused { number, place } => Answer::Refused { number, place },
-    }
+    let mut index = [0u16; SLOTS];
+    lookup::open(d, &mut index, sums)?;
+    rules_after_reading(d, &index, top, dated)
 }
 
 // The answer to a dossier with a record that the index at hand has no slot for: it is read once more, with as many slots as the highest wants.
@@ -95,98 +92,63 @@ fn judge_with_wider_index(d: &[u8], sums: &mut [u64], top: usize, dated: bool) -
     requires { (length sums.old ≡ 2) × (scan 0 (records d.now) ≡ Accepted) × UpTo d.now top × (dated ≡ false → Undated d.now) }
     ensures { (result ≡ answer d.now) × (result ≡ Accepted → WeekIn d.now sums.new) }
 {
-    sums[0] = 0;
-    sums[1] = 0;
+    sums.fill(0);
     if top < index::NARROW {
-        let mut index = [0u16; index::NARROW];
-        return answer_in(d, &mut index, sums, top, dated);
+        answer_in::<{ index::NARROW }>(d, sums, top, dated)
+    } else {
+        answer_in::<{ index::WIDE }>(d, sums, 6510, dated)
     }
-    let mut index = [0u16; index::WIDE];
-    answer_in(d, &mut index, sums, 6510, dated)
 }
 
 // The answer to a dossier that draws none of 13 and 1 to 3, with an index of all its records, given what the pass says.
-fn indexed_answer(d: &[u8], index: &[u16], rising: bool, top: usize, dated: bool) -> Answer
-    requires { Whole d.now index.now × Complete d.now index.now × UpTo d.now top × (rising ≡ true → readable d.now ≡ Accepted)
-        × (dated ≡ false → Undated d.now) }
+fn indexed_answer(d: &[u8], index: &[u16], pass: Summary) -> Answer
+    requires { Whole d.now index.now × Complete d.now index.now × UpTo d.now pass.top × (pass.rising ≡ true → readable d.now ≡ Accepted)
+        × (pass.dated ≡ false → Undated d.now) }
     ensures { result ≡ answer d.now }
 {
-    if rising {
-        return rules_after_reading(d, index, top, dated);
+    if !pass.rising {
+        twins::first_twin(d)?;
     }
-    match twins::first_twin(d) {
-        Answer::Accepted => rules_after_reading(d, index, top, dated),
-        Answer::Refused { number, place } => Answer::Refused { number, place },
-    }
+    rules_after_reading(d, index, pass.top, pass.dated)
 }
 
 // The answer to a dossier, and where it is accepted its index and the sums of its charging week.
-pub fn judge(d: &[u8], index: &mut [u16], sums: &mut [u64]) -> Judged
+pub fn judge(d: &[u8], index: &mut [u16], sums: &mut [u64]) -> Result<Judged, Refusal>
     requires { Empty index.old × (sums.old ≡ 0 ∷ 0 ∷ []) }
-    ensures { (result.answer ≡ answer d.now)
-        × (result.answer ≡ Accepted → Whole d.now index.new × WeekIn d.now sums.new
-        × (result.dated ≡ false → Undated d.now) × (result.owned ≡ false → Unowned d.now)) }
+    ensures answer { refusal_of result ≡ answer d.now }
+    ensures read { IfOk result (λ j. Whole d.now index.new × WeekIn d.now sums.new
+        × (j.dated ≡ false → Undated d.now) × (j.owned ≡ false → Unowned d.now)) }
 {
-    match lookup::scan(d, index, sums) {
-        Passed::Ended { rising, top, dated } => {
-            let owned = FIRST_OWNED <= top;
-            if top < index.len() {
-                let answer = indexed_answer(d, index, rising, top, dated);
-                Judged {
-                    answer,
-                    dated,
-                    owned,
-                }
-            } else {
-                let answer = judge_with_wider_index(d, sums, top, dated);
-                Judged {
-                    answer,
-                    dated,
-                    owned,
-                }
-            }
-        }
-        Passed::Stopped { number, place } => {
-            let answer = Answer::Refused { number, place };
-            Judged {
-                answer,
-                dated: false,
-                owned: false,
-            }
-        }
+    let pass = lookup::scan(d, index, sums)?;
+    if pass.top < index.len() {
+        indexed_answer(d, index, pass)?;
+    } else {
+        judge_with_wider_index(d, sums, pass.top, pass.dated)?;
     }
+    Ok(Judged {
+        dated: pass.dated,
+        owned: FIRST_OWNED <= pass.top,
+    })
 }
 
-// The answer alone.
-fn answer_of(d: &[u8], index: &mut [u16]) -> Answer
-    requires { Empty index.old }
+// The answer alone, with an index of so many slots.
+fn accept_in<const SLOTS: usize>(d: &[u8]) -> Answer
+    requires { (short ≤ SLOTS) × (SLOTS ≤ wide) }
     ensures { result ≡ answer d.now }
 {
+    let mut index = [0u16; SLOTS];
     let mut sums = [0u64; 2];
-    let judged = judge(d, index, &mut sums);
-    judged.answer
+    judge(d, &mut index, &mut sums)?;
+    Ok(())
 }
 
 // The answer to a dossier.
 pub fn accept(d: &[u8]) -> Answer
     ensures { result ≡ answer d.now }
 {
-    match lookup::room_for(d) {
-        Room::TooLong => Answer::Refused {
-            number: 13,
-            place: 0,
-        },
-        Room::Short => {
-            let mut index = [0u16; index::SHORT];
-            answer_of(d, &mut index)
-        }
-        Room::Narrow => {
-            let mut index = [0u16; index::NARROW];
-            answer_of(d, &mut index)
-        }
-        Room::Wide => {
-            let mut index = [0u16; index::WIDE];
-            answer_of(d, &mut index)
-        }
+    match lookup::room_for(d)? {
+        Room::Short => accept_in::<{ index::SHORT }>(d),
+        Room::Narrow => accept_in::<{ index::NARROW }>(d),
+        Room::Wide => accept_in::<{ index::WIDE }>(d),
     }
 }

@@ -1,47 +1,47 @@
 -- The sum of the n highest and the n-th, by a threshold.
-use mathlib.Core.Path.{◌≡◌, refl, ◌∙◌}
+use mathlib.Core.Path.{◌≡◌, refl, ap, ap₂, ◌∙◌}
 use mathlib.Core.Bool.{Bool, true, false, cond}
 use mathlib.Core.List.{List, [], ◌∷◌}
 use Prim.Native.Nat.{ℕ, zero, suc, ◌+◌, ◌*◌, ◌-◌, ◌≤◌, ◌<◌, max, min}
 use native.Mathlib.Decide.{dec_le}
 use native.Mathlib.Nat.{le_refl}
-use native.Mathlib.Numerals.{add-one}
 use native.Mathlib.Omega.{arith}
 use lib.Dec.{leb, ltb}
-use lib.ListN.{length, get_or, drop, drop_of_length-le}
-use lib.Seq.{drop-cons}
+use mir.Syntax.{w32}
+use mir.Val.{bool_byte, Fits}
+use Rattle.std.specs.Prelude.{fold, sum_by}
+use Rattle.std.proofs.lemmas.List.Sums.{sum_by-cons}
+use lib.ListN.{length, get_or}
 use borrow.Author.Tests.{ltb-false}
 use Rattle.lists.specs.Lists.{Each, done, also}
 use Rattle.formulas.specs.Sums.{sum_of, falling, sum_first, sum_highest, from_top, above, at_least}
-use Rattle.formulas.proofs.Sums.{Falls, falling-sum, top, sorted, above-head, above-not, least-head, least-not, one-cond, falls-above, falls-least}
+use Rattle.formulas.proofs.Sums.{Falls, falling-sum, top, sorted, above-head, above-not, least-head, least-not, one-cond, one-if, falls-above, falls-least}
 use Rattle.formulas.proofs.Sums.{from_top-few, from_top-enough}
-use Rattle.arithmetic.specs.Highest.{excess, in_turn, Threshold, PriceIn}
+use Rattle.arithmetic.specs.Highest.{excess, Threshold, PriceIn}
 
--- ---- a loop that adds up f of each element
+-- ---- what a chain adds up is `sum_of`
 
-pub sum-turn : (f : ℕ → ℕ) (s : List ℕ) (k c t x : ℕ) → k < length s → c + sum_of f (drop k s) ≡ t → x ≡ f (get_or s k 0) → c + x + sum_of f (drop (k + 1) s) ≡ t
+pub sum_by-sum_of : (f : ℕ → ℕ) (l : List ℕ) → sum_by f l ≡ sum_of f l
 unfolding sum_of
-sum-turn f s k c t x h e p =
-    let g : c + sum_of f (get_or s k 0 ∷ drop (suc k) s) ≡ t = rw (drop-cons s k 0 h) at e in
-    rw (add-one k) (omega (arith, g, p))
+sum_by-sum_of f [] = refl
+sum_by-sum_of f (x ∷ l) = sum_by-cons f x l ∙ ap (λ (n : ℕ). f x + n) (sum_by-sum_of f l)
 
-pub sum-end : (f : ℕ → ℕ) (s : List ℕ) (k c t : ℕ) → length s ≤ k → c + sum_of f (drop k s) ≡ t → c ≡ t
+-- with tests as numbers it is a count
+pub sum-tests : (v : ℕ) (l : List ℕ) → sum_by (λ x. bool_byte (ltb v x)) l ≡ above v l
 unfolding sum_of
-sum-end f s k c t h e =
-    let g : c + sum_of f [] ≡ t = rw (drop_of_length-le s {i = k} h) at e in
-    omega (arith, g)
+sum-tests v l = sum_by-sum_of (λ x. bool_byte (ltb v x)) l ∙ go l
+  where
+    go : (l : List ℕ) → sum_of (λ x. bool_byte (ltb v x)) l ≡ above v l
+    go [] = refl
+    go (x ∷ l) = ap₂ (λ (a b : ℕ). a + b) (one-if (ltb v x)) (go l)
+
+-- and no more than the length times the highest of them
+pub excess-high : (v : ℕ) (l : List ℕ) → ((i : ℕ) → Fits w32 (get_or l i 0)) → excess v l ≤ length l * 4294967295
+unfolding sum_of
+excess-high v [] h = le_refl 0
+excess-high v (x ∷ l) h = omega (arith, h 0, excess-high v l (λ i. h (suc i)))
 
 -- ---- the search for a threshold
-
--- one more than v, or more, is above v
-pub above-next : (v : ℕ) (l : List ℕ) → at_least (v + 1) l ≡ above v l
-unfolding sum_of
-above-next v [] = refl
-above-next v (x ∷ l) = go (dec_le (v + 1) x) (above-next v l)
-  where
-    go : Dec (v + 1 ≤ x) → at_least (v + 1) l ≡ above v l → cond (leb (v + 1) x) 1 0 + at_least (v + 1) l ≡ cond (ltb v x) 1 0 + above v l
-    go (yes h) e = omega (arith, least-head (v + 1) x h, above-head v x (omega arith), e)
-    go (no h) e = omega (arith, least-not (v + 1) x (omega arith), above-not v x (omega arith), e)
 
 above-least : (v : ℕ) (l : List ℕ) → above v l ≤ at_least v l
 unfolding sum_of
@@ -56,56 +56,38 @@ above-least v (x ∷ l) = go (dec_le v x) (above-least v l)
 pub threshold-middle : (n most v : ℕ) (s : List ℕ) → n ≤ above v s → above v s ≤ most → Threshold n most v s
 threshold-middle n most v s p q = record { few = q; enough = omega (arith, p, above-least v s) }
 
--- where the two ends of the search meet
-pub threshold-met : (n most lo hi : ℕ) (s : List ℕ) → hi ≤ lo → lo ≤ hi → n ≤ at_least lo s → above hi s ≤ most → Threshold n most lo s
-threshold-met n most lo hi s p q e f =
-    let z : hi ≡ lo = omega arith in
-    record { few = rw z at f; enough = e }
-
 -- ---- the lowest and the highest of a list
 
-pub turn-next : (f : ℕ → ℕ → ℕ) (s : List ℕ) (k a t x : ℕ) → k < length s → in_turn f a (drop k s) ≡ t → x ≡ f a (get_or s k 0) → in_turn f x (drop (k + 1) s) ≡ t
-unfolding in_turn
-turn-next f s k a t x h e p = rw (p, add-one k) (rw (drop-cons s k 0 h) at e)
-
-pub turn_end : (f : ℕ → ℕ → ℕ) (s : List ℕ) (k a t : ℕ) → length s ≤ k → in_turn f a (drop k s) ≡ t → a ≡ t
-unfolding in_turn
-turn_end f s k a t h e = rw (drop_of_length-le s {i = k} h) at e
-
-lowest-le : (a : ℕ) (l : List ℕ) → in_turn min a l ≤ a
-unfolding in_turn
+lowest-le : (a : ℕ) (l : List ℕ) → fold min a l ≤ a
 lowest-le a [] = le_refl a
 lowest-le a (x ∷ l) = omega (arith, lowest-le (min a x) l)
 
-pub topmost-le : (a : ℕ) (l : List ℕ) → a ≤ in_turn max a l
-unfolding in_turn
+pub topmost-le : (a : ℕ) (l : List ℕ) → a ≤ fold max a l
 topmost-le a [] = le_refl a
 topmost-le a (x ∷ l) = omega (arith, topmost-le (max a x) l)
 
 -- all are the lowest or more, and none is above the highest
-pub all-least : (v a : ℕ) (l : List ℕ) → v ≤ in_turn min a l → at_least v l ≡ length l
-unfolding in_turn sum_of
+pub all-least : (v a : ℕ) (l : List ℕ) → v ≤ fold min a l → at_least v l ≡ length l
+unfolding sum_of
 all-least v a [] h = refl
 all-least v a (x ∷ l) h = omega (arith, least-head v x (omega (arith, lowest-le (min a x) l)), all-least v (min a x) l h)
 
-pub none_above : (v a : ℕ) (l : List ℕ) → in_turn max a l ≤ v → above v l ≡ 0
-unfolding in_turn sum_of
+pub none_above : (v a : ℕ) (l : List ℕ) → fold max a l ≤ v → above v l ≡ 0
+unfolding sum_of
 none_above v a [] h = refl
 none_above v a (x ∷ l) h = omega (arith, above-not v x (omega (arith, topmost-le (max a x) l)), none_above v (max a x) l h)
 
 -- and both are prices
-pub lowest-in : (a : ℕ) {l : List ℕ} → Each PriceIn l → PriceIn a → PriceIn (in_turn min a l)
-unfolding in_turn
+pub lowest-in : (a : ℕ) {l : List ℕ} → Each PriceIn l → PriceIn a → PriceIn (fold min a l)
 lowest-in a done p = p
 lowest-in a (also {a = x} h e) p = lowest-in (min a x) e (record { low = omega (arith, h.low, p.low); high = omega (arith, p.high) })
 
-pub topmost-in : (a : ℕ) {l : List ℕ} → Each PriceIn l → PriceIn a → PriceIn (in_turn max a l)
-unfolding in_turn
+pub topmost-in : (a : ℕ) {l : List ℕ} → Each PriceIn l → PriceIn a → PriceIn (fold max a l)
 topmost-in a done p = p
 topmost-in a (also {a = x} h e) p = topmost-in (max a x) e (record { low = omega (arith, p.low); high = omega (arith, h.high, p.high) })
 
 -- where all may be above, the lowest is a threshold
-pub threshold-lowest : (n most v a : ℕ) (l : List ℕ) → n ≤ length l → length l ≤ most → v ≤ in_turn min a l → Threshold n most v l
+pub threshold-lowest : (n most v a : ℕ) (l : List ℕ) → n ≤ length l → length l ≤ most → v ≤ fold min a l → Threshold n most v l
 threshold-lowest n most v a l p q h =
     let e = all-least v a l h in
     record { few = omega (arith, above-least v l); enough = omega arith }

@@ -1,6 +1,6 @@
 -- The n highest of a list by a threshold: what each lies above it, and the threshold n times. The law `highest-sum` says
 -- that this is their sum, and `threshold-place` that a threshold with fewer than n above it is the number at place n from the top.
-use Rattle.std.specs.Prelude.{List, [], ◌∷◌, ℕ, ◌-◌, ◌≤◌}
+use Rattle.std.specs.Prelude.{List, ℕ, ◌-◌, ◌≤◌}
 use Rattle.formulas.specs.Sums.{sum_of, above, at_least}
 
 -- what those above v have above it
@@ -16,8 +16,3 @@ pub record Threshold (n most v : ℕ) (l : List ℕ) : Type 0 where
 pub record PriceIn (x : ℕ) : Type 0 where
   pub low : 2147283648 ≤ x
   pub high : x ≤ 2147683648
-
--- f of what is in hand and each number in turn: with `min` the lowest of a list, with `max` the highest
-unfoldable pub in_turn : (ℕ → ℕ → ℕ) → ℕ → List ℕ → ℕ
-in_turn f a [] = a
-in_turn f a (x ∷ l) = in_turn f (f a x) l

@@ -1,52 +1,24 @@
 // The highest of some prices, by a price that parts them from the others: it is found by halving the range that they lie in.
-ghost use Rattle.std.specs.Prelude.{◌≡◌, ◌+◌, ◌*◌, ◌≤◌, max, min, length};
+ghost use Rattle.std.specs.Prelude.{◌≡◌, ◌+◌, ◌*◌, ◌≤◌, max, min, fold, length};
 ghost use Rattle.lists.specs.Lists.{Each};
 ghost use Rattle.formulas.specs.Sums.{sum_highest, from_top, above, at_least};
-ghost use Rattle.arithmetic.specs.Highest.{excess, in_turn, Threshold, PriceIn};
-
-use crate::less;
+ghost use Rattle.arithmetic.specs.Highest.{excess, Threshold, PriceIn};
 
 // The highest price, plus 2^31.
 const HIGHEST: u32 = records::HIGHEST_PRICE as u32;
 
-// The lesser of two prices.
-fn lower(a: u32, b: u32) -> u32
-    ensures { result ≡ min a b }
-{
-    if a < b { a } else { b }
-}
-
-// The greater of two.
-fn higher(a: u32, b: u32) -> u32
-    ensures { result ≡ max a b }
-{
-    if a < b { b } else { a }
-}
-
 // The lowest of some, or a price if it is lower.
 fn lowest(s: &[u32], price: u32) -> u32
-    ensures { result ≡ in_turn min price s.now }
+    ensures { result ≡ fold min price s.now }
 {
-    let mut low = price;
-    let mut k = 0;
-    while k < s.len() {
-        low = lower(low, s[k]);
-        k += 1;
-    }
-    low
+    s.iter().fold(price, |low, &x| low.min(x))
 }
 
 // The highest of some, or a price if it is higher.
 fn topmost(s: &[u32], price: u32) -> u32
-    ensures { result ≡ in_turn max price s.now }
+    ensures { result ≡ fold max price s.now }
 {
-    let mut top = price;
-    let mut k = 0;
-    while k < s.len() {
-        top = higher(top, s[k]);
-        k += 1;
-    }
-    top
+    s.iter().fold(price, |top, &x| top.max(x))
 }
 
 // How many are above v: at most 65,536, which 32 bits count, so that the compiler takes four at a time.
@@ -54,13 +26,7 @@ fn above(s: &[u32], v: u32) -> u32
     requires { length s.now ≤ 65536 }
     ensures { result ≡ above v s.now }
 {
-    let mut n = 0u32;
-    let mut k = 0;
-    while k < s.len() {
-        n += (v < s[k]) as u32;
-        k += 1;
-    }
-    n
+    s.iter().map(|&x| (v < x) as u32).sum()
 }
 
 // What those above v have above it.
@@ -68,17 +34,11 @@ fn excess(s: &[u32], v: u32) -> u64
     requires { length s.now ≤ 168 }
     ensures { (result ≡ excess v s.now) × (result ≤ 168 * 4294967295) }
 {
-    let mut sum = 0;
-    let mut k = 0;
-    while k < s.len() {
-        sum += less(s[k] as u64, v as u64);
-        k += 1;
-    }
-    sum
+    s.iter().map(|&x| x.saturating_sub(v) as u64).sum()
 }
 
 // A threshold of the n highest with no more than `most` above it, between two that lie on either side of it. Any is as good as another, so that the halving
-// stops at the first middle that is one.
+// stops at the first middle that is one. The range is halved, which no iterator does, so it is a `while`.
 fn threshold(s: &[u32], n: usize, most: usize, low: u32, high: u32) -> u32
     requires { (length s.now ≤ 65536) × (n ≤ most + 1) × (low ≤ high) × (n ≤ at_least low s.now) × (above high s.now ≤ most) }
     ensures { Threshold n most result s.now × (low ≤ result) × (result ≤ high) }

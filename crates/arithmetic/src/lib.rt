@@ -3,7 +3,7 @@
 
 pub mod highest;
 
-ghost use Rattle.std.specs.Prelude.{◌≡◌, ◌+◌, ◌*◌, ◌-◌, ◌≤◌, max};
+ghost use Rattle.std.specs.Prelude.{◌≡◌, ◌+◌, ◌*◌, ◌≤◌};
 ghost use Rattle.formulas.specs.Exact.{quotient, cents};
 
 // One number over another, to the nearest, half up; 0 where the divisor is 0. Twice the number might not fit, so the
@@ -35,22 +35,8 @@ pub fn rise_cost(heat: u64, output: u64, fuel: u64, emission: u64, factor: u64) 
     share(heat * fuel * factor, 100000 * output) + share(heat * emission, 100 * output)
 }
 
-// A difference that stops at 0.
-pub fn less(a: u64, b: u64) -> u64
-    ensures { result ≡ a - b }
-{
-    if a < b { 0 } else { a - b }
-}
-
-// The greater of two numbers.
-pub fn greater(a: u64, b: u64) -> u64
-    ensures { result ≡ max a b }
-{
-    if a < b { b } else { a }
-}
-
 // An amount of money in whole cents.
-#[derive(Drop)]
+#[derive(Clone, Copy, Debug, PartialEq, Eq, PartialOrd, Ord)]
 pub struct Money {
     pub cents: u64,
 }

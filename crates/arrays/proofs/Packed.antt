@@ -20,7 +20,7 @@ use Rattle.arrays.specs.declared.SingleLevels.{SingleLevels}
 use Rattle.formulas.specs.Exact.{Sum, quotient, micro_dollars, cents}
 use Rattle.formulas.specs.Levels.{lines_of, Line, amount, adders, start_cost, no_load_cost, nuclear_energy}
 use Rattle.formulas.specs.Levels.{storage_energy, hydro_energy, lamination}
-use Rattle.formulas.specs.Levels.{laminations, one_lamination, single, lines_of, lines, levels, Shown, shown_as, shown}
+use Rattle.formulas.specs.Levels.{laminations, one_lamination, single, lines_of, Shown, shown_as, shown}
 use Rattle.arrays.specs.Packed.{Arrays, arrays_of, laminations_from, single_of, unpacked, energy_lines, amount_of, padded, hour_levels, single_levels, hour_of}
 use Rattle.arrays.specs.Packed.{packed}
 
@@ -33,16 +33,7 @@ padded-set (suc k) i [] h g = absurd (omega arith)
 padded-set (suc k) zero (x ∷ l) h g = refl
 padded-set (suc k) (suc i) (x ∷ l) h g = ap (λ (r : List ℕ). x ∷ r) (padded-set k i l (omega arith) (omega arith))
 
-pub padded-length : (k : ℕ) (l : List ℕ) → length (padded k l) ≡ k
-unfolding padded
-padded-length zero l = refl
-padded-length (suc k) [] = ap suc (padded-length k [])
-padded-length (suc k) (x ∷ l) = ap suc (padded-length k l)
-
--- an empty array, and its first place filled
-pub twenty : {a : List ℕ} → a ≡ replicate 20 0 → length a ≡ 20
-twenty e = ap length e
-
+-- an empty array's first place filled
 pub first-set : {a : List ℕ} {x y : ℕ} → a ≡ replicate 20 0 → x ≡ y → set a 0 x ≡ padded 20 (y ∷ [])
 unfolding padded
 first-set e f = rw (e, f) refl
@@ -54,9 +45,6 @@ row_more l a i x h g e f = rw (e, f, add-one i) (padded-set 20 i l h g)
 -- all places
 pub row_ends : (l a : List ℕ) (i : ℕ) → length l ≤ i → a ≡ padded 20 (take i l) → a ≡ padded 20 l
 row_ends l a i h e = e ∙ ap (padded 20) (take_all i l h)
-
-pub row-length : (l a : List ℕ) (i : ℕ) → a ≡ padded 20 (take i l) → length a ≡ 20
-row-length l a i e = ap length e ∙ padded-length 20 (take i l)
 
 -- ---- the laminations one by one
 

@@ -1,5 +1,5 @@
 -- The levels as code hands them over: numbers in arrays of 20, without their formulas. `unpacked` reads them as lines again.
-use Rattle.std.specs.Prelude.{cond, List, [], ◌∷◌, ◌++◌, map, ℕ, zero, suc, ◌+◌, eqb, length, get_or, replicate}
+use Rattle.std.specs.Prelude.{cond, List, [], ◌∷◌, ◌++◌, map, ℕ, zero, suc, eqb, length, get_or}
 use Rattle.station.specs.InForce.{Query}
 use Rattle.station.specs.Parameters.{Parameters, Amounts, technology}
 use Rattle.rules.specs.Fit.{energy, start, no_load, reserve, holds}
@@ -95,7 +95,3 @@ packed_at d q = packed (technology (parameters_at d q)) (profile (parameters_at 
 -- the sum of a level v without laminations, where it is held
 unfoldable pub single_sum : Parameters → Amounts → ℕ → ℕ → Sum
 single_sum s m p v = cond (eqb v start) (start_cost s m p) (cond (eqb v no_load) (no_load_cost s m p) (adders m p reserve))
-
--- what a refused call shows
-abbrev pub no_levels : HourLevels
-no_levels = hour_levels 0 0 0 (replicate 20 0) (replicate 20 0) (replicate 20 0) 0 0 0

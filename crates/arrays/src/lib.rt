@@ -3,7 +3,7 @@
 #![tactic(auto)]
 
 // The levels at an hour: up to 20 laminations with from and to in 0.1 MW and their level, and the other levels where the
-// technology holds them, 0 where it doesn't; all levels in cents.
+// technology holds them, 0 where it doesn't; all levels in cents. No copy of its half a kilobyte is made unasked, so it isn't Copy.
 #[derive(Drop)]
 pub struct HourLevels {
     pub technology: u8,

@@ -12,8 +12,7 @@ ghost use Rattle.layout.specs.Report.{written, report, report_answer, buffer_aft
 ghost use Rattle.words.specs.Words.{words_answer, words_after};
 ghost use Rattle.bench.specs.Codes.{coded, answer_code, part_code, words_code, verdict_code, written_code, week_code};
 
-use layout::Written;
-use records::Answer;
+use records::Refusal;
 use verdicts::Verdict;
 
 // class × 2^56 + a × 2^32 + b
@@ -24,17 +23,38 @@ fn code(class: u64, a: usize, b: usize) -> u64
     class * 72057594037927936 + (a as u64) % 16777216 * 4294967296 + (b as u64) % 4294967296
 }
 
+// class 2: a refusal's number and place
+fn refused(refusal: Refusal) -> u64
+    ensures { result ≡ coded 2 refusal.number refusal.place }
+{
+    code(2, usize::from(refusal.number), refusal.place)
+}
+
+// The code of a verdict.
+#[tactic(auto, unfolding(crate::specs::Codes::verdict_code))]
+fn of_verdict(verdict: Verdict) -> u64
+    ensures { result ≡ verdict_code verdict }
+{
+    match verdict {
+        Verdict::Passes => 0,
+        Verdict::Fails { pair, lamination } => code(1, pair, lamination),
+        Verdict::Refused { number, place } => refused(Refusal { number, place }),
+    }
+}
+
 // Whether a dossier is accepted.
+#[tactic(auto, unfolding(crate::specs::Codes::answer_code))]
 pub fn bench_accept(dossier: &[u8]) -> u64
     ensures { result ≡ answer_code (answer dossier.now) }
 {
     match acceptance::accept(dossier) {
-        Answer::Accepted => 0,
-        Answer::Refused { number, place } => code(2, number as usize, place),
+        Ok(()) => 0,
+        Err(refusal) => refused(refusal),
     }
 }
 
 // Where the current record of a mark and key stands in a dossier.
+#[tactic(auto, unfolding(crate::specs::Codes::part_code))]
 pub fn bench_current(dossier: &[u8], letters: u16, key: u32) -> u64
     ensures { result ≡ part_code (lookup_part dossier.now (kind_of (mark (letters / 256 ∷ letters % 256 ∷ []))) key) }
 {
@@ -45,13 +65,14 @@ pub fn bench_current(dossier: &[u8], letters: u16, key: u32) -> u64
 }
 
 // The levels at an hour, as words in a lent list; class 0 with 66.
+#[tactic(auto, unfolding(crate::specs::Codes::words_code))]
 pub fn bench_levels(dossier: &[u8], hour: u32, owner: u8, words: &mut [u64]) -> u64
     ensures answer { result ≡ words_code (words_answer dossier.now (query hour owner) (length words.old)) }
     ensures words { words.new ≡ words_after dossier.now (query hour owner) words.old }
 {
     match words::levels_words(dossier, hour, owner, words) {
-        Answer::Accepted => 66,
-        Answer::Refused { number, place } => code(2, number as usize, place),
+        Ok(()) => 66,
+        Err(refusal) => refused(refusal),
     }
 }
 
@@ -59,11 +80,7 @@ pub fn bench_levels(dossier: &[u8], hour: u32, owner: u8, words: &mut [u64]) -> 
 pub fn bench_energy_test(dossier: &[u8], hour: u32, owner: u8, condition: u8, offer: &[u8]) -> u64
     ensures { result ≡ verdict_code (on_offer dossier.now (query hour owner) condition offer.now) }
 {
-    match conduct::energy_test(dossier, hour, owner, condition, offer) {
-        Verdict::Passes => 0,
-        Verdict::Fails { pair, lamination } => code(1, pair, lamination),
-        Verdict::Refused { number, place } => code(2, number as usize, place),
-    }
+    of_verdict(conduct::energy_test(dossier, hour, owner, condition, offer))
 }
 
 // The conduct test of a single price in cents.
@@ -77,33 +94,31 @@ pub fn bench_price_test(
 ) -> u64
     ensures { result ≡ verdict_code (on_price dossier.now (query hour owner) level condition price) }
 {
-    match conduct::price_test(dossier, hour, owner, level, condition, price) {
-        Verdict::Passes => 0,
-        Verdict::Fails { pair, lamination } => code(1, pair, lamination),
-        Verdict::Refused { number, place } => code(2, number as usize, place),
-    }
+    of_verdict(conduct::price_test(dossier, hour, owner, level, condition, price))
 }
 
 // The report, written to a lent buffer.
+#[tactic(auto, unfolding(crate::specs::Codes::written_code))]
 pub fn bench_report(dossier: &[u8], hour: u32, owner: u8, buffer: &mut [u8]) -> u64
     ensures answer { result ≡ written_code (written (report_answer dossier.now (query hour owner) (length buffer.old))
         (length (report dossier.now (query hour owner)))) }
     ensures buffer { buffer.new ≡ buffer_after dossier.now (query hour owner) buffer.old }
 {
     match report::report(dossier, hour, owner, buffer) {
-        Written::Bytes(n) => code(0, 0, n),
-        Written::Refused { number, place } => code(2, number as usize, place),
+        Ok(n) => code(0, 0, n),
+        Err(refusal) => refused(refusal),
     }
 }
 
 // The charging week: prices in cents and energies in kWh, in two lent lists; class 0 with 2,016.
+#[tactic(auto, unfolding(crate::specs::Codes::week_code))]
 pub fn bench_week(dossier: &[u8], prices: &mut [i32], energies: &mut [u32]) -> u64
     ensures answer { result ≡ week_code (week_answer dossier.now (length prices.old) (length energies.old)) }
     ensures prices { prices.new ≡ prices_after dossier.now prices.old energies.old }
     ensures energies { energies.new ≡ energies_after dossier.now prices.old energies.old }
 {
     match week::week(dossier, prices, energies) {
-        Answer::Accepted => 2016,
-        Answer::Refused { number, place } => code(2, number as usize, place),
+        Ok(()) => 2016,
+        Err(refusal) => refused(refusal),
     }
 }

@@ -4,8 +4,11 @@ use mathlib.Core.List.{List, map}
 use Prim.Native.Nat.{ℕ, ◌/◌}
 use lib.IntN.{ℤ}
 use lib.ListN.{length}
+use Rattle.std.specs.Prelude.{Result, Ok, Err}
+use Rattle.std.specs.Result.{MatchResult}
 use Rattle.fields.specs.Numbers.{biased_of}
-use Rattle.records.specs.declared.Answer.TheVariants.{Accepted}
+use Rattle.records.specs.declared.Refusal.{Refusal}
+use Rattle.records.specs.Answers.{Accepted}
 use Rattle.station.specs.InForce.{Query}
 use Rattle.station.specs.Parameters.{Parameters, Amounts}
 use Rattle.lookup.specs.Parts.{parameters_held}
@@ -15,8 +18,9 @@ use Rattle.formulas.specs.Levels.{Line, shown, lines_of}
 use Rattle.arrays.specs.declared.HourLevels.{HourLevels}
 use Rattle.arrays.specs.Packed.{arrays_of, laminations_from, unpacked, amount_of}
 use Rattle.verdicts.specs.declared.Verdict.{Verdict}
+use Rattle.verdicts.specs.declared.Verdict.TheVariants.{Refused}
 use Rattle.verdicts.specs.Refusals.{offer_refusal, price_refusal}
-use Rattle.verdicts.specs.Verdict.{offer_verdict, price_verdict, on_offer, on_price}
+use Rattle.verdicts.specs.Verdict.{verdict_of, offer_verdict, price_verdict, on_offer, on_price}
 use Rattle.verdicts.proofs.Settled.{settle-accepted, price-accepted, on-offer, on-price}
 use Rattle.limits.specs.declared.Threshold.{Threshold}
 use Rattle.limits.specs.Thresholds.{threshold_of, offer_shown, single_shown}
@@ -25,6 +29,12 @@ use Rattle.limits.proofs.Single.{single-tested}
 use Rattle.query.proofs.Asking.{Ready}
 use Rattle.reference.specs.Held.{lines_held}
 use Rattle.reference.proofs.AtQuery.{lines-held}
+
+-- a refusal told as a verdict is the verdict of what was tested
+pub unwrapped : (w : Result Verdict Refusal) {v : Verdict} → MatchResult w (λ x. v ≡ x) (λ r. v ≡ Refused r.number r.place) → v ≡ verdict_of w
+unfolding verdict_of
+unwrapped (Ok x) e = e
+unwrapped (Err r) e = e
 
 -- the levels r were handed over for l; their laminations alone are tested
 pub offer-tested :

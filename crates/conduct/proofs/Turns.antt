@@ -13,11 +13,9 @@ use lib.ListN.{length}
 use borrow.Author.Tests.{lt-ltb, le-ltb, leb-true, ltb-true, not-false}
 use Rattle.lists.specs.Tests.{every, between}
 use Rattle.lists.proofs.Tests.{and_left, and_right}
-use Rattle.records.specs.declared.Answer.{Answer}
-use Rattle.records.specs.declared.Answer.TheVariants.{Accepted, Refused}
 use Rattle.records.specs.Table.{TH}
 use Rattle.records.specs.Record.{in_range}
-use Rattle.records.specs.Answers.{or_else, refuse_if}
+use Rattle.records.specs.Answers.{Accepted, or_else, refuse_if, Refused}
 use Rattle.records.proofs.Answers.{not-refuse_if, or_else-parts}
 use Rattle.station.specs.Current.{current, present}
 use Rattle.station.specs.Parameters.{Parameters, parameters, capacity, technology, threshold_key}
@@ -28,7 +26,7 @@ use Rattle.limits.specs.Thresholds.{LastHighest}
 use Rattle.limits.proofs.Turns.{one_less}
 use Rattle.conduct.specs.Pairs.{pair_test}
 
--- ---- chains of answers
+-- ---- one answer
 
 refused-if : (b : Bool) (n p : ℕ) → b ≡ true → Refused n p ≡ refuse_if b n p
 unfolding refuse_if
@@ -37,14 +35,6 @@ refused-if b n p e = rw e refl
 accepted-if : (b : Bool) (n p : ℕ) → b ≡ false → Accepted ≡ refuse_if b n p
 unfolding refuse_if
 accepted-if b n p e = rw e refl
-
-pub refused-first : {a : Answer} {n p : ℕ} (b : Answer) → a ≡ Refused n p → Refused n p ≡ or_else a b
-unfolding or_else
-refused-first b e = rw e refl
-
-pub accepted-then : {a : Answer} (b : Answer) → a ≡ Accepted → b ≡ or_else a b
-unfolding or_else
-accepted-then b e = rw e refl
 
 -- ---- pairs in turn
 

@@ -1,11 +1,12 @@
 // 10, 11, 12 and 14: what an offer, a level or a condition draws.
 ghost use Rattle.std.specs.Prelude.{◌≡◌, ◌≤◌, ◌/◌, length};
-ghost use Rattle.records.specs.declared.Answer.TheVariants.{Accepted};
+ghost use Rattle.records.specs.Answers.{Accepted};
 ghost use Rattle.lookup.specs.Parts.{Indexed, parameters_held};
-ghost use Rattle.verdicts.specs.Refusals.{malformed as malformed_from, above_capacity, length_refusal, level_refusal, condition_refusal, offer_refusal, price_refusal};
+ghost use Rattle.verdicts.specs.Refusals.{malformed as malformed_from, above_capacity, length_refusal, level_refusal};
+ghost use Rattle.verdicts.specs.Refusals.{condition_refusal, offer_refusal, price_refusal};
 ghost use Rattle.conduct.specs.Pairs.{pair_test};
 
-use records::Answer;
+use records::{Answer, Refusal};
 
 // Whether a pair holds beside the quantity and the price before it.
 fn pair_holds(low: u64, last: u64, high: u64, price: u64) -> bool
@@ -23,23 +24,21 @@ fn malformed(offer: &[u8]) -> Answer
     ensures { result ≡ malformed_from offer.now 0 (length offer.now / 6) }
 {
     let pairs = offer.len() / 6;
-    let mut low: u64 = 0;
-    let mut last: u64 = 0;
-    let mut k = 0;
-    while k < pairs {
+    let mut low = 0;
+    let mut last = 0;
+    for k in 0..pairs {
         let high = limits::quantity_at(offer, k);
         let price = limits::price_at(offer, k);
         if !pair_holds(low, last, high, price) {
-            return Answer::Refused {
+            return Err(Refusal {
                 number: 10,
                 place: 6 * k,
-            };
+            });
         }
         low = high;
         last = price;
-        k += 1;
     }
-    Answer::Accepted
+    Ok(())
 }
 
 // 11 at the first pair whose quantity is above the capacity.
@@ -49,17 +48,15 @@ fn above_capacity(d: &[u8], index: &[u16], offer: &[u8]) -> Answer
 {
     let capacity = parameters::capacity(d, index);
     let pairs = offer.len() / 6;
-    let mut k = 0;
-    while k < pairs {
+    for k in 0..pairs {
         if capacity < limits::quantity_at(offer, k) {
-            return Answer::Refused {
+            return Err(Refusal {
                 number: 11,
                 place: 6 * k,
-            };
+            });
         }
-        k += 1;
     }
-    Answer::Accepted
+    Ok(())
 }
 
 // 11 of an offer that draws no 10: its quantities rise, so where the last is not above the capacity, none is.
@@ -69,11 +66,11 @@ fn capacity_refusal(d: &[u8], index: &[u16], offer: &[u8]) -> Answer
 {
     let pairs = offer.len() / 6;
     if pairs == 0 {
-        return Answer::Accepted;
+        return Ok(());
     }
     let capacity = parameters::capacity(d, index);
     if limits::quantity_at(offer, pairs - 1) <= capacity {
-        return Answer::Accepted;
+        return Ok(());
     }
     above_capacity(d, index, offer)
 }
@@ -84,12 +81,12 @@ fn length_refusal(offer: &[u8]) -> Answer
 {
     let n = offer.len();
     if (6 <= n) & (n <= 120) & (n % 6 == 0) {
-        Answer::Accepted
+        Ok(())
     } else {
-        Answer::Refused {
+        Err(Refusal {
             number: 10,
             place: n,
-        }
+        })
     }
 }
 
@@ -100,12 +97,12 @@ fn level_refusal(d: &[u8], index: &[u16], level: u8) -> Answer
 {
     let technology = parameters::technology(d, index);
     if (level == 1) | !rules::level_held(technology, level) {
-        Answer::Refused {
+        Err(Refusal {
             number: 12,
             place: 0,
-        }
+        })
     } else {
-        Answer::Accepted
+        Ok(())
     }
 }
 
@@ -117,13 +114,13 @@ fn condition_refusal(d: &[u8], index: &[u16], level: usize, condition: usize) ->
     if (1 <= condition) & (condition <= 3) {
         let th = lookup::th(d, index, condition, level);
         if 0 < th.len() {
-            return Answer::Accepted;
+            return Ok(());
         }
     }
-    Answer::Refused {
+    Err(Refusal {
         number: 14,
         place: 0,
-    }
+    })
 }
 
 // The refusals of an energy offer, in their order.
@@ -131,16 +128,10 @@ pub fn offer_refusal(d: &[u8], index: &[u16], condition: usize, offer: &[u8]) ->
     requires { Indexed d.now index.now }
     ensures { result ≡ offer_refusal (parameters_held d.now index.now) condition offer.now }
 {
-    match condition_refusal(d, index, 1, condition) {
-        Answer::Refused { number, place } => Answer::Refused { number, place },
-        Answer::Accepted => match length_refusal(offer) {
-            Answer::Refused { number, place } => Answer::Refused { number, place },
-            Answer::Accepted => match malformed(offer) {
-                Answer::Refused { number, place } => Answer::Refused { number, place },
-                Answer::Accepted => capacity_refusal(d, index, offer),
-            },
-        },
-    }
+    condition_refusal(d, index, 1, condition)?;
+    length_refusal(offer)?;
+    malformed(offer)?;
+    capacity_refusal(d, index, offer)
 }
 
 // The refusals of a single price, in their order.
@@ -148,8 +139,6 @@ pub fn price_refusal(d: &[u8], index: &[u16], level: u8, condition: usize) -> An
     requires { Indexed d.now index.now }
     ensures { result ≡ price_refusal (parameters_held d.now index.now) level condition }
 {
-    match level_refusal(d, index, level) {
-        Answer::Refused { number, place } => Answer::Refused { number, place },
-        Answer::Accepted => condition_refusal(d, index, level as usize, condition),
-    }
+    level_refusal(d, index, level)?;
+    condition_refusal(d, index, level as usize, condition)
 }

@@ -55,11 +55,6 @@ prices-more c f l n i x w h p e g =
     let q : c - n ≡ suc i = omega (arith, p) in
     rw (← p, set_front l i x (omega arith), ← q, e, add-one n, rw (add-one n) at g) refl
 
-pub prices-end : (c : ℕ) (f : ℕ → ℕ) (l : List ℕ) (n w : ℕ) → w ≤ n → n ≤ w → drop (c - n) l ≡ list_to n f → drop (c - w) l ≡ list_to w f
-prices-end c f l n w p q e =
-    let z : n ≡ w = omega arith in
-    rw z at e
-
 -- the part of the array that holds them
 pub prices-part : (c : ℕ) (f : ℕ → ℕ) (l : List ℕ) (w : ℕ) → w ≤ c → drop (c - w) l ≡ list_to w f → take (c - (c - w)) (drop (c - w) l) ≡ list_to w f
 prices-part c f l w h e = rw e (take_all (c - (c - w)) (list_to w f) (omega (arith, length-list_to w f)))

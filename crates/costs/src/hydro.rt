@@ -1,35 +1,23 @@
 // The hydroelectric level: the forecast price at the place from the top.
-ghost use Rattle.std.specs.Prelude.{◌≡◌, ◌/◌, ◌-◌, ◌≤◌, length, drop};
+ghost use Rattle.std.specs.Prelude.{◌≡◌, ◌/◌, ◌-◌, ◌≤◌};
 ghost use Rattle.station.specs.Parameters.{window, place_price};
 ghost use Rattle.lookup.specs.Parts.{Indexed, Complete, parameters_held, amounts_held};
 ghost use Rattle.formulas.specs.Sums.{list_to, from_top};
 ghost use Rattle.formulas.specs.Exact.{micro_dollars};
 ghost use Rattle.formulas.specs.Levels.{parameters_in, amounts_in, forecast_price, hydro_energy};
 
+use crate::fill::last_places;
 use crate::maintenance::additions;
 
-// The prices of so many places from place 1 on, into the last places of an array, place 1 the very last.
-fn prices(d: &[u8], index: &[u16], places: usize, prices: &mut [u32])
-    requires { Indexed d.now index.now × Complete d.now index.now × (places ≤ length prices.old) × (length prices.old ≤ 4000) }
-    ensures { drop (length prices.new - places) prices.new ≡ list_to places (place_price (amounts_in d.now)) }
-{
-    let last = prices.len();
-    let mut n = 0;
-    while n < places {
-        prices[last - 1 - n] = parameters::place_price(d, index, n + 1);
-        n += 1;
-    }
-}
-
-// The price at a place from the top among them, plus 2^31, through an array with room for all.
-fn price_from_top_in(d: &[u8], index: &[u16], places: usize, place: usize, table: &mut [u32]) -> u32
-    requires { Indexed d.now index.now × Complete d.now index.now × (places ≤ length table.old) × (length table.old ≤ 4000) × (1 ≤ place)
-        × (place ≤ places) }
+// The price at a place from the top among those of places 1 on, plus 2^31, through an array with room for all.
+fn price_from_top_in<const ROOM: usize>(d: &[u8], index: &[u16], places: usize, place: usize) -> u32
+    requires { Indexed d.now index.now × Complete d.now index.now × (places ≤ ROOM) × (ROOM ≤ 4000) × (1 ≤ place) × (place ≤ places) }
     ensures { (result ≡ from_top place (list_to places (place_price (amounts_in d.now)))) × (result ≤ 2147683648) }
 {
-    prices(d, index, places, table);
-    let from = table.len() - places;
-    arithmetic::highest::from_top(&table[from..], place)
+    let mut table = [0u32; ROOM];
+    last_places(&mut table, places, |n| parameters::place_price(d, index, n));
+    let all = &table[..];
+    arithmetic::highest::from_top(&all[ROOM - places..], place)
 }
 
 // The same. A short forecast has a short array: to clear one for the longest would be a seventh of its time.
@@ -38,11 +26,10 @@ fn price_from_top(d: &[u8], index: &[u16], places: usize, place: usize) -> u32
     ensures { (result ≡ from_top place (list_to places (place_price (amounts_in d.now)))) × (result ≤ 2147683648) }
 {
     if places <= 400 {
-        let mut table = [0u32; 400];
-        return price_from_top_in(d, index, places, place, &mut table);
+        price_from_top_in::<400>(d, index, places, place)
+    } else {
+        price_from_top_in::<4000>(d, index, places, place)
     }
-    let mut table = [0u32; 4000];
-    price_from_top_in(d, index, places, place, &mut table)
 }
 
 // The greater of 0 and the price at the forecast's place, in cents, through an index of every record.
@@ -51,7 +38,7 @@ fn forecast_through(d: &[u8], index: &[u16], places: usize) -> u64
     ensures { (result ≡ forecast_price (parameters_in d.now) (amounts_in d.now)) × (result ≤ 200000) }
 {
     let price = price_from_top(d, index, places, places / 50);
-    arithmetic::less(price as u64, 2147483648)
+    (price as u64).saturating_sub(2147483648)
 }
 
 // The same. An index at hand with the slots of FP has one for every record; without them another is filled.

@@ -2,6 +2,7 @@
 // formulas. The definitions are in specs/, their laws in proofs/.
 #![tactic(auto)]
 
+mod fill;
 pub mod hydro;
 pub mod maintenance;
 pub mod nuclear;

@@ -1,5 +1,5 @@
 // Adders and maintenance: what AD, AO and MM add to the levels of a profile, and the payments that join no level.
-ghost use Rattle.std.specs.Prelude.{◌≡◌, cond, ◌&&◌, ◌+◌, ◌*◌, ◌<◌, ◌≤◌, eqb, length, get_or};
+ghost use Rattle.std.specs.Prelude.{◌≡◌, ℕ, cond, ◌&&◌, ◌+◌, ◌*◌, ◌<◌, ◌≤◌, eqb, length, get_or};
 ghost use Rattle.lists.specs.Sums.{sum_to};
 ghost use Rattle.records.specs.Table.{AD, AO};
 ghost use Rattle.station.specs.Parameters.{adder_key, own_key, adder, own_adder, cost_c, output_w, interval_t, hours_per_start_s};
@@ -22,26 +22,34 @@ fn unclaimed(index: &[u16], first: usize) -> bool
         & (index[first + 16] == 0)
 }
 
-// What AD of a cost adds to a level, and what AO of both owners does.
-fn common_cost(d: &[u8], index: &[u16], p: usize, c: usize, v: usize) -> u64
-    requires { Indexed d.now index.now × (1 ≤ p) × (p ≤ 4) × (1 ≤ c) × (c ≤ 5) × (1 ≤ v) × (v ≤ 4) }
-    ensures { (result ≡ cond (eqb c third_party) 0 (adder (amounts_held d.now index.now) p c v)) × (result ≤ 1000000000000) }
+// What is said of 1 to n, added up.
+fn summed<F: Fn(usize) -> u64>(n: usize, part: F) -> u64
+    requires few { n ≤ 8 }
+    requires said { (k : ℕ) → 1 ≤ k → k ≤ n → F.pre part k }
+    requires small { (k r : ℕ) → 1 ≤ k → k ≤ n → F.post part k r → r ≤ 1000000000000000000 }
+    ensures sum { (f : ℕ → ℕ) → ((k r : ℕ) → 1 ≤ k → k ≤ n → F.post part k r → r ≡ f k) → result ≡ sum_to n f }
+    ensures within { (most : ℕ) → ((k r : ℕ) → 1 ≤ k → k ≤ n → F.post part k r → r ≤ most) → result ≤ n * most }
 {
-    if c == THIRD_PARTY {
-        return 0;
+    let mut sum = 0;
+    for k in 0..n {
+        sum += part(k + 1);
     }
-    parameters::adder(d, index, p, c, v)
+    sum
 }
 
-fn own_cost(d: &[u8], index: &[u16], p: usize, cost: usize, v: usize) -> u64
-    requires { Indexed d.now index.now × (1 ≤ p) × (p ≤ 4) × (1 ≤ cost) × (cost ≤ 5) × (1 ≤ v) × (v ≤ 4) }
-    ensures { (result ≡ cond (eqb cost third_party) 0 (own_adder (amounts_held d.now index.now) 1 p cost v
-        + own_adder (amounts_held d.now index.now) 2 p cost v)) × (result ≤ 2000000000000) }
+// What is said of the costs of a level, added up; third-party payments are no cost of it.
+fn claimed<F: Fn(usize) -> u64>(cost: F) -> u64
+    requires said { (c : ℕ) → 1 ≤ c → c ≤ 5 → F.pre cost c }
+    requires small { (c r : ℕ) → 1 ≤ c → c ≤ 5 → F.post cost c r → r ≤ 2000000000000 }
+    ensures sum { (f : ℕ → ℕ) → ((c r : ℕ) → 1 ≤ c → c ≤ 5 → F.post cost c r → r ≡ f c) → result ≡ sum_to 5 (λ c. cond (eqb c third_party) 0 (f c)) }
+    ensures within { (most : ℕ) → ((c r : ℕ) → 1 ≤ c → c ≤ 5 → F.post cost c r → r ≤ most) → result ≤ 5 * most }
 {
-    if cost == THIRD_PARTY {
-        return 0;
-    }
-    parameters::own_adder(d, index, 1, p, cost, v) + parameters::own_adder(d, index, 2, p, cost, v)
+    summed(
+        5,
+        |c: usize| -> u64
+            requires { F.pre cost c }
+        { if c == THIRD_PARTY { 0 } else { cost(c) } },
+    )
 }
 
 // The common adders of a level.
@@ -49,13 +57,7 @@ fn common_adders(d: &[u8], index: &[u16], p: usize, v: usize) -> u64
     requires { Indexed d.now index.now × (1 ≤ p) × (p ≤ 4) × (1 ≤ v) × (v ≤ 4) }
     ensures { (result ≡ sum_to 5 (λ c. cond (eqb c third_party) 0 (adder (amounts_held d.now index.now) p c v))) × (result ≤ 5000000000000) }
 {
-    let mut sum = 0;
-    let mut c = 0;
-    while c < 5 {
-        sum += common_cost(d, index, p, c + 1, v);
-        c += 1;
-    }
-    sum
+    claimed(|c| parameters::adder(d, index, p, c, v))
 }
 
 // The owners' adders.
@@ -64,13 +66,8 @@ fn own_adders(d: &[u8], index: &[u16], p: usize, v: usize) -> u64
     ensures { (result ≡ sum_to 5 (λ c. cond (eqb c third_party) 0 (own_adder (amounts_held d.now index.now) 1 p c v
         + own_adder (amounts_held d.now index.now) 2 p c v))) × (result ≤ 10000000000000) }
 {
-    let mut sum = 0;
-    let mut c = 0;
-    while c < 5 {
-        sum += own_cost(d, index, p, c + 1, v);
-        c += 1;
-    }
-    sum
+    claimed(|c| parameters::own_adder(d, index, 1, p, c, v)
+        + parameters::own_adder(d, index, 2, p, c, v))
 }
 
 // The adders of a level: the common ones, and of the owners those of the one that is asked for, whose records alone the index holds.
@@ -109,13 +106,7 @@ pub fn retired(d: &[u8], index: &[u16], p: usize) -> u64
     requires { Indexed d.now index.now × (1 ≤ p) × (p ≤ 4) }
     ensures { result ≡ retired (parameters_held d.now index.now) p }
 {
-    let mut count = 0;
-    let mut v = 0;
-    while v < 4 {
-        count += payments(d, index, p, v + 1);
-        v += 1;
-    }
-    count
+    summed(4, |v| payments(d, index, p, v))
 }
 
 // What item j adds to energy.
@@ -153,13 +144,7 @@ fn maintenance(d: &[u8], index: &[u16], p: usize) -> u64
     if index::slots_empty(index, index::keys::slot_mm(p, 1), 8) {
         return 0;
     }
-    let mut sum = 0;
-    let mut j = 0;
-    while j < 8 {
-        sum += item(d, index, p, j + 1);
-        j += 1;
-    }
-    sum
+    summed(8, |j| item(d, index, p, j))
 }
 
 // What adders and MM add to an energy level.
@@ -171,7 +156,7 @@ pub fn additions(d: &[u8], index: &[u16], p: usize) -> u64
     adders(d, index, p, 1) + maintenance(d, index, p)
 }
 
-// Maintenance in a start level.
+// Maintenance in a start level. It shares its sum with `maintenance`; one function for both would take the item as a closure once more, and is no plainer.
 pub fn start_maintenance(d: &[u8], index: &[u16], p: usize) -> u64
     requires { Indexed d.now index.now × (1 ≤ p) × (p ≤ 4) }
     ensures { (result ≡ micro_dollars (start_maintenance (parameters_held d.now index.now)
@@ -180,11 +165,5 @@ pub fn start_maintenance(d: &[u8], index: &[u16], p: usize) -> u64
     if index::slots_empty(index, index::keys::slot_mm(p, 1), 8) {
         return 0;
     }
-    let mut sum = 0;
-    let mut j = 0;
-    while j < 8 {
-        sum += start_item(d, index, p, j + 1);
-        j += 1;
-    }
-    sum
+    summed(8, |j| start_item(d, index, p, j))
 }

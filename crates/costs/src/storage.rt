@@ -1,5 +1,5 @@
 // The storage level: the greater of the short-run cost and the opportunity cost.
-ghost use Rattle.std.specs.Prelude.{◌≡◌, ◌*◌, ◌-◌, ◌≤◌, length, drop};
+ghost use Rattle.std.specs.Prelude.{◌≡◌, ◌*◌, ◌-◌, ◌≤◌, length};
 ghost use Rattle.station.specs.Parameters.{window, hour_price, last_cost};
 ghost use Rattle.station.specs.Week.{WeekIn};
 ghost use Rattle.lookup.specs.Parts.{Indexed, parameters_held, amounts_held};
@@ -8,6 +8,7 @@ ghost use Rattle.formulas.specs.Sums.{list_to, sum_highest};
 ghost use Rattle.formulas.specs.Exact.{micro_dollars};
 ghost use Rattle.formulas.specs.Levels.{parameters_in, amounts_in, charging_cost, short_run_cost, opportunity_cost, storage_energy};
 
+use crate::fill::last_places;
 use crate::maintenance::additions;
 
 // The last charging cost. An index at hand without LC's slot is mostly one of a dossier without LC, whose cost is 0; else another is filled.
@@ -35,7 +36,7 @@ fn charging_cost(d: &[u8], index: &[u16], sums: &[u64]) -> u64
     if energy == 0 {
         return last_cost(d, index);
     }
-    let sum = arithmetic::less(sums[0], 2147483648 * energy);
+    let sum = sums[0].saturating_sub(2147483648 * energy);
     arithmetic::share(sum * 10000, energy)
 }
 
@@ -50,27 +51,14 @@ fn short_run_cost(d: &[u8], index: &[u16], sums: &[u64], p: usize) -> u64
     arithmetic::share(charge * 1000, efficiency) + additions(d, index, p)
 }
 
-// The prices of hours 1 to the window, into the last places of an array, hour 1 the very last.
-fn prices(d: &[u8], index: &[u16], window: usize, prices: &mut [u32])
-    requires { Indexed d.now index.now × (window ≤ 168) × (length prices.old ≡ 168) }
-    ensures { drop (168 - window) prices.new ≡ list_to window (hour_price (amounts_held d.now index.now)) }
-{
-    let mut n = 0;
-    while n < window {
-        prices[167 - n] = parameters::hour_price(d, index, n + 1);
-        n += 1;
-    }
-}
-
 // The sum of the highest prices of the window.
 fn highest_sum(d: &[u8], index: &[u16], hours: usize, window: usize) -> u64
     requires { Indexed d.now index.now × (window ≤ 168) × (hours ≤ window) }
     ensures { (result ≡ sum_highest hours (list_to window (hour_price (amounts_held d.now index.now)))) × (result ≤ 336 * 4294967295) }
 {
     let mut table = [0u32; 168];
-    prices(d, index, window, &mut table);
-    let from = 168 - window;
-    arithmetic::highest::highest(&table[from..], hours)
+    last_places(&mut table, window, |n| parameters::hour_price(d, index, n));
+    arithmetic::highest::highest(&table[168 - window..], hours)
 }
 
 // The opportunity cost.
@@ -82,10 +70,8 @@ fn opportunity_cost(d: &[u8], index: &[u16]) -> u64
 {
     let hours = parameters::full_hours(d, index);
     let window = parameters::window(d, index);
-    let sum = arithmetic::less(
-        highest_sum(d, index, hours as usize, window),
-        2147483648 * hours,
-    );
+    let highest = highest_sum(d, index, hours as usize, window);
+    let sum = highest.saturating_sub(2147483648 * hours);
     arithmetic::share(sum * 10000, hours)
 }
 
@@ -97,8 +83,5 @@ pub fn storage_energy(d: &[u8], index: &[u16], sums: &[u64], p: usize) -> u64
     ensures { result ≡ micro_dollars (storage_energy (parameters_held d.now index.now)
         (amounts_held d.now index.now) p) }
 {
-    arithmetic::greater(
-        short_run_cost(d, index, sums, p),
-        opportunity_cost(d, index),
-    )
+    short_run_cost(d, index, sums, p).max(opportunity_cost(d, index))
 }

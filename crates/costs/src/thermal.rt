@@ -14,8 +14,7 @@ pub fn lamination_count(d: &[u8], index: &[u16]) -> usize
     requires { Indexed d.now index.now }
     ensures { (result ≡ points (parameters_in d.now) - 1) × (result ≤ 20) }
 {
-    let n = parameters::points_of(d, index);
-    if n == 0 { 0 } else { n - 1 }
+    parameters::points_of(d, index).saturating_sub(1)
 }
 
 // Where lamination i begins: the first at 0.
@@ -30,15 +29,12 @@ pub fn bottom(d: &[u8], index: &[u16], i: usize) -> u64
     }
 }
 
-// The rise of heat in lamination i.
+// The rise of heat in lamination i. It and the next stay two: all that they share is std's method.
 fn heat_rise(d: &[u8], index: &[u16], i: usize) -> u64
     requires { Indexed d.now index.now × (1 ≤ i) × (i ≤ 20) }
     ensures { (result ≡ rise (heat (parameters_held d.now index.now)) i) × (result ≤ 20000000) }
 {
-    arithmetic::less(
-        parameters::heat(d, index, i + 1),
-        parameters::heat(d, index, i),
-    )
+    parameters::heat(d, index, i + 1).saturating_sub(parameters::heat(d, index, i))
 }
 
 // The rise of output in lamination i.
@@ -46,10 +42,7 @@ fn output_rise(d: &[u8], index: &[u16], i: usize) -> u64
     requires { Indexed d.now index.now × (1 ≤ i) × (i ≤ 20) }
     ensures { (result ≡ rise (output (parameters_held d.now index.now)) i) × (result ≤ 20000) }
 {
-    arithmetic::less(
-        parameters::output(d, index, i + 1),
-        parameters::output(d, index, i),
-    )
+    parameters::output(d, index, i + 1).saturating_sub(parameters::output(d, index, i))
 }
 
 // The level of lamination i in cents, given what AD and MM add.

@@ -1,4 +1,5 @@
 pub mod Group
+pub mod Marks
 pub mod Loops
 pub mod Least
 pub mod Places

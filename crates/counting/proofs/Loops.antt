@@ -1,12 +1,12 @@
 -- The turns of the loops.
 use mathlib.Core.Path.{◌≡◌, refl, ap, sym, ◌∙◌}
 use mathlib.Core.Bool.{Bool, true, false, cond, ◌&&◌, not}
-use mathlib.Core.List.{List, ◌∷◌}
+use mathlib.Core.List.{List, [], ◌∷◌, ◌++◌, append-nil}
 use Prim.Native.Nat.{ℕ, zero, suc, ◌-◌, ◌≤◌, ◌<◌, min}
 use native.Mathlib.Omega.{arith}
 use lib.Dec.{ltb}
 use lib.ListN.{length, get_or, take, drop}
-use lib.Seq.{drop-cons, drop-length}
+use lib.Seq.{append_snoc}
 use borrow.Author.Tests.{lt-ltb, le-ltb}
 use Rattle.lists.specs.Lists.{Each, done, also}
 use Rattle.fields.specs.Numbers.{number}
@@ -80,21 +80,33 @@ each_at done i h = absurd (omega arith)
 each_at (also q e) zero h = q
 each_at (also q e) (suc i) h = each_at e i (omega arith)
 
--- the numbers from i on are gone through
-abbrev pub Sweeping : ℕ → List ℕ → List ℕ → ℕ → Swept → Type 0
-Sweeping t d ids i s = (s ≡ swept_in t d (drop i ids)) × Each (λ x. since (drop (place_in x) d) < never) (drop i ids)
+-- what is left is in front of the numbers that are gone through
+abbrev pub Sweeping : ℕ → List ℕ → List ℕ → List ℕ → Swept → Type 0
+Sweeping t d ids left s = (m : List ℕ) × (ids ≡ left ++ m) × (s ≡ swept_in t d m) × Each (λ x. since (drop (place_in x) d) < never) m
 
-pub sweep-first : (t : ℕ) (d ids : List ℕ) → Sweeping t d ids (length ids) (state nowhere never nowhere)
-sweep-first t d ids = (unfold swept_in in rw (drop-length ids) refl, rw (drop-length ids) done)
+pub sweep-first : (t : ℕ) (d ids : List ℕ) {left : List ℕ} → left ≡ ids → Sweeping t d ids left (state nowhere never nowhere)
+sweep-first t d ids {left} e = ([], sym (append-nil left ∙ e), unfold swept_in in refl, done)
 
-pub sweep-next : (t : ℕ) (d ids : List ℕ) (i : ℕ) {s r : Swept} → 0 < i → i ≤ length ids → Sweeping t d ids i s → r ≡ stepped t d s (get_or ids (i - 1) 0)
-    → since (drop (place_in (get_or ids (i - 1) 0)) d) < never → Sweeping t d ids (i - 1) r
-unfolding swept_in
-sweep-next t d ids i {s} z h w e low =
-    let k : suc (i - 1) ≡ i = omega arith in
-    let c : drop (i - 1) ids ≡ get_or ids (i - 1) 0 ∷ drop i ids = drop-cons ids (i - 1) 0 (omega arith) ∙ ap (λ (j : ℕ). get_or ids (i - 1) 0 ∷ drop j ids) k in
-    (rw c (e ∙ ap (λ (y : Swept). stepped t d y (get_or ids (i - 1) 0)) w.0), rw c (also low w.1))
+each-behind : {P : ℕ → Type 0} (a : List ℕ) {b : List ℕ} → Each P (a ++ b) → Each P b
+each-behind [] e = e
+each-behind (x ∷ a) (also q e) = each-behind a e
 
-pub sweep-last : (t : ℕ) (d ids : List ℕ) (i : ℕ) {s : Swept} → i ≡ 0 → Sweeping t d ids i s
+module _ (t : ℕ) (d ids : List ℕ) {left : List ℕ} (rest : List ℕ) {s : Swept} (x : ℕ) (e : left ≡ rest ++ (x ∷ [])) (w : Sweeping t d ids left s) where
+  onward : ids ≡ rest ++ (x ∷ w.0)
+  onward = w.1 ∙ ap (λ (l : List ℕ). l ++ w.0) e ∙ append_snoc rest x w.0
+
+  -- the last of them is one of the numbers
+  pub sweep-one : {P : ℕ → Type 0} → Each P ids → P x
+  sweep-one {P} q = first (each-behind rest (rw onward at q))
+    where
+      first : {l : List ℕ} → Each P (x ∷ l) → P x
+      first (also h f) = h
+
+  pub sweep-next : {r : Swept} → r ≡ stepped t d s x → since (drop (place_in x) d) < never → Sweeping t d ids rest r
+  unfolding swept_in
+  sweep-next f low = (x ∷ w.0, onward, f ∙ ap (λ (y : Swept). stepped t d y x) w.2, also low w.3)
+
+pub sweep-last : (t : ℕ) (d ids left : List ℕ) {s : Swept} → length left ≡ 0 → Sweeping t d ids left s
     → (s.found ≡ (swept_in t d ids).found) × Each (λ x. since (drop (place_in x) d) < never) ids
-sweep-last t d ids i e w = (ap (λ (y : Swept). y.found) (w.0 ∙ ap (λ (j : ℕ). swept_in t d (drop j ids)) e), rw e at w.1)
+sweep-last t d ids [] z w = rw w.1 (ap (λ (y : Swept). y.found) w.2, w.3)
+sweep-last t d ids (x ∷ l) z w = absurd (omega (arith, z))

@@ -10,10 +10,8 @@ use lib.Seq.{take_at, drop-append_seam, drop-drop}
 use borrow.Author.Tests.{lt-ltb}
 use Rattle.lists.specs.Lists.{Each, done, also, Permutation, empty, keep, swap, then, those, joined}
 use Rattle.lists.proofs.Tests.{split}
-use Rattle.records.specs.declared.Answer.{Answer}
-use Rattle.records.specs.declared.Answer.TheVariants.{Accepted, Refused}
 use Rattle.records.specs.Record.{mark, size, fault}
-use Rattle.records.specs.Answers.{or_else, refuse_if}
+use Rattle.records.specs.Answers.{Accepted, Answer, or_else, refuse_if, Refused}
 use Rattle.records.specs.Dossier.{first_of, records, first_drawn}
 use Rattle.records.proofs.Record.{size-ge, mark-alike}
 use Rattle.records.proofs.Dossier.{Whole, joined-records, records-whole}

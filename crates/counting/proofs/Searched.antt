@@ -15,7 +15,7 @@ use Rattle.lists.proofs.Lists.{each_map, each_both, each_of, each-permuted, memb
 use Rattle.lists.proofs.Tests.{split, and_both, or-true, or-false-left, or-false-right}
 use Rattle.lists.proofs.Sorted.{sorted-permutes, sorted-length, sorted-each, sorted_rises, rising-first}
 use Rattle.lists.proofs.Keys.{Onward, over, on}
-use Rattle.records.specs.declared.Answer.TheVariants.{Accepted, Refused}
+use Rattle.records.specs.Answers.{Accepted, Refused}
 use Rattle.records.specs.Record.{mark, kind, key_of, issue, since}
 use Rattle.records.specs.Dossier.{records}
 use Rattle.records.proofs.Dossier.{scan-each}
@@ -329,9 +329,6 @@ module _ (t : ℕ) (all : Bool) (d ix ids a s : List ℕ) (n : ℕ) (c : Clean d
     (ei : ids ≡ ids_from (shown all (records d)) 0 (records d)) (en : Each (Numbered d) ids) (th : Thinned d ids (take n a)) (es : s ≡ sorted (take n a)) where
   part : take n (s ++ drop n a) ≡ s
   part = take_at s (drop n a) n (ap length es ∙ sorted-length (λ x. x) (take n a) ∙ length-take-le n a h)
-
-  pub part_length : n ≡ length (take n (s ++ drop n a))
-  part_length = sym (ap length part ∙ ap length es ∙ sorted-length (λ x. x) (take n a) ∙ length-take-le n a h)
 
   pub part-inside : Each (λ x. place_in x ≤ length d) (take n (s ++ drop n a))
   part-inside = rw (part, es) (sorted-each (λ x. x) (take n a) (each_map (λ x q. q.inside) (thinned-each d th en)))

@@ -4,8 +4,7 @@
 use Rattle.std.specs.Prelude.{◌≡◌, Bool, false, cond, ◌&&◌, ◌||◌, not, List, [], ◌∷◌, ℕ, ◌+◌, ◌-◌, ◌*◌, ◌/◌, ◌%◌, ◌≤◌, ◌<◌, min, leb, ltb, eqb, length, get_or, take, drop}
 use Rattle.lists.specs.Lists.{Member, those}
 use Rattle.fields.specs.Numbers.{number}
-use Rattle.records.specs.declared.Answer.{Answer}
-use Rattle.records.specs.declared.Answer.TheVariants.{Accepted, Refused}
+use Rattle.records.specs.Answers.{Answer, Accepted, Refused}
 use Rattle.records.specs.Table.{AD, AO}
 use Rattle.records.specs.Record.{mark, kind_of, kind, fields_at, key_width, key_of, issue, since, fault}
 use Rattle.records.specs.MarkShapes.{shortest}

@@ -1,10 +1,10 @@
 // 6: the first record that counts at some hour and doesn't fit the technology. The definitions are in specs/, their laws in proofs/.
 #![tactic(auto)]
 
-ghost use Rattle.std.specs.Prelude.{◌≡◌, true, cond, eqb, ◌+◌, ◌*◌, ◌/◌, ◌<◌, ◌≤◌, min, max, length, take, drop};
+ghost use Rattle.std.specs.Prelude.{◌≡◌, true, cond, eqb, ◌+◌, ◌*◌, ◌/◌, ◌<◌, ◌≤◌, length, take, drop};
 ghost use Rattle.lists.specs.Lists.{Each, Member, those};
-ghost use Rattle.records.specs.Table.{marks};
-ghost use Rattle.records.specs.Record.{mark, fields_at, since};
+ghost use Rattle.records.specs.Marks.{row};
+ghost use Rattle.records.specs.Record.{since};
 ghost use Rattle.records.specs.Dossier.{records};
 ghost use Rattle.index.specs.Slots.{slot_at};
 ghost use Rattle.lookup.specs.Parts.{Whole, Complete};
@@ -13,7 +13,7 @@ ghost use Rattle.rules.specs.Fit.{Known, unfit};
 ghost use Rattle.counting.specs.Sweep.{hides_at, hidden_at, shown, group_at, ids_from, group_in, place_in, Numbered, kept_by, Thinned};
 ghost use Rattle.counting.specs.Sweep.{never, least_of, stepped, swept_in, Clean, Sought, Roomy};
 
-use records::{Answer, marks};
+use records::{Answer, Mark, Refusal, since_at};
 use trials::tried_at;
 
 // What is known behind a record in the order of kind, key and issue: the kind and key of the next, the least first hour of these, and the
@@ -31,66 +31,56 @@ const NEVER: u64 = 4294967296;
 // Behind every place, and above every kind and key.
 const NOWHERE: usize = 65536;
 
-// Where the fields of a mark's records begin.
-fn fields_from(k: usize) -> usize
-    requires { k < marks }
-    ensures { result ≡ fields_at k }
+// A number has kind and key at the top, then the issue, then the place. So many issues there are,
+const ISSUES: u64 = 4294967296;
+
+// so many places,
+const PLACES: u64 = 65536;
+
+// and so many numbers of one kind and key.
+const GROUP: u64 = ISSUES * PLACES;
+
+// So many keys of one kind have room in the number of kind and key.
+const KEYS: usize = 4096;
+
+// Kind and key of a record of that mark at the front, as one number.
+#[tactic(auto, using(crate::proofs::Marks::from_low))]
+fn group_at(mark: Mark, s: &[u8]) -> usize
+    ensures { result ≡ group_at (row mark) s.now }
 {
-    if k <= marks::AO { 6 } else { 10 }
+    let kind = records::kind_of(mark);
+    let from = records::fields_at(mark);
+    match kind {
+        Mark::AD => {
+            (11 + (fields::u8_at(s, from) as usize)) * KEYS + (fields::u16_at(s, from + 1) as usize)
+        }
+        Mark::AO => {
+            (Mark::AD as usize) * KEYS
+                + (fields::u8_at(s, from) as usize) * 80
+                + (fields::u8_at(s, from + 1) as usize) * 20
+                + (fields::u8_at(s, from + 2) as usize) * 4
+                + (fields::u8_at(s, from + 3) as usize)
+        }
+        Mark::Unknown | Mark::RS | Mark::LC => (kind as usize) * KEYS,
+        Mark::HP | Mark::FU | Mark::RQ | Mark::HR => {
+            (kind as usize) * KEYS + (fields::u8_at(s, from) as usize)
+        }
+        _ => (kind as usize) * KEYS + (fields::u16_at(s, from) as usize),
+    }
 }
 
-// The first hour of the record at the front.
-fn since_at(s: &[u8]) -> u32
-    ensures { result ≡ since s.now }
+// The slot of an FU or MM of that mark at the front.
+#[tactic(auto, using(crate::proofs::Marks::from_low))]
+fn slot_at(mark: Mark, s: &[u8]) -> usize
+    requires { valued (row mark) ≡ true }
+    ensures { result ≡ slot_at (row mark) s.now }
 {
-    if records::mark_at(s) <= marks::AO {
-        0
-    } else {
-        fields::u32_at(s, 6)
+    let at = records::fields_at(mark);
+    let first = fields::u8_at(s, at) as usize;
+    match records::kind_of(mark) {
+        Mark::FU => index::keys::slot_fu(first),
+        _ => index::keys::slot_mm(first, fields::u8_at(s, at + 1) as usize),
     }
-}
-
-// Kind and key of a record of mark k at the front, as one number.
-fn group_at(k: usize, s: &[u8]) -> usize
-    requires { k < marks }
-    ensures { result ≡ group_at k s.now }
-{
-    let kind = records::kind_of(k);
-    let from = fields_from(k);
-    if kind == marks::AD {
-        return (11 + (fields::u8_at(s, from) as usize)) * 4096
-            + (fields::u16_at(s, from + 1) as usize);
-    }
-    if (kind == 0) | (kind == marks::RS) | (kind == marks::LC) {
-        return kind * 4096;
-    }
-    if kind == marks::AO {
-        return marks::AD * 4096
-            + (fields::u8_at(s, from) as usize) * 80
-            + (fields::u8_at(s, from + 1) as usize) * 20
-            + (fields::u8_at(s, from + 2) as usize) * 4
-            + (fields::u8_at(s, from + 3) as usize);
-    }
-    if (kind == marks::HP) | (kind == marks::FU) | (kind == marks::RQ) | (kind == marks::HR) {
-        return kind * 4096 + (fields::u8_at(s, from) as usize);
-    }
-    kind * 4096 + (fields::u16_at(s, from) as usize)
-}
-
-// The slot of an FU or MM of mark k at the front.
-fn slot_at(k: usize, s: &[u8]) -> usize
-    requires { (k < marks) × (valued k ≡ true) }
-    ensures { result ≡ slot_at k s.now }
-{
-    let kind = records::kind_of(k);
-    let from = fields_from(k);
-    if kind == marks::FU {
-        return index::keys::slot_fu(fields::u8_at(s, from) as usize);
-    }
-    index::keys::slot_mm(
-        fields::u8_at(s, from) as usize,
-        fields::u8_at(s, from + 1) as usize,
-    )
 }
 
 // Whether the record that a slot of value v holds hides the one at the front at every hour.
@@ -105,16 +95,16 @@ fn hides(d: &[u8], v: u16, s: &[u8]) -> bool
     (fields::u32_at(s, 2) < fields::u32_at(current, 2)) & (since_at(current) <= since_at(s))
 }
 
-// Whether the current record of its kind and key hides the record of mark k at the front, if it is an FU or MM. The test of its length is never so: it
+// Whether the current record of its kind and key hides the record of that mark at the front, if it is an FU or MM. The test of its length is never so: it
 // tells the compiler that the bytes are there.
-fn hidden_at(d: &[u8], index: &[u16], k: usize, s: &[u8]) -> bool
-    requires { (k < marks) × (slot_at k s.now < length index.now) }
-    ensures { result ≡ hidden_at d.now index.now k s.now }
+fn hidden_at(d: &[u8], index: &[u16], mark: Mark, s: &[u8]) -> bool
+    requires { slot_at (row mark) s.now < length index.now }
+    ensures { result ≡ hidden_at d.now index.now (row mark) s.now }
 {
-    if !trials::is_valued(k) | (s.len() < 15) {
+    if !trials::is_valued(mark) | (s.len() < 15) {
         return false;
     }
-    hides(d, index[slot_at(k, s)], s)
+    hides(d, index[slot_at(mark, s)], s)
 }
 
 // A number for each record of the kinds that are sought, all or FU and MM alone, that is not hidden so: kind and key, issue, place. Says how many. Each
@@ -127,14 +117,15 @@ fn fill(d: &[u8], index: &[u16], all: bool, ids: &mut [u64]) -> usize
 {
     let mut at = 0;
     let mut count = 0;
+    // a `while`, since records differ in length
     while at < d.len() {
         let rest = &d[at..];
-        let k = records::mark_at(rest);
-        let len = records::length_of(k);
-        let id = (group_at(k, rest) as u64) * 4294967296 + (fields::u32_at(rest, 2) as u64);
-        ids[count] = id * 65536 + (at as u64);
-        let sought = all | trials::is_valued(k);
-        count += (sought & !hidden_at(d, index, k, rest)) as usize;
+        let mark = records::mark_at(rest);
+        let len = records::length_of(mark);
+        let id = (group_at(mark, rest) as u64) * ISSUES + (fields::u32_at(rest, 2) as u64);
+        ids[count] = id * PLACES + (at as u64);
+        let sought = all | trials::is_valued(mark);
+        count += (sought & !hidden_at(d, index, mark, rest)) as usize;
         at += len;
     }
     count
@@ -144,20 +135,7 @@ fn fill(d: &[u8], index: &[u16], all: bool, ids: &mut [u64]) -> usize
 fn like(g: u64, x: u64) -> u64
     ensures { result ≡ cond (eqb (group_in x) g) x 0 }
 {
-    if x / 281474976710656 == g { x } else { 0 }
-}
-
-// The lower and the higher of two numbers, without a branch.
-fn lower(x: u64, y: u64) -> u64
-    ensures { result ≡ min x y }
-{
-    if x <= y { x } else { y }
-}
-
-fn higher(x: u64, y: u64) -> u64
-    ensures { result ≡ max x y }
-{
-    if x <= y { y } else { x }
+    if x / GROUP == g { x } else { 0 }
 }
 
 // One of some numbers that may hide many others, or 0: of the kind and key of the one in the middle, the second issue from the top, since what the first
@@ -165,18 +143,16 @@ fn higher(x: u64, y: u64) -> u64
 fn hider_of(ids: &[u64]) -> u64
     ensures { 0 < result → Member result ids.now }
 {
-    if ids.len() == 0 {
+    if ids.is_empty() {
         return 0;
     }
-    let g = ids[ids.len() / 2] / 281474976710656;
+    let g = ids[ids.len() / 2] / GROUP;
     let mut first = 0;
     let mut second = 0;
-    let mut i = 0;
-    while i < ids.len() {
-        let x = like(g, ids[i]);
-        second = higher(second, lower(first, x));
-        first = higher(first, x);
-        i += 1;
+    for &id in ids {
+        let x = like(g, id);
+        second = second.max(first.min(x));
+        first = first.max(x);
     }
     second
 }
@@ -186,10 +162,10 @@ fn is_kept(d: &[u8], b: u64, h: u32, x: u64) -> bool
     requires { place_in x ≤ length d.now }
     ensures { result ≡ kept_by d.now b h x }
 {
-    if (x / 281474976710656 != b / 281474976710656) | (b / 65536 <= x / 65536) {
+    if (x / GROUP != b / GROUP) | (b / PLACES <= x / PLACES) {
         return true;
     }
-    let at = (x % 65536) as usize;
+    let at = (x % PLACES) as usize;
     since_at(&d[at..]) < h
 }
 
@@ -198,13 +174,11 @@ fn thin(d: &[u8], b: u64, h: u32, ids: &mut [u64]) -> usize
     requires { Each (λ x. place_in x ≤ length d.now) ids.old }
     ensures { (result ≤ length ids.old) × (take result ids.new ≡ those (kept_by d.now b h) ids.old) }
 {
-    let mut i = 0;
     let mut count = 0;
-    while i < ids.len() {
+    for i in 0..ids.len() {
         let x = ids[i];
         ids[count] = x;
         count += is_kept(d, b, h, x) as usize;
-        i += 1;
     }
     count
 }
@@ -218,7 +192,7 @@ fn thinned(d: &[u8], ids: &mut [u64]) -> usize
     if b == 0 {
         return ids.len();
     }
-    let at = (b % 65536) as usize;
+    let at = (b % PLACES) as usize;
     thin(d, b, since_at(&d[at..]), ids)
 }
 
@@ -234,9 +208,9 @@ fn step(d: &[u8], t: u8, s: Swept, x: u64) -> Swept
     requires { (place_in x ≤ length d.now) × Known t }
     ensures { (result ≡ stepped t d.now s x) × (since (drop (place_in x) d.now) < never) }
 {
-    let at = (x % 65536) as usize;
+    let at = (x % PLACES) as usize;
     let rest = &d[at..];
-    let group = x / 281474976710656;
+    let group = x / GROUP;
     let hour = since_at(rest) as u64;
     let least = least_of(s, group);
     let found = s.found;
@@ -280,10 +254,8 @@ fn sweep(d: &[u8], t: u8, ids: &[u64]) -> usize
         least: NEVER,
         found: NOWHERE,
     };
-    let mut i = ids.len();
-    while 0 < i {
-        i -= 1;
-        s = step(d, t, s, ids[i]);
+    for &x in ids.iter().rev() {
+        s = step(d, t, s, x);
     }
     s.found
 }
@@ -298,68 +270,24 @@ fn search(d: &[u8], index: &[u16], t: u8, all: bool, ids: &mut [u64], spare: &mu
     sorting::sort(&mut ids[..n], spare);
     let place = sweep(d, t, &ids[..n]);
     if place < NOWHERE {
-        return Answer::Refused { number: 6, place };
+        return Err(Refusal { number: 6, place });
     }
-    Answer::Accepted
+    Ok(())
 }
 
-// The same with room for the numbers of at most 500 bytes: what is cleared stays small beside the dossier.
-fn in_500(d: &[u8], index: &[u16], t: u8, all: bool) -> Answer
-    requires { (length d.now ≤ 500) × Clean d.now index.now × Sought all t d.now × Known t }
+// The same with room of its own for so many numbers, and for half of them aside. What is cleared stays small beside the dossier.
+fn in_room<const IDS: usize, const SPARE: usize>(
+    d: &[u8],
+    index: &[u16],
+    t: u8,
+    all: bool,
+) -> Answer
+    requires room { Roomy d.now IDS × (IDS ≤ 65536) × (IDS / 2 ≤ SPARE) × (SPARE ≤ IDS) }
+    requires read { Clean d.now index.now × Sought all t d.now × Known t }
     ensures { result ≡ unfit t (records d.now) }
 {
-    let mut ids = [0u64; 50];
-    let mut spare = [0u64; 25];
-    search(d, index, t, all, &mut ids, &mut spare)
-}
-
-// The same of at most 2,000 bytes.
-fn in_2000(d: &[u8], index: &[u16], t: u8, all: bool) -> Answer
-    requires { (length d.now ≤ 2000) × Clean d.now index.now × Sought all t d.now × Known t }
-    ensures { result ≡ unfit t (records d.now) }
-{
-    let mut ids = [0u64; 200];
-    let mut spare = [0u64; 100];
-    search(d, index, t, all, &mut ids, &mut spare)
-}
-
-// The same of at most 8,000 bytes.
-fn in_8000(d: &[u8], index: &[u16], t: u8, all: bool) -> Answer
-    requires { (length d.now ≤ 8000) × Clean d.now index.now × Sought all t d.now × Known t }
-    ensures { result ≡ unfit t (records d.now) }
-{
-    let mut ids = [0u64; 800];
-    let mut spare = [0u64; 400];
-    search(d, index, t, all, &mut ids, &mut spare)
-}
-
-// The same of at most 16,000 bytes.
-fn in_16000(d: &[u8], index: &[u16], t: u8, all: bool) -> Answer
-    requires { (length d.now ≤ 16000) × Clean d.now index.now × Sought all t d.now × Known t }
-    ensures { result ≡ unfit t (records d.now) }
-{
-    let mut ids = [0u64; 1600];
-    let mut spare = [0u64; 800];
-    search(d, index, t, all, &mut ids, &mut spare)
-}
-
-// The same of at most 32,000 bytes.
-fn in_32000(d: &[u8], index: &[u16], t: u8, all: bool) -> Answer
-    requires { (length d.now ≤ 32000) × Clean d.now index.now × Sought all t d.now × Known t }
-    ensures { result ≡ unfit t (records d.now) }
-{
-    let mut ids = [0u64; 3200];
-    let mut spare = [0u64; 1600];
-    search(d, index, t, all, &mut ids, &mut spare)
-}
-
-// The same of at most 60,000 bytes.
-fn in_60000(d: &[u8], index: &[u16], t: u8, all: bool) -> Answer
-    requires { (length d.now ≤ 60000) × Clean d.now index.now × Sought all t d.now × Known t }
-    ensures { result ≡ unfit t (records d.now) }
-{
-    let mut ids = [0u64; 6000];
-    let mut spare = [0u64; 3000];
+    let mut ids = [0u64; IDS];
+    let mut spare = [0u64; SPARE];
     search(d, index, t, all, &mut ids, &mut spare)
 }
 
@@ -369,15 +297,15 @@ fn in_large(d: &[u8], index: &[u16], t: u8, all: bool) -> Answer
     ensures { result ≡ unfit t (records d.now) }
 {
     if d.len() <= 8000 {
-        return in_8000(d, index, t, all);
+        return in_room::<800, 400>(d, index, t, all);
     }
     if d.len() <= 16000 {
-        return in_16000(d, index, t, all);
+        return in_room::<1600, 800>(d, index, t, all);
     }
     if d.len() <= 32000 {
-        return in_32000(d, index, t, all);
+        return in_room::<3200, 1600>(d, index, t, all);
     }
-    in_60000(d, index, t, all)
+    in_room::<6000, 3000>(d, index, t, all)
 }
 
 // By the room for at most 2,000 bytes.
@@ -386,10 +314,10 @@ fn in_small(d: &[u8], index: &[u16], t: u8, all: bool) -> Answer
     ensures { result ≡ unfit t (records d.now) }
 {
     if d.len() <= 500 {
-        return in_500(d, index, t, all);
+        return in_room::<50, 25>(d, index, t, all);
     }
     if d.len() <= 2000 {
-        return in_2000(d, index, t, all);
+        return in_room::<200, 100>(d, index, t, all);
     }
     // never so: it is the second call of `in_large`
     in_large(d, index, t, all)

@@ -1,3 +1,4 @@
+pub mod Ranges
 pub mod Plain
 pub mod Unfit
 pub mod Search

@@ -2,19 +2,19 @@
 use mathlib.Core.Path.{◌≡◌, refl, ap, ap₂, sym, ◌∙◌}
 use mathlib.Core.Bool.{Bool, true, false, ◌&&◌, not}
 use mathlib.Core.List.{List}
-use Prim.Native.Nat.{ℕ, ◌+◌, ◌-◌, ◌^◌, ◌≤◌, ◌<◌}
+use Prim.Native.Nat.{ℕ, zero, suc, ◌+◌, ◌-◌, ◌*◌, ◌^◌, ◌≤◌, ◌<◌}
+use native.Mathlib.Nat.{pow-suc}
+use native.Mathlib.Numerals.{add-one}
 use native.Mathlib.Omega.{arith}
-use lib.Dec.{eqb}
-use lib.ListN.{length, take, drop}
+use lib.Dec.{eqb, lit≤}
+use lib.ListN.{length, get_or, take, drop}
 use Rattle.lists.proofs.Lists.{each_map, each_both}
 use Rattle.lists.proofs.Tests.{and-true}
 use Rattle.fields.specs.Numbers.{number}
-use Rattle.records.specs.declared.Answer.{Answer}
-use Rattle.records.specs.declared.Answer.TheVariants.{Accepted, Refused}
 use Rattle.records.specs.declared.MarkShape.{MarkShape}
 use Rattle.records.specs.MarkShapes.{shape_of}
 use Rattle.records.specs.Record.{mark, is_dated, kind, size, issue, key_width, key_of, fault}
-use Rattle.records.specs.Answers.{or_else, refuse_if}
+use Rattle.records.specs.Answers.{Accepted, Answer, or_else, refuse_if, Refused}
 use Rattle.records.specs.Dossier.{records, first_drawn}
 use Rattle.records.proofs.Record.{size-ge}
 use Rattle.records.proofs.MarkShapes.{shape-width}
@@ -47,8 +47,19 @@ fit-passes d ix s f e = rw e (go (eqb (number 2 4 s) (number 2 4 (part_at d ix (
     go false = refl
 
 -- the key of a record, by its width
-pub key-of : (s : List ℕ) (w n x : ℕ) → w ≡ n → x ≡ number 6 n s → x < 256 ^ n → (x ≡ number 6 w s) × (x < 256 ^ w)
-key-of s w n x e q b = rw e (q, b)
+
+-- the key so far, and one byte more
+pub key-most : (i : ℕ) → i < 4 → 256 ^ i ≤ 16777216
+key-most zero h = lit≤ tt
+key-most (suc zero) h = lit≤ tt
+key-most (suc (suc zero)) h = lit≤ tt
+key-most (suc (suc (suc zero))) h = lit≤ tt
+key-most (suc (suc (suc (suc i)))) h = absurd (omega arith)
+
+pub key-next : (s : List ℕ) (i : ℕ) {k b : ℕ} → k ≡ number 6 i s → k < 256 ^ i → b ≡ get_or s (6 + i) 0 → b < 256
+    → (k * 256 + b ≡ number 6 (i + 1) s) × (k * 256 + b < 256 ^ (i + 1))
+unfolding number
+key-next s i e l f m = rw (add-one i, pow-suc) (rw (e, f) refl, omega (arith, l, m))
 
 -- the slot of a record, by the row of its mark
 pub slot-here : (s : List ℕ) → is_dated (mark s) ≡ false → {k n j : ℕ} {m : MarkShape} → k ≡ mark s → m ≡ shape_of k → n ≡ number 6 m.width s → j ≡ slot k n

@@ -14,11 +14,10 @@ use Rattle.lists.specs.Tests.{all_below, all_to, among, every_of}
 use Rattle.lists.proofs.Lists.{each_map, each_both, each_of, member-each, members}
 use Rattle.lists.proofs.Tests.{and-true, and_left, and_right, split, below_at, to_at, at-to, or-none}
 use Rattle.fields.specs.Numbers.{number}
-use Rattle.records.specs.declared.Answer.TheVariants.{Accepted}
 use Rattle.records.specs.Table.{table, row_of, thermal, nuclear, storage, hydro, marks, RS, HP, FU, AD, MM, RQ, HR, CH, TH, FP, LC, AO, AV}
 use Rattle.records.specs.MarkShapes.{shape, shape_of, body}
 use Rattle.records.specs.Record.{mark, is_dated, kind_of, kind, datable, issue, fields_at, key_in, key_width, key_of, ranges_hold, fault}
-use Rattle.records.specs.Answers.{refuse_if}
+use Rattle.records.specs.Answers.{Accepted, refuse_if}
 use Rattle.records.specs.Dossier.{records, scan}
 use Rattle.records.proofs.Record.{size-ge, faultless}
 use Rattle.records.proofs.EveryMark.{mark-lt}

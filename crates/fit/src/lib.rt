@@ -1,23 +1,24 @@
 // 6: whether the records that count fit the technology, told by the index, and by what FU and MM say. The definitions are in specs/, their laws in proofs/.
 #![tactic(auto)]
 
-ghost use Rattle.std.specs.Prelude.{◌≡◌, true, false, ◌&&◌, ◌+◌, ◌*◌, ◌^◌, ◌<◌, ◌≤◌, length};
+ghost use Rattle.std.specs.Prelude.{◌≡◌, true, false, ◌&&◌, ◌||◌, eqb, ◌+◌, ◌*◌, ◌^◌, ◌<◌, ◌≤◌, length};
 ghost use Rattle.fields.specs.Numbers.{number};
-ghost use Rattle.records.specs.declared.Answer.TheVariants.{Accepted};
-ghost use Rattle.records.specs.Table.{thermal, RS};
+ghost use Rattle.records.specs.Answers.{Accepted};
+ghost use Rattle.lists.specs.Tests.{all_below};
+ghost use Rattle.records.specs.Table.{thermal, nuclear, RS};
 ghost use Rattle.records.specs.Record.{mark, is_dated, size};
-ghost use Rattle.index.specs.Slots.{short, slot_at};
+ghost use Rattle.index.specs.Slots.{short, slot_at, slots_empty};
 ghost use Rattle.records.specs.Dossier.{records, scan};
 ghost use Rattle.station.specs.Current.{readable};
 ghost use Rattle.lookup.specs.Parts.{Whole, Complete};
 ghost use Rattle.station.specs.InForce.{Undated};
 ghost use Rattle.rules.specs.Fit.{Known, fits, unfit};
-ghost use Rattle.fit.specs.BySlots.{fourths_empty, points_fit, items_fit, profiles_fit, level_fits, prorated_fit, own_level_fits, own_prorated_fit, owners_fit};
+ghost use Rattle.fit.specs.BySlots.{fourths_empty, points_fit, items_fit, profiles_fit, level_fits, own_level_fits, owners_fit};
 ghost use Rattle.fit.specs.BySlots.{priced_fit, slots_fit, values_fit, not_fit};
 ghost use Rattle.trials.specs.Trials.{KeysFit};
 
 use index::slots_empty;
-use records::Answer;
+use records::{Answer, Refusal};
 use rules::level_held;
 use trials::{fu_fits, mm_fits, rs_fits, tried_at, value_fits};
 
@@ -43,16 +44,14 @@ fn station_fits(t: u8, rs: &[u8]) -> bool
     rs_fits(t, rs)
 }
 
-// Whether n slots are empty, every fourth from slot j on.
+// Whether n slots are empty, every fourth from slot j on. Nothing is asked of each: `all` would branch at every slot.
 fn fourths_empty(index: &[u16], j: usize, n: usize) -> bool
     requires { j + 4 * n ≤ length index.now + 3 }
     ensures { result ≡ fourths_empty index.now j n }
 {
     let mut any = 0;
-    let mut i = 0;
-    while i < n {
-        any = any | index[j + 4 * i];
-        i += 1;
+    for i in 0..n {
+        any |= index[j + 4 * i];
     }
     any == 0
 }
@@ -69,18 +68,15 @@ fn level_fits(index: &[u16], t: u8, v: u8) -> bool
     fourths_empty(index, 25 + j, 20) & fourths_empty(index, 153 + j, 3)
 }
 
-// Whether AD of cost 5 is there at a nuclear station alone.
-fn prorated_fit(index: &[u16], t: u8) -> bool
-    requires { short ≤ length index.now }
-    ensures { result ≡ prorated_fit t index.now }
+// Whether adders of cost 5 are there at a nuclear station alone: each of some profiles has four slots for them, those of the first begin at slot j.
+fn prorated_fit(index: &[u16], t: u8, j: usize, profiles: usize) -> bool
+    requires { j + 20 * profiles ≤ length index.now + 16 }
+    ensures { result ≡ (eqb t nuclear || all_below profiles (λ p. slots_empty index.now (j + 20 * p) 4)) }
 {
     if t == 2 {
         return true;
     }
-    slots_empty(index, 42, 4)
-        & slots_empty(index, 62, 4)
-        & slots_empty(index, 82, 4)
-        & slots_empty(index, 102, 4)
+    (0..profiles).all(|p| slots_empty(index, j + 20 * p, 4))
 }
 
 // Whether the items of a profile fit; empty slots tell at once that it has none.
@@ -91,13 +87,7 @@ fn items_fit(d: &[u8], index: &[u16], t: u8, p: usize) -> bool
     if slots_empty(index, index::keys::slot_mm(p, 1), 8) {
         return true;
     }
-    let mut ok = true;
-    let mut j = 0;
-    while j < 8 {
-        ok = ok & mm_fits(t, lookup::mm(d, index, p, j + 1));
-        j += 1;
-    }
-    ok
+    (1..9).all(|j| mm_fits(t, lookup::mm(d, index, p, j)))
 }
 
 // Whether FU and MM of every profile fit.
@@ -108,13 +98,7 @@ fn profiles_fit(d: &[u8], index: &[u16], t: u8) -> bool
     if t == 1 {
         return true;
     }
-    let mut ok = true;
-    let mut p = 0;
-    while p < 4 {
-        ok = ok & (fu_fits(t, lookup::fu(d, index, p + 1)) & items_fit(d, index, t, p + 1));
-        p += 1;
-    }
-    ok
+    (1..5).all(|p| fu_fits(t, lookup::fu(d, index, p)) && items_fit(d, index, t, p))
 }
 
 // Whether HP is there at a thermal station alone.
@@ -139,23 +123,6 @@ fn own_level_fits(index: &[u16], t: u8, v: u8) -> bool
     fourths_empty(index, 333 + (v as usize), 40)
 }
 
-// Whether AO of cost 5 is there at a nuclear station alone: four slots in each profile of each owner.
-fn own_prorated_fit(index: &[u16], t: u8) -> bool
-    requires { short ≤ length index.now }
-    ensures { result ≡ own_prorated_fit t index.now }
-{
-    if t == 2 {
-        return true;
-    }
-    let mut ok = true;
-    let mut p = 0;
-    while p < 8 {
-        ok = ok & slots_empty(index, 350 + 20 * p, 4);
-        p += 1;
-    }
-    ok
-}
-
 // Whether AO fits. The highest slot of a record tells at once that there is none, and else mostly empty slots do.
 fn owners_fit(index: &[u16], t: u8, top: usize) -> bool
     requires { short ≤ length index.now }
@@ -167,11 +134,7 @@ fn owners_fit(index: &[u16], t: u8, top: usize) -> bool
     if slots_empty(index, 334, 160) {
         return true;
     }
-    (own_level_fits(index, t, 1)
-        & own_level_fits(index, t, 2)
-        & own_level_fits(index, t, 3)
-        & own_level_fits(index, t, 4))
-        & own_prorated_fit(index, t)
+    (1..5).all(|v| own_level_fits(index, t, v)) & prorated_fit(index, t, 350, 8)
 }
 
 // Whether HR, CH and LC are there at storage alone; the highest slot of a record tells at once that none is, or that CH and LC are not. A short index does
@@ -206,7 +169,8 @@ fn later_fit(index: &[u16], t: u8, top: usize) -> bool
     owners_fit(index, t, top) & priced_fit(index, t, top)
 }
 
-// Whether every record that counts fits, FU and MM aside. An index has slots for FP where there is one, and only a hydroelectric station may have it.
+// Whether every record that counts fits, FU and MM aside. An index has slots for FP where there is one, and only a hydroelectric station may have it. The
+// compiler makes four tests of levels 1 to 4, of 1..=4 it would make a loop.
 fn slots_fit(index: &[u16], rs: &[u8], t: u8, top: usize) -> bool
     requires { (short ≤ length index.now) × Known t }
     ensures { result ≡ slots_fit t index.now rs.now top }
@@ -216,11 +180,8 @@ fn slots_fit(index: &[u16], rs: &[u8], t: u8, top: usize) -> bool
     }
     station_fits(t, rs)
         & points_fit(index, t)
-        & (level_fits(index, t, 1)
-            & level_fits(index, t, 2)
-            & level_fits(index, t, 3)
-            & level_fits(index, t, 4))
-        & prorated_fit(index, t)
+        & (1..5).all(|v| level_fits(index, t, v))
+        & prorated_fit(index, t, 42, 4)
         & later_fit(index, t, top)
 }
 
@@ -241,13 +202,14 @@ pub fn values_fit(d: &[u8], t: u8) -> bool
         return true;
     }
     let mut at = 0;
+    // a `while`, since records differ in length
     while at < d.len() {
         let rest = &d[at..];
-        let k = records::mark_at(rest);
-        if !value_fits(t, k, rest) {
+        let mark = records::mark_at(rest);
+        if !value_fits(t, mark, rest) {
             return false;
         }
-        at += records::length_of(k);
+        at += records::length_of(mark);
     }
     true
 }
@@ -257,19 +219,11 @@ fn key_at(s: &[u8], width: usize) -> usize
     requires { width ≤ 4 }
     ensures { (result ≡ number 6 width s.now) × (result < 256 ^ width) }
 {
-    if width == 0 {
-        return 0;
+    let mut key = 0;
+    for i in 0..width {
+        key = key * 256 + (fields::byte_at(s, 6 + i) as usize);
     }
-    if width == 1 {
-        return fields::u8_at(s, 6) as usize;
-    }
-    if width == 2 {
-        return fields::u16_at(s, 6) as usize;
-    }
-    if width == 3 {
-        return (fields::u16_at(s, 6) as usize) * 256 + (fields::u8_at(s, 8) as usize);
-    }
-    fields::u32_at(s, 6) as usize
+    key
 }
 
 // Whether the record at the front of s is current and does not fit. The search for twins keeps `entry_at` for itself, so that the compiler
@@ -281,10 +235,10 @@ fn not_fit(d: &[u8], index: &[u16], s: &[u8], fits: bool) -> bool
     if fits {
         return false;
     }
-    let k = records::mark_at(s);
-    let m = records::mark_shape(k);
-    let j = lookup::slot_of(k, key_at(s, m.width));
-    let current = lookup::part_at(d, index, j, m.length);
+    let mark = records::mark_at(s);
+    let shape = records::mark_shape(mark);
+    let slot = lookup::slot_of(mark, key_at(s, shape.width));
+    let current = lookup::part_at(d, index, slot, shape.length);
     fields::u32_at(s, 2) == fields::u32_at(current, 2)
 }
 
@@ -294,18 +248,19 @@ fn first_unfit(d: &[u8], index: &[u16], t: u8) -> Answer
     ensures { result ≡ unfit t (records d.now) }
 {
     let mut at = 0;
+    // a `while`, since records differ in length
     while at < d.len() {
         let rest = &d[at..];
         let f = tried_at(t, rest);
         if not_fit(d, index, rest, f.fits) {
-            return Answer::Refused {
+            return Err(Refusal {
                 number: 6,
                 place: at,
-            };
+            });
         }
         at += f.len;
     }
-    Answer::Accepted
+    Ok(())
 }
 
 // 6, where no record has a first hour. Most dossiers have no unfit record, which the index tells.
@@ -315,7 +270,7 @@ pub fn unfit_of(d: &[u8], index: &[u16], t: u8, slots: bool) -> Answer
     ensures { result ≡ unfit t (records d.now) }
 {
     if slots && profiles_fit(d, index, t) {
-        return Answer::Accepted;
+        return Ok(());
     }
     first_unfit(d, index, t)
 }

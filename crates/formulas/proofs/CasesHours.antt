@@ -4,8 +4,7 @@ use mathlib.Core.Path.{◌≡◌, refl}
 use mathlib.Core.List.{List, [], ◌∷◌, map}
 use Prim.Native.Nat.{ℕ}
 use Rattle.lists.specs.Lists.{joined}
-use Rattle.records.specs.declared.Answer.{Answer}
-use Rattle.records.specs.declared.Answer.TheVariants.{Accepted, Refused}
+use Rattle.records.specs.Answers.{Answer, Accepted, Refused}
 use Rattle.records.specs.Table.{RS, FU, AD, RQ, AO, FV, AV, MV}
 use Rattle.records.specs.Made.{made, made_from}
 use Rattle.station.specs.InForce.{query}

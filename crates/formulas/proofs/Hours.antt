@@ -11,8 +11,7 @@ use Rattle.lists.specs.Sums.{sum_to}
 use Rattle.lists.specs.Tests.{among, between}
 use Rattle.lists.proofs.Tests.{split, and_left, and_right, to_at, between-low, between-high, in_between}
 use Rattle.records.specs.Table.{table, RS, FU, RQ, CH, FP, LC}
-use Rattle.records.specs.declared.Answer.TheVariants.{Accepted, Refused}
-use Rattle.records.specs.Answers.{or_else, refuse_if}
+use Rattle.records.specs.Answers.{Accepted, or_else, refuse_if, Refused}
 use Rattle.records.proofs.Answers.{or_else-parts, not-refuse_if}
 use Rattle.station.specs.InForce.{Query, in_force}
 use Rattle.station.specs.Parameters.{Parameters, parameters, amounts, first_hour, last_hour, requested}

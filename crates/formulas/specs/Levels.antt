@@ -1,8 +1,7 @@
 -- "From records to levels": the profile at an hour, the formulas, the levels at an hour.
 use Rattle.std.specs.Prelude.{◌≡◌, Bool, cond, ◌&&◌, not, List, [], ◌∷◌, ℕ, zero, suc, ◌+◌, ◌*◌, ◌-◌, ◌/◌, ◌≤◌, leb, eqb}
 use Rattle.records.specs.Table.{thermal, nuclear, storage, hydro, FU, AD, RQ, AO}
-use Rattle.records.specs.declared.Answer.{Answer}
-use Rattle.records.specs.Answers.{or_else, refuse_if}
+use Rattle.records.specs.Answers.{Answer, or_else, refuse_if}
 use Rattle.records.specs.Dossier.{records}
 use Rattle.station.specs.InForce.{Query, in_force}
 use Rattle.station.specs.Parameters.{Parameters, Amounts, parameters, amounts, technology, capacity, factor, start_heat, no_load_heat, incremental_fuel}

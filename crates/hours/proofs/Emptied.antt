@@ -1,16 +1,17 @@
 -- The slots of kinds that may have first hours: they lie together, apart from those of all other kinds, and an emptied index has them empty.
-use mathlib.Core.Path.{◌≡◌, refl, ◌∙◌}
+use mathlib.Core.Path.{◌≡◌, refl, sym, ap, subst, ◌∙◌}
 use mathlib.Core.Bool.{Bool, true, false, cond, ◌&&◌, ◌||◌, false≢true}
-use mathlib.Core.List.{List}
+use mathlib.Core.List.{List, []}
 use Prim.Native.Nat.{ℕ, zero, suc, ◌+◌, ◌≤◌, ◌<◌}
 use native.Mathlib.Decide.{ℕ_discrete}
 use native.Mathlib.Numerals.{add-one}
 use native.Mathlib.Omega.{arith}
 use lib.Arith.{lt_of_le-ne}
 use lib.Dec.{leb, ltb, eqb}
-use lib.ListN.{length, get_or, set, length-set}
-use lib.Seq.{get_or-set_same, get_or-set_other}
+use lib.ListN.{length, get_or, set, replicate, length-set}
+use lib.Seq.{get_or-set_same, get_or-set_other, paste}
 use borrow.Author.Tests.{ltb-true, leb-true, ne_eqb}
+use Rattle.std.proofs.lemmas.List.Edits.{paste_none, fill_from_more}
 use Rattle.lists.specs.Tests.{among, all_below}
 use Rattle.lists.proofs.Tests.{and_left, and_right, below_at}
 use Rattle.records.specs.Table.{table, kinds}
@@ -87,7 +88,10 @@ cleared-out ix j (suc n) i h =
     get_or-set_other (cleared ix j n) (j + n) i 0 0 (λ e. h (omega (arith, e)) (omega (arith, e)))
     ∙ cleared-out ix j n i (λ a b. h a (omega (arith, b)))
 
--- one slot more
-pub cleared-next : (ix l : List ℕ) (j i : ℕ) → l ≡ cleared ix j i → set l (j + i) 0 ≡ cleared ix j (i + 1)
+-- as a fill leaves it
+pub cleared-paste : (ix : List ℕ) (j n : ℕ) → j + n ≤ length ix → paste ix j (replicate n 0) n ≡ cleared ix j n
 unfolding cleared
-cleared-next ix l j i e = rw (e, add-one i) refl
+cleared-paste ix j zero h = sym (paste_none ix j [])
+cleared-paste ix j (suc n) h =
+    subst (λ (m : ℕ). paste ix j (replicate m 0) m ≡ cleared ix j (suc n)) (add-one n)
+    (sym (fill_from_more ix j n 0 (omega arith)) ∙ ap (λ (l : List ℕ). set l (j + n) 0) (cleared-paste ix j n (omega arith)))

@@ -8,7 +8,7 @@ use lib.Dec.{leb, lit<}
 use lib.ListN.{length, get_or, set, take, drop, length-drop}
 use Rattle.lists.proofs.Tests.{split}
 use Rattle.fields.specs.Numbers.{number}
-use Rattle.records.specs.declared.Answer.TheVariants.{Accepted}
+use Rattle.records.specs.Answers.{Accepted}
 use Rattle.records.specs.Record.{mark, kind_of, kind, datable, since, size, key_of, fault}
 use Rattle.records.specs.MarkShapes.{shortest}
 use Rattle.records.specs.Dossier.{records, scan}

@@ -2,18 +2,19 @@
 use mathlib.Core.Path.{◌≡◌, refl, sym, subst, ◌∙◌}
 use mathlib.Core.Bool.{true, false, cond, true≢false}
 use mathlib.Core.List.{List}
-use Prim.Native.Nat.{ℕ, ◌+◌, ◌≤◌, ◌<◌}
+use Prim.Native.Nat.{ℕ, ◌≤◌, ◌<◌}
 use native.Mathlib.Omega.{arith}
 use lib.Dec.{leb, eqb}
-use lib.ListN.{length, get_or, set}
-use borrow.Author.Tests.{eqb-true, eqb-false, le-leb, lt-leb}
+use lib.ListN.{length}
+use borrow.Author.Tests.{eqb-true, eqb-false, le-leb}
 use Rattle.lists.proofs.Tests.{split}
 use Rattle.fields.specs.Numbers.{number}
-use Rattle.records.specs.Table.{table, row_of, marks, FU, AD, MM, FV, AV, MV}
+use Rattle.records.specs.declared.marks.Mark.{Mark}
+use Rattle.records.specs.Table.{table, row_of, FV, AV, MV}
+use Rattle.records.specs.Marks.{row}
 use Rattle.records.specs.Record.{mark, is_dated, kind_of, datable, since}
 use Rattle.records.specs.MarkShapes.{begins}
-use Rattle.records.proofs.EveryMark.{mark-lt, undated, not-mark, kind-known, kind-lt}
-use Rattle.index.specs.Slots.{held_issue, newer}
+use Rattle.records.proofs.EveryMark.{mark-lt, undated, not-mark}
 use Rattle.hours.specs.Filling.{dated_slot, put_at, hour_at}
 use Rattle.hours.proofs.Marks.{not-datable}
 
@@ -47,25 +48,11 @@ module _ (d ix : List ℕ) (p : ℕ) (s : List ℕ) {m : ℕ} (em : mark s ≡ m
   undated-is a b e h = e ∙ rw (em, a, b, le-leb 0 h (omega arith)) refl
 
   -- of any other kind it is passed over
-  pub other-is : is_dated m ≡ false → 1 ≤ m → (m ≡ AD → ⊥) → (m ≡ MM → ⊥) → (m ≡ FU → ⊥) → (h : ℕ) → ix ≡ hour_at h d ix p s
+  pub other-is : datable (kind_of m) ≡ false → (h : ℕ) → ix ≡ hour_at h d ix p s
   unfolding hour_at
-  other-is a z x y w h =
-      let l : m < marks = rw em at (mark-lt s) in
-      let k = sym (own-kind m a) in
-      rw (em, not-datable (kind_of m) (kind-known m (λ o. omega (arith, o, z)) l) (kind-lt m l) (λ q. w (k ∙ q)) (λ q. x (k ∙ q)) (λ q. y (k ∙ q))) refl
+  other-is e h = rw (em, e) refl
 
--- ---- as code puts it
-
-module _ (d ix : List ℕ) (p : ℕ) (s : List ℕ) where
-  -- slot j holds it, w being its issue and a the one that was held
-  pub put_is : {i j w a g : ℕ} → i ≡ j → w ≡ number 2 4 s → a ≡ held_issue d (get_or ix i 0) → g ≡ newer a (w + 1) (get_or ix i 0) (p + 1)
-      → set ix i g ≡ put_at d ix p s j
-  put_is ei ew ea eg = rw (eg, ea, ew, ei) refl
-
-  -- x is its first hour, which lies ahead
-  pub ahead : (h j : ℕ) {x : ℕ} → x ≡ number 6 4 s → h < x → ix ≡ cond (leb (number 6 4 s) h) (put_at d ix p s j) ix
-  ahead h j {x} ex l = rw (← ex, lt-leb x h l) refl
-
-  -- or has come
-  pub come : (h j : ℕ) {x : ℕ} {y : List ℕ} → x ≡ number 6 4 s → x ≤ h → y ≡ put_at d ix p s j → y ≡ cond (leb (number 6 4 s) h) (put_at d ix p s j) ix
-  come h j {x} ex l e = e ∙ rw (← ex, le-leb x h l) refl
+-- its kind then is the mark's own
+pub other-kind : (s : List ℕ) {k : Mark} → row k ≡ mark s → is_dated (mark s) ≡ false → 1 ≤ mark s → (k ≡ Mark.FU → ⊥) → (k ≡ Mark.AD → ⊥)
+    → (k ≡ Mark.MM → ⊥) → datable (kind_of (mark s)) ≡ false
+other-kind s {k} e u p x y z = rw (own-kind (mark s) u, ← e) (not-datable k (rw e p) x y z)

@@ -6,72 +6,55 @@ pub mod owners;
 
 ghost use Rattle.std.specs.Prelude.{◌≡◌, true, false, cond, ℕ, ◌+◌, ◌<◌, ◌≤◌, leb, length};
 ghost use Rattle.fields.specs.Numbers.{number};
-ghost use Rattle.records.specs.declared.Answer.TheVariants.{Accepted};
-ghost use Rattle.records.specs.Table.{marks};
-ghost use Rattle.records.specs.Record.{mark, is_dated, size, fields_at};
+ghost use Rattle.records.specs.Answers.{Accepted};
+ghost use Rattle.records.specs.Marks.{row};
+ghost use Rattle.records.specs.Record.{mark, is_dated, size};
 ghost use Rattle.records.specs.Dossier.{records, scan};
 ghost use Rattle.station.specs.InForce.{come};
 ghost use Rattle.index.specs.Slots.{short};
 ghost use Rattle.index.specs.Holding.{IndexOf};
 ghost use Rattle.hours.specs.Filling.{cleared, dated_slot, put_at, hour_at, filled_at};
 
-use records::marks;
+use records::Mark;
 
 // The slots of FU, AD and MM: the first, and how many.
 const FIRST: usize = 22;
 
 const COUNT: usize = 116;
 
-// Empties n slots from slot j on. Nothing is asked of each, so that the compiler takes several at a time.
+// Empties n slots from slot j on.
 fn clear(index: &mut [u16], j: usize, n: usize)
     requires { j + n ≤ length index.old }
     ensures { index.new ≡ cleared index.old j n }
 {
-    let mut i = 0;
-    while i < n {
-        index[j + i] = 0;
-        i += 1;
-    }
-}
-
-// Where the fields of a mark's records begin. The marks that have a first hour come last.
-fn fields_at(mark: usize) -> usize
-    requires { mark < marks }
-    ensures { result ≡ fields_at mark }
-{
-    if mark <= marks::AO { 6 } else { 10 }
+    index[j..j + n].fill(0);
 }
 
 // The slot of a record of a mark whose kind may have first hours; 0, which is RS's, of any other.
-fn slot_of_dated(mark: usize, s: &[u8]) -> usize
-    requires { (1 ≤ mark) × (mark < marks) }
-    ensures { result ≡ dated_slot mark s.now }
+fn slot_of_dated(mark: Mark, s: &[u8]) -> usize
+    requires { 1 ≤ row mark }
+    ensures { result ≡ dated_slot (row mark) s.now }
 {
-    let kind = records::kind_of(mark);
-    let at = fields_at(mark);
-    if kind == marks::FU {
-        return index::keys::slot_fu(fields::u8_at(s, at) as usize);
-    }
-    if kind == marks::AD {
-        return index::keys::slot_ad(
+    let at = records::fields_at(mark);
+    match records::kind_of(mark) {
+        Mark::FU => index::keys::slot_fu(fields::u8_at(s, at) as usize),
+        Mark::AD => index::keys::slot_ad(
             fields::u8_at(s, at) as usize,
             fields::u8_at(s, at + 1) as usize,
             fields::u8_at(s, at + 2) as usize,
-        );
-    }
-    if kind == marks::MM {
-        return index::keys::slot_mm(
+        ),
+        Mark::MM => index::keys::slot_mm(
             fields::u8_at(s, at) as usize,
             fields::u8_at(s, at + 1) as usize,
-        );
+        ),
+        _ => 0,
     }
-    0
 }
 
 // A record of such a mark goes into its slot, unless a higher issue is there.
-fn put(d: &[u8], index: &mut [u16], at: usize, s: &[u8], mark: usize)
-    requires { (1 ≤ mark) × (mark < marks) × (dated_slot mark s.now < length index.old) × (length d.now ≤ 60000) × (at < 60000) }
-    ensures { index.new ≡ put_at d.now index.old at s.now (dated_slot mark s.now) }
+fn put(d: &[u8], index: &mut [u16], at: usize, s: &[u8], mark: Mark)
+    requires { (1 ≤ row mark) × (dated_slot (row mark) s.now < length index.old) × (length d.now ≤ 60000) × (at < 60000) }
+    ensures { index.new ≡ put_at d.now index.old at s.now (dated_slot (row mark) s.now) }
 {
     let j = slot_of_dated(mark, s);
     let issue = (fields::u32_at(s, 2) as u64) + 1;
@@ -81,10 +64,10 @@ fn put(d: &[u8], index: &mut [u16], at: usize, s: &[u8], mark: usize)
 }
 
 // The same of one with a first hour, if that has come. It is short, so that the compiler puts it in line in each arm below.
-fn put_if_come(d: &[u8], index: &mut [u16], hour: u32, at: usize, s: &[u8], mark: usize)
-    requires { (1 ≤ mark) × (mark < marks) × (dated_slot mark s.now < length index.old) × (length d.now ≤ 60000) × (at < 60000) }
+fn put_if_come(d: &[u8], index: &mut [u16], hour: u32, at: usize, s: &[u8], mark: Mark)
+    requires { (1 ≤ row mark) × (dated_slot (row mark) s.now < length index.old) × (length d.now ≤ 60000) × (at < 60000) }
     ensures { index.new ≡ cond (leb (number 6 4 s.now) hour)
-        (put_at d.now index.old at s.now (dated_slot mark s.now)) index.old }
+        (put_at d.now index.old at s.now (dated_slot (row mark) s.now)) index.old }
 {
     if hour < fields::u32_at(s, 6) {
         return;
@@ -99,14 +82,14 @@ fn put_dated(d: &[u8], index: &mut [u16], hour: u32, at: usize, s: &[u8]) -> usi
     ensures { (result ≡ size (mark s.now)) × (index.new ≡ hour_at hour d.now index.old at s.now) }
 {
     if records::is_mark(s, b"AV") {
-        put_if_come(d, index, hour, at, s, marks::AV);
+        put_if_come(d, index, hour, at, s, Mark::AV);
         return records::AV.length;
     }
     if records::is_mark(s, b"MV") {
-        put_if_come(d, index, hour, at, s, marks::MV);
+        put_if_come(d, index, hour, at, s, Mark::MV);
         return records::MV.length;
     }
-    put_if_come(d, index, hour, at, s, marks::FV);
+    put_if_come(d, index, hour, at, s, Mark::FV);
     records::FV.length
 }
 
@@ -117,20 +100,21 @@ fn put_undated(d: &[u8], index: &mut [u16], at: usize, s: &[u8]) -> usize
     ensures { (result ≡ size (mark s.now))
         × ((h : ℕ) → index.new ≡ hour_at h d.now index.old at s.now) }
 {
-    let mark = records::mark_at(s);
-    if mark == marks::AD {
-        put(d, index, at, s, marks::AD);
-        return records::AD.length;
+    match records::mark_at(s) {
+        Mark::AD => {
+            put(d, index, at, s, Mark::AD);
+            records::AD.length
+        }
+        Mark::MM => {
+            put(d, index, at, s, Mark::MM);
+            records::MM.length
+        }
+        Mark::FU => {
+            put(d, index, at, s, Mark::FU);
+            records::FU.length
+        }
+        other => records::length_of(other),
     }
-    if mark == marks::MM {
-        put(d, index, at, s, marks::MM);
-        return records::MM.length;
-    }
-    if mark == marks::FU {
-        put(d, index, at, s, marks::FU);
-        return records::FU.length;
-    }
-    records::length_of(mark)
 }
 
 // Either; V as second letter tells which.
@@ -151,6 +135,7 @@ fn fill_dated(d: &[u8], index: &mut [u16], hour: u32)
     ensures { index.new ≡ filled_at hour d.now index.old }
 {
     let mut at = 0;
+    // a `while`, since records differ in length
     while at < d.len() {
         let rest = &d[at..];
         // never so: it tells the compiler that a first hour's bytes are there

@@ -5,7 +5,7 @@ use Prim.Native.Nat.{ℕ, ◌+◌, ◌-◌, ◌≤◌}
 use native.Mathlib.Omega.{arith}
 use lib.ListN.{length, drop, length-replicate}
 use borrow.Author.Tests.{ne_eqb}
-use Rattle.records.specs.declared.Answer.TheVariants.{Accepted}
+use Rattle.records.specs.Answers.{Accepted}
 use Rattle.records.specs.Record.{mark}
 use Rattle.records.specs.Dossier.{first_of, records, scan}
 use Rattle.records.specs.Walk.{folded}

@@ -15,9 +15,8 @@ use Rattle.lists.proofs.Lists.{each_map}
 use Rattle.lists.proofs.Tests.{and_left, and_right, split}
 use Rattle.fields.specs.Numbers.{number}
 use Rattle.fields.proofs.Numbers.{number-nil, number-drop}
-use Rattle.records.specs.declared.Answer.TheVariants.{Accepted}
 use Rattle.records.specs.Record.{mark, kind, size, issue, key_of, fault}
-use Rattle.records.specs.Answers.{refuse_if}
+use Rattle.records.specs.Answers.{Accepted, refuse_if}
 use Rattle.records.specs.Dossier.{records, scan}
 use Rattle.records.specs.Walk.{folded}
 use Rattle.records.proofs.Answers.{parts-or_else, refuse_if-not}

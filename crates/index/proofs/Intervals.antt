@@ -17,7 +17,8 @@ use Rattle.records.specs.MarkShapes.{begins}
 use Rattle.records.specs.Walk.{Record, found}
 use Rattle.records.proofs.EveryMark.{not-mark}
 use Rattle.records.proofs.Read.{found-known, begun}
-use Rattle.index.specs.declared.Reading.TheVariants.{Fault}
+use Rattle.std.specs.Prelude.{Err}
+use Rattle.index.specs.declared.Fault.TheVariants.{OutsideRange}
 use Rattle.index.specs.Entries.{reading_as}
 use Rattle.index.specs.Intervals.{interval_as, no_interval, is_interval, interval_at, held_price, held_energy}
 
@@ -106,7 +107,7 @@ interval-found s e =
     found-known CH s (omega (arith, f.long)) f.marked refl ∙ rw (ch-size, le-ltb (length s) 16 f.long, f.ranged) refl
 
 -- a CH that is long enough and isn't fair is out of range
-pub unfair : (s : List ℕ) → begins s 67 72 ≡ true → is_interval s ≡ false → 16 ≤ length s → reading_as CH s ≡ Fault 3
+pub unfair : (s : List ℕ) → begins s 67 72 ≡ true → is_interval s ≡ false → 16 ≤ length s → reading_as CH s ≡ Err OutsideRange
 unfolding is_interval reading_as
 unfair s e f h =
     split (ranges_hold CH s)

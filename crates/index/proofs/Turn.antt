@@ -7,8 +7,9 @@ use native.Mathlib.Omega.{arith}
 use lib.Dec.{ltb}
 use lib.ListN.{length, get_or, set, take, drop, length-drop, get_or-eq_default}
 use lib.Seq.{take_all}
-use borrow.Author.Tests.{lt-ltb, eq-eqb}
-use Rattle.lists.proofs.Tests.{and-true}
+use borrow.Author.Tests.{lt-ltb, eq-eqb, ltb-true, ltb-false}
+use Rattle.std.specs.Prelude.{max}
+use Rattle.lists.proofs.Tests.{and-true, split}
 use Rattle.fields.specs.Numbers.{number}
 use Rattle.records.specs.Record.{mark, kind_of, kind, fields_at, size, issue, key_width, key_of, fault, is_dated}
 use Rattle.records.specs.MarkShapes.{shortest}
@@ -27,6 +28,10 @@ tail d at = take_all (length d - at) (drop at d) (simp length-drop (omega arith)
 
 pub bounds : (d : List ℕ) (at k n : ℕ) → found (drop at d) ≡ Record k n → (1 ≤ n) × (n ≤ length d - at)
 bounds d at k n e = let w = found_within (drop at d) k n e in (w.0, simp length-drop at w.1)
+
+-- the higher of two slots
+pub max-higher : (a b : ℕ) → max a b ≡ higher a b
+max-higher a b = split (ltb a b) (λ t. rw t (omega (arith, ltb-true a b t))) (λ f. rw f (omega (arith, ltb-false a b f)))
 
 -- what lies beyond a list is not set
 set_beyond : (l : List ℕ) (i x : ℕ) → length l ≤ i → set l i x ≡ l

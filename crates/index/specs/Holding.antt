@@ -1,6 +1,6 @@
 -- What an index holds: in the slot of each kind and key the current one of some records of the dossier.
 use Rattle.std.specs.Prelude.{◌≡◌, true, cond, List, [], ℕ, ◌-◌, ◌≤◌, ◌<◌, eqb, length, get_or, drop}
-use Rattle.records.specs.declared.Answer.TheVariants.{Accepted}
+use Rattle.records.specs.Answers.{Accepted}
 use Rattle.records.specs.Table.{kinds}
 use Rattle.records.specs.MarkShapes.{key_test}
 use Rattle.records.specs.Dossier.{first_of, records, scan}

@@ -1,3 +1,4 @@
+pub mod Passed
 pub mod Slots
 pub mod Entries
 pub mod Intervals

@@ -4,8 +4,7 @@ use Rattle.lists.specs.Tests.{all_below}
 use Rattle.fields.specs.Numbers.{number}
 use Rattle.records.specs.Record.{mark, is_dated, kind_of, kind, fields_at, issue, key_width, key_of}
 use Rattle.records.specs.Walk.{Step, Walked, ended, stopped}
-use Rattle.index.specs.declared.Passed.{Passed}
-use Rattle.index.specs.declared.Passed.TheVariants.{Ended, Stopped}
+use Rattle.index.specs.Passed.{Passed, Ended, Stopped}
 
 -- ---- the slot of a kind and key: mixed radix, the kinds one after the other; behind those that every station may have HR, AO, CH and LC, FP last
 

@@ -7,7 +7,7 @@ ghost use Rattle.index.specs.Intervals.{is_interval, interval_at, held_price, he
 
 use crate::keys::slot_ch;
 use crate::reader::begins_with;
-use crate::{higher_of, issue_held, newer_of};
+use crate::{issue_held, newer_of};
 
 // What the record of an interval says: the issue plus 1, the price plus 2^31. Each number is read once, so that the compiler takes it with one load.
 // Interval 0 stands for no such record.
@@ -20,14 +20,14 @@ pub struct Interval {
 }
 
 // The two sums.
-#[derive(Drop)]
+#[derive(Clone, Copy)]
 pub struct Sums {
     pub cost: u64,
     pub energy: u64,
 }
 
 // Where records of intervals end that lie together, whether every issue so far rose, and the highest slot of a record.
-#[derive(Drop)]
+#[derive(Clone, Copy)]
 pub struct Run {
     pub end: usize,
     pub rising: bool,
@@ -111,10 +111,11 @@ pub fn intervals_from(d: &[u8], before: Run, index: &mut [u16], lent: &mut [u64]
         cost: lent[0],
         energy: lent[1],
     };
+    // a scan: how many records lie together shows only as they are read
     let mut i = interval_at(d, end);
     while i.n != 0 {
         let j = slot_ch(i.n);
-        top = higher_of(top, j);
+        top = top.max(j);
         if j < index.len() {
             let v = index[j];
             if v == 0 {

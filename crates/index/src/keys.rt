@@ -1,9 +1,12 @@
 // Where a key's slot lies in the index.
+#![tactic(auto, unfolding(crate::specs::Slots::slot))]
+
 ghost use Rattle.std.specs.Prelude.{◌≡◌, ◌+◌, ◌*◌, ◌<◌};
 ghost use Rattle.records.specs.Table.{HP, FU, AD, MM, RQ, HR, CH, TH, FP, LC, AO};
 ghost use Rattle.index.specs.Slots.{slot};
 
-// The slot of a key, by mark. Key fields count from 1, so a mark's slots begin one field of each below the number that is added.
+// The slot of a key, by mark. Key fields count from 1, so a mark's slots begin one field of each below the number that is added. The marks with one field
+// differ in that number alone, and have a function each: a generic one with the number from a trait is no plainer than `21 + n`.
 pub fn slot_hp(n: usize) -> usize
     requires { n < 4294967296 }
     ensures { result ≡ slot HP n }

@@ -4,17 +4,19 @@
 pub mod charging;
 pub mod keys;
 pub mod reader;
+pub mod slotted;
 
 ghost use Rattle.std.specs.Prelude.{◌≡◌, Bool, true, false, ◌||◌, ◌+◌, ◌<◌, ◌≤◌, length, drop};
 ghost use Rattle.records.specs.Record.{mark, fault, is_dated};
 ghost use Rattle.records.specs.Dossier.{first_of};
 ghost use Rattle.records.specs.Walk.{walk};
-ghost use Rattle.index.specs.Entries.{entry_as};
+ghost use Rattle.index.specs.Entries.{fault_number, entry_as};
 ghost use Rattle.index.specs.Intervals.{HeldIn};
 ghost use Rattle.index.specs.Slots.{held_issue, newer, higher, kept, keep_step, pass_of, slots_of, slots_empty, slots_full};
 
 use crate::charging::Run;
 use crate::reader::read;
+use records::Refusal;
 
 // The slots of marks that every station may have, of HR and of AO; of all marks but FP; and with them.
 pub const SHORT: usize = 494;
@@ -31,34 +33,55 @@ const START: Run = Run {
 };
 
 // A record's length, and the slot of its kind and key.
-#[derive(Drop)]
+#[derive(Clone, Copy)]
 pub struct Entry {
     pub len: usize,
     pub slot: usize,
 }
 
-// What the record reader answers: a whole record, one with a first hour, or the fault that it draws.
-#[derive(Drop)]
-pub enum Reading {
-    Whole(Entry),
+// A record without fault: one that counts from hour 0, or one with a first hour. Two arms, and no flag in the entry, which the pass would carry past
+// each record (tried, and slower: up to a sixth more instructions).
+#[derive(Clone, Copy)]
+pub enum Sound {
+    Undated(Entry),
     Dated(Entry),
-    Fault(u8),
 }
 
-// What a pass answers: whether every issue was above all earlier ones of its kind and key, the highest slot of a record, and whether one has a first
-// hour; or the first fault.
-#[derive(Drop)]
-pub enum Passed {
-    Ended {
-        rising: bool,
-        top: usize,
-        dated: bool,
-    },
-    Stopped {
-        number: u8,
-        place: usize,
-    },
+// What a record may draw by itself: its mark is unknown, it is cut short, or a field is outside its range.
+#[derive(Clone, Copy, Debug, PartialEq, Eq)]
+pub enum Fault {
+    UnknownMark,
+    CutShort,
+    OutsideRange,
 }
+
+// The paper's number of it.
+impl From<Fault> for u8 {
+    ghost from_gives = { λ f n. n ≡ fault_number f };
+
+    fn from(fault: Fault) -> u8 {
+        match fault {
+            Fault::UnknownMark => 1,
+            Fault::CutShort => 2,
+            Fault::OutsideRange => 3,
+        }
+    }
+}
+
+// What the record reader answers: a record without fault, or the fault that it draws.
+pub type Reading = Result<Sound, Fault>;
+
+// What a pass tells of the records: whether every issue was above all earlier ones of its kind and key, the highest slot of a record, and whether one has a
+// first hour.
+#[derive(Clone, Copy)]
+pub struct Summary {
+    pub rising: bool,
+    pub top: usize,
+    pub dated: bool,
+}
+
+// The same, or the first fault.
+pub type Passed = Result<Summary, Refusal>;
 
 // The issue of the record that a slot of value v holds, plus 1; 0 if it holds none.
 pub fn issue_held(d: &[u8], v: u16) -> u64
@@ -77,13 +100,6 @@ pub fn newer_of(held: u64, issue: u64, v: u16, next: u16) -> u16
     ensures { result ≡ newer held issue v next }
 {
     if held <= issue { next } else { v }
-}
-
-// The higher of two slots.
-fn higher_of(a: usize, b: usize) -> usize
-    ensures { result ≡ higher a b }
-{
-    if a < b { b } else { a }
 }
 
 // A record without fault, whose entry was read, goes into its slot. A slot holds the place of its record plus 1, 0 for none: two bytes, so that an empty
@@ -114,7 +130,7 @@ fn keep(d: &[u8], before: Run, entry: Entry, index: &mut [u16]) -> Run
     Run {
         end: at + entry.len,
         rising,
-        top: higher_of(before.top, j),
+        top: before.top.max(j),
     }
 }
 
@@ -128,36 +144,40 @@ pub fn pass(d: &[u8], index: &mut [u16], sums: &mut [u64]) -> Passed
 {
     let mut run = START;
     let mut dated = false;
+    // a scan by each record's own length
     while run.end < d.len() {
         let at = run.end;
         let rest = &d[at..];
         if reader::begins_interval(rest) {
             let next = charging::intervals_from(d, run, index, sums);
             if next.end == at {
-                let number = reader::interval_fault(rest);
-                return Passed::Stopped { number, place: at };
+                let number = u8::from(reader::interval_fault(rest));
+                return Err(Refusal { number, place: at });
             }
             run = next;
         } else {
-            let entry = match read(rest) {
-                Reading::Whole(entry) => entry,
-                Reading::Dated(entry) => {
+            let sound = match read(rest) {
+                Ok(sound) => sound,
+                Err(_) => {
+                    let number = u8::from(reader::fault_of(rest));
+                    return Err(Refusal { number, place: at });
+                }
+            };
+            let entry = match sound {
+                Sound::Undated(entry) => entry,
+                Sound::Dated(entry) => {
                     dated = true;
                     entry
-                }
-                Reading::Fault(_) => {
-                    let number = reader::fault_of(rest);
-                    return Passed::Stopped { number, place: at };
                 }
             };
             run = keep(d, run, entry, index);
         }
     }
-    Passed::Ended {
+    Ok(Summary {
         rising: run.rising,
         top: run.top,
         dated,
-    }
+    })
 }
 
 // Whether n slots from slot j on are empty.
@@ -166,10 +186,8 @@ pub fn slots_empty(index: &[u16], j: usize, n: usize) -> bool
     ensures { result ≡ slots_empty index.now j n }
 {
     let mut any = 0;
-    let mut i = 0;
-    while i < n {
-        any = any | index[j + i];
-        i += 1;
+    for v in &index[j..j + n] {
+        any |= *v;
     }
     any == 0
 }
@@ -184,10 +202,8 @@ pub fn slots_full(index: &[u16], j: usize, n: usize) -> bool
         return n == 0;
     }
     let mut all = true;
-    let mut i = 0;
-    while i < n {
-        all = all & (index[j + i] != 0);
-        i += 1;
+    for v in &index[j..j + n] {
+        all &= *v != 0;
     }
     all
 }

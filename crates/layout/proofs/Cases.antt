@@ -5,8 +5,7 @@ use mathlib.Core.List.{List, [], ◌∷◌, ◌++◌}
 use Prim.Native.Nat.{ℕ, ◌+◌}
 use lib.ListN.{replicate}
 use Rattle.lists.specs.Lists.{joined}
-use Rattle.records.specs.declared.Answer.TheVariants.{Accepted, Refused}
-use Rattle.records.specs.Answers.{refuse_if, is_accepted}
+use Rattle.records.specs.Answers.{Accepted, refuse_if, is_accepted, Refused}
 use Rattle.records.specs.Table.{RS, FU, AD, RQ, AO, FV, AV}
 use Rattle.records.specs.Made.{made, made_from}
 use Rattle.formulas.specs.Levels.{shown_as}

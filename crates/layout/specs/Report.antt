@@ -1,14 +1,11 @@
 -- The report's lines as bytes; 15 and 16; what the program `levels` prints.
-use Rattle.std.specs.Prelude.{cond, List, [], ◌∷◌, ◌++◌, map, ℕ, ltb, eqb, length, drop}
+use Rattle.std.specs.Prelude.{cond, List, [], ◌∷◌, ◌++◌, map, ℕ, ltb, eqb, length, drop, Ok, Err}
 use Rattle.fields.specs.Numbers.{number}
-use Rattle.records.specs.declared.Answer.{Answer}
-use Rattle.records.specs.declared.Answer.TheVariants.{Accepted, Refused as Turned}
-use Rattle.records.specs.Answers.{or_else, refuse_if, is_accepted}
+use Rattle.records.specs.Answers.{Answer, or_else, refuse_if, is_accepted}
 use Rattle.station.specs.InForce.{Query, query}
 use Rattle.rules.specs.Fit.{energy, start, no_load}
 use Rattle.formulas.specs.Levels.{parameters_at, profile, query_answer, levels, Shown, shown, retired}
-use Rattle.layout.specs.declared.Written.{Written}
-use Rattle.layout.specs.declared.Written.TheVariants.{Bytes, Refused}
+use Rattle.layout.specs.Written.{Written, Bytes}
 use Rattle.text.specs.Text.{decimal, tenths, hundredths, refusal_line, profile_word, energy_word, start_word, no_load_word, reserve_word, retired_word}
 use Rattle.text.specs.Text.{space, newline, over}
 
@@ -71,13 +68,13 @@ buffer_with a text buf = cond (is_accepted a) (over text buf) buf
 
 -- what the caller is told: how many bytes the report has, or the refusal
 unfoldable pub written : Answer → ℕ → Written
-written Accepted n = Bytes n
-written (Turned k p) n = Refused k p
+written (Ok x) n = Bytes n
+written (Err r) n = Err r
 
 -- "a definition gives this paper's number and values for each case": 0 written, with the report's length; 2 refused, with number and place
 unfoldable pub written_numbers : Written → List ℕ
-written_numbers (Bytes n) = 0 ∷ n ∷ []
-written_numbers (Refused k p) = 2 ∷ k ∷ p ∷ []
+written_numbers (Ok n) = 0 ∷ n ∷ []
+written_numbers (Err r) = 2 ∷ r.number ∷ r.place ∷ []
 
 -- the answer to a report into a buffer of n bytes: "10, 11, 15"
 unfoldable pub report_answer : List ℕ → Query → ℕ → Answer
@@ -91,8 +88,8 @@ buffer_after d q buf = buffer_with (report_answer d q (length buf)) (report d q)
 
 -- "A refusal prints `refused N at P`"; or else the text
 unfoldable pub printed : Answer → List ℕ → List ℕ
-printed Accepted text = text
-printed (Turned n p) text = refusal_line n p
+printed (Ok x) text = text
+printed (Err r) text = refusal_line r.number r.place
 
 -- what its standard input asks for, "a big-endian 4-byte hour, then the dossier"; "the program names owner 1"
 abbrev pub program_query : List ℕ → Query

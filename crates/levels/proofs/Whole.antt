@@ -1,12 +1,13 @@
 -- From what was read to the whole input.
-use mathlib.Core.Path.{◌≡◌, sym, ap, ◌∙◌}
+use mathlib.Core.Path.{◌≡◌, refl, sym, ap, ◌∙◌}
 use mathlib.Core.List.{List}
 use Prim.Native.Nat.{ℕ, ◌≤◌}
 use native.Mathlib.Omega.{arith}
 use borrow.Author.Tests.{le-ltb}
 use lib.ListN.{length, take}
+use Rattle.std.specs.Prelude.{IsOk}
 use Rattle.text.specs.Text.{over}
-use Rattle.layout.specs.declared.Written.TheVariants.{Bytes, Refused}
+use Rattle.layout.specs.Written.{Written, Bytes}
 use Rattle.layout.specs.Report.{longest_report, prints}
 use Rattle.report.specs.Print.{print_answer, buffer_printed}
 use Rattle.report.proofs.Program.{prints-fits, prints-cut}
@@ -24,5 +25,6 @@ module _ (s e : List ℕ) (room : longest_report ≤ length e) where
             ∙ prints-cut i in (l ∙ ap length c, t ∙ ap (λ (x : List ℕ). over x e) c),
       )
 
-  pub never-refused : {k p : ℕ} → Refused k p ≡ print_answer s e → ⊥
-  never-refused {k} {p} h = let z : ◌≡◌ {A = ℕ} 0 1 = cc (rw (le-ltb (length e) longest_report room) at h) in absurd (omega arith)
+  -- nothing is refused
+  pub whole-ok : {w : Written} → w ≡ print_answer s e → IsOk w
+  whole-ok p = rw (p, le-ltb (length e) longest_report room) refl

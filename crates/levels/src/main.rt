@@ -8,7 +8,6 @@ ghost use Rattle.std.specs.Io.KnownBytes.{Consumes, IsAtEnd};
 ghost use Rattle.text.specs.Text.{over};
 ghost use Rattle.layout.specs.Report.{longest_report, prints};
 
-use layout::Written;
 use std::io;
 use std::io::{Read, Write};
 
@@ -24,12 +23,14 @@ fn read_behind<R: Read>(reader: &mut R, buf: &mut [u8], at: usize) -> io::Result
 }
 
 // Reads until a buffer is full or the input ends: how many bytes it put at the front. They are the reader's next bytes, and where there was room for more, all.
+// Of std's own, `read_exact` refuses an input that is shorter than the buffer, and `read_to_end` wants a heap.
 fn read_full<R: Read>(reader: &mut R, buf: &mut [u8]) -> io::Result<usize>
     ensures fits { IfOk result (λ n. n ≤ length buf.new) }
     ensures bytes { IfOk result (λ n. Consumes (R.remaining reader.old) (R.remaining reader.new) (take n buf.new)) }
     ensures end { IfOk result (λ n. n < length buf.new → IsAtEnd (R.remaining reader.new)) }
 {
     let mut filled = 0;
+    // each read says how many bytes it added
     while filled < buf.len() {
         let n = read_behind(reader, buf, filled)?;
         if n == 0 {
@@ -47,14 +48,8 @@ fn answer(read: &[u8], n: usize, out: &mut [u8]) -> usize
     ensures { (result ≤ longest_report) × ((i : List ℕ) → take 60005 i ≡ take n read.now → (result ≡ length (prints i))
         × (out.new ≡ over (prints i) out.old)) }
 {
-    match report::print(&read[..n], out) {
-        Written::Bytes(len) => len,
-        // never so: the buffer is long enough
-        Written::Refused {
-            number: _,
-            place: _,
-        } => 0,
-    }
+    // the buffer is long enough, so nothing is refused
+    report::print(&read[..n], out).unwrap()
 }
 
 fn main(rt: HostRuntime) -> io::Result<()> {

@@ -9,7 +9,8 @@ use native.Mathlib.Omega.{arith}
 use lib.Arith.{lt_of_le-ne}
 use lib.Dec.{eqb, leb, ltb}
 use lib.ListN.{get_or}
-use borrow.Author.Tests.{eq-eqb, ne_eqb, le-leb, lt-ltb, leb-true, ltb-true}
+use borrow.Author.Tests.{le-leb, lt-ltb, leb-true, ltb-true}
+use Rattle.std.specs.Prelude.{Option, Some, None}
 use Rattle.station.specs.Parameters.{Parameters}
 use Rattle.rules.specs.Fit.{energy, holds}
 use Rattle.arrays.specs.declared.HourLevels.{HourLevels}
@@ -82,9 +83,10 @@ module _ (s : Parameters) (c : ℕ) (l : List Line) where
 
 -- ---- by the arrays' places
 
--- pair k's lamination i as a verdict, or else what follows; no lamination is 0
-abbrev named : ℕ → ℕ → Verdict → Verdict
-named k i rest = cond (eqb i 0) rest (Fails k i)
+-- pair k's lamination as a verdict, or else what follows
+abbrev named : ℕ → Option ℕ → Verdict → Verdict
+named k None rest = rest
+named k (Some i) rest = Fails k i
 
 module _ (t : Threshold) (p : Pair) (r : Arrays) (k : ℕ) (rest : Verdict) where
   laminations-first :
@@ -97,8 +99,8 @@ module _ (t : Threshold) (p : Pair) (r : Arrays) (k : ℕ) (rest : Verdict) wher
       go (overlap p.low p.high (get_or r.from i 0) (get_or r.to i 0) && fails_at t p.price (get_or r.cents i 0))
       (first_failing t p r.from r.to r.cents (suc i) n) (laminations-first (suc i) n)
     where
-      go : (b : Bool) {x : Verdict} (j : ℕ) → x ≡ named k j rest → cond b (Fails k (suc i)) x ≡ named k (cond b (suc i) j) rest
-      go true j e = rw (ne_eqb (suc i) 0 (λ z. omega arith)) refl
+      go : (b : Bool) {x : Verdict} (j : Option ℕ) → x ≡ named k j rest → cond b (Fails k (suc i)) x ≡ named k (cond b (Some (suc i)) j) rest
+      go true j e = refl
       go false j e = e
 
 -- pair k of an offer
@@ -149,50 +151,50 @@ least-le cents (suc n) i h = go (ℕ_discrete i n) (least-le cents n i)
 
 -- a price that passes at the least level passes in all laminations
 module _ (t : Threshold) (p : Pair) (from to cents : List ℕ) (x : ℕ) (e : fails_at t p.price x ≡ false) where
-  none_from : (n i : ℕ) → ((j : ℕ) → i ≤ j → j < i + n → x ≤ get_or cents j 0) → 0 ≡ first_failing t p from to cents i n
+  none_from : (n i : ℕ) → ((j : ℕ) → i ≤ j → j < i + n → x ≤ get_or cents j 0) → None ≡ first_failing t p from to cents i n
   unfolding first_failing fails_in fails_at
   none_from zero i h = refl
   none_from (suc n) i h =
       rw (pass-stays t.percent t.margin t.floor p.price (h i (omega arith) (omega arith)) e)
       (go (overlap p.low p.high (get_or from i 0) (get_or to i 0)) (none_from n (suc i) (λ j a b. h j (omega arith) (omega arith))))
     where
-      go : (b : Bool) {j : ℕ} → 0 ≡ j → 0 ≡ cond (b && false) (suc i) j
+      go : (b : Bool) {j : Option ℕ} → None ≡ j → None ≡ cond (b && false) (Some (suc i)) j
       go true f = f
       go false f = f
 
-  pub least-passes : (n : ℕ) → x ≡ least_of cents n → 0 ≡ first_failing t p from to cents 0 n
+  pub least-passes : (n : ℕ) → x ≡ least_of cents n → None ≡ first_failing t p from to cents 0 n
   least-passes n z = none_from n 0 (λ j a b. rw z (least-le cents n j (omega arith)))
 
 -- one turn over the laminations, at place i of n
 module _ (t : Threshold) (p : Pair) (from to cents : List ℕ) (n i : ℕ) (h : i < n) where
-  pub lamination-stop : fails_in t p (get_or from i 0) (get_or to i 0) (get_or cents i 0) ≡ true → i + 1 ≡ first_failing t p from to cents i (n - i)
+  pub lamination-stop : fails_in t p (get_or from i 0) (get_or to i 0) (get_or cents i 0) ≡ true → Some (i + 1) ≡ first_failing t p from to cents i (n - i)
   unfolding first_failing
-  lamination-stop e = rw (one_less n i h, e) (add-one i)
+  lamination-stop e = rw (one_less n i h, e) (ap Some (add-one i))
 
   pub lamination-next : fails_in t p (get_or from i 0) (get_or to i 0) (get_or cents i 0) ≡ false
       → first_failing t p from to cents (i + 1) (n - (i + 1)) ≡ first_failing t p from to cents i (n - i)
   unfolding first_failing
   lamination-next e = rw (one_less n i h, e, add-one i) refl
 
-pub lamination-end : (t : Threshold) (p : Pair) (from to cents : List ℕ) (n i : ℕ) → n ≤ i → 0 ≡ first_failing t p from to cents i (n - i)
+pub lamination-end : (t : Threshold) (p : Pair) (from to cents : List ℕ) (n i : ℕ) → n ≤ i → None ≡ first_failing t p from to cents i (n - i)
 unfolding first_failing
 lamination-end t p from to cents n i h = let z : n - i ≡ 0 = omega arith in rw z refl
 
 -- one turn over the pairs, at pair k of n: what was read of it, and the lamination i that it fails in
-module _ (t : Threshold) (r : Arrays) (o : List ℕ) (n k : ℕ) (p : Pair) (i : ℕ) (h : k < n) (l : p.low ≡ before o k) (q : p.high ≡ quantity o k)
+module _ (t : Threshold) (r : Arrays) (o : List ℕ) (n k : ℕ) (p : Pair) {i : Option ℕ} (h : k < n) (l : p.low ≡ before o k) (q : p.high ≡ quantity o k)
     (e : p.price ≡ price_at o k) (f : i ≡ first_failing t p r.from r.to r.cents 0 r.count) where
   turn : named (k + 1) i (offer_shown t (laminations_from r 0 r.count) o (k + 1) (n - (k + 1))) ≡ offer_shown t (laminations_from r 0 r.count) o k (n - k)
   unfolding offer_shown
   turn =
       rw (one_less n k h, ← l, ← q, ← e)
-      (ap (λ (j : ℕ). named (k + 1) j (offer_shown t (laminations_from r 0 r.count) o (k + 1) (n - (k + 1)))) f
+      (ap (λ (j : Option ℕ). named (k + 1) j (offer_shown t (laminations_from r 0 r.count) o (k + 1) (n - (k + 1)))) f
       ∙ sym (laminations-first t p r (k + 1) (offer_shown t (laminations_from r 0 r.count) o (k + 1) (n - (k + 1))) 0 r.count))
 
-  pub pair-stop : (i ≡ 0 → ⊥) → Fails (k + 1) i ≡ offer_shown t (laminations_from r 0 r.count) o k (n - k)
-  pair-stop z = rw (ne_eqb i 0 z) at turn
+  pub pair-stop : {j : ℕ} → i ≡ Some j → Fails (k + 1) j ≡ offer_shown t (laminations_from r 0 r.count) o k (n - k)
+  pair-stop z = rw z at turn
 
-  pub pair-next : i ≡ 0 → offer_shown t (laminations_from r 0 r.count) o (k + 1) (n - (k + 1)) ≡ offer_shown t (laminations_from r 0 r.count) o k (n - k)
-  pair-next z = rw (eq-eqb i 0 z) at turn
+  pub pair-next : i ≡ None → offer_shown t (laminations_from r 0 r.count) o (k + 1) (n - (k + 1)) ≡ offer_shown t (laminations_from r 0 r.count) o k (n - k)
+  pair-next z = rw z at turn
 
 pub pair_end : (t : Threshold) (m : List Shown) (o : List ℕ) (n k : ℕ) → n ≤ k → Passes ≡ offer_shown t m o k (n - k)
 unfolding offer_shown
@@ -224,7 +226,7 @@ module _ (t : Threshold) (r : Arrays) (o : List ℕ) (n : ℕ) (h : LastHighest 
   pass-from (suc m) k f =
       let p = pair_at o k in
       let z = lower-passes t (least_of r.cents r.count) (h.at k (omega arith)) e in
-      pass-from m (k + 1) (omega arith) ∙ pair-next t r o n k p 0 (omega arith) refl refl refl
+      pass-from m (k + 1) (omega arith) ∙ pair-next t r o n k p (omega arith) refl refl refl
       (least-passes t p r.from r.to r.cents (least_of r.cents r.count) z r.count refl) refl
 
   pub all_pass : Passes ≡ offer_shown t (laminations_from r 0 r.count) o 0 n

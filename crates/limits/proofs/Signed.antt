@@ -9,7 +9,7 @@ use mir.Facts.{to_z-of_z}
 use borrow.Author.Tests.{le-ltb}
 use Rattle.fields.specs.Numbers.{biased_of}
 
-pub wider : (y : ℤ) → SFits w32 y → SFits w64 y
+wider : (y : ℤ) → SFits w32 y → SFits w64 y
 wider (pos n) f = record { sfits = omega (arith, f.sfits) }
 wider (negsuc n) f = record { sfits = omega (arith, f.sfits) }
 
@@ -29,9 +29,6 @@ module _ (y : ℤ) (f : SFits w32 y) where
 
   held_fits : SFits w64 (pos (biased_of y))
   held_fits = record { sfits = omega (arith, biased_of-lt y f) }
-
-  pub sum_fits : SFits w64 (to_z w64 (of_z w64 (to_z w32 (of_z w32 y))) +ℤ to_z w64 2147483648)
-  sum_fits = rw sum_is held_fits
 
   pub held : to_z w64 (of_z w64 (to_z w64 (of_z w64 (to_z w32 (of_z w32 y))) +ℤ to_z w64 2147483648)) ≡ pos (biased_of y)
   held = rw sum_is (to_z-of_z held_fits)

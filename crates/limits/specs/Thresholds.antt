@@ -1,6 +1,6 @@
 -- The test in the shapes that code takes: over levels without their formulas, which it never looks at, and by the places of arrays. The
 -- laws of proofs/Laminations.antt tie each shape to its definition.
-use Rattle.std.specs.Prelude.{Bool, cond, ◌&&◌, List, [], ◌∷◌, ℕ, zero, suc, ◌+◌, ◌-◌, ◌≤◌, ◌<◌, min, eqb, get_or}
+use Rattle.std.specs.Prelude.{Bool, cond, ◌&&◌, List, [], ◌∷◌, ℕ, zero, suc, ◌+◌, ◌-◌, ◌≤◌, ◌<◌, min, eqb, get_or, Option, Some, None}
 use Rattle.station.specs.Parameters.{Parameters, percent, margin, floor}
 use Rattle.rules.specs.Fit.{energy}
 use Rattle.limits.specs.declared.Threshold.{Threshold}
@@ -41,11 +41,11 @@ single_shown t price x = cond (fails_at t price x) (Fails 0 0) Passes
 unfoldable pub fails_in : Threshold → Pair → ℕ → ℕ → ℕ → Bool
 fails_in t pair from to x = overlap pair.low pair.high from to && fails_at t pair.price x
 
--- the first of n laminations from place i on that a pair fails in, counted from 1; 0 where it fails in none
-unfoldable pub first_failing : Threshold → Pair → List ℕ → List ℕ → List ℕ → ℕ → ℕ → ℕ
-first_failing t pair from to cents i zero = 0
+-- the first of n laminations from place i on that a pair fails in, counted from 1; none where it fails in none
+unfoldable pub first_failing : Threshold → Pair → List ℕ → List ℕ → List ℕ → ℕ → ℕ → Option ℕ
+first_failing t pair from to cents i zero = None
 first_failing t pair from to cents i (suc n) =
-    cond (fails_in t pair (get_or from i 0) (get_or to i 0) (get_or cents i 0)) (suc i) (first_failing t pair from to cents (suc i) n)
+    cond (fails_in t pair (get_or from i 0) (get_or to i 0) (get_or cents i 0)) (Some (suc i)) (first_failing t pair from to cents (suc i) n)
 
 -- the least of the first n levels; of none, the largest number of 64 bits
 unfoldable pub least_of : List ℕ → ℕ → ℕ

@@ -2,7 +2,7 @@
 // takes are in specs/, their laws in proofs/.
 #![tactic(auto)]
 
-ghost use Rattle.std.specs.Prelude.{◌≡◌, ◌+◌, ◌*◌, ◌<◌, ◌≤◌, ◌/◌, min, length};
+ghost use Rattle.std.specs.Prelude.{◌≡◌, ◌+◌, ◌*◌, ◌<◌, ◌≤◌, ◌/◌, length};
 ghost use Rattle.fields.specs.Numbers.{number, biased_of};
 ghost use Rattle.arrays.specs.Packed.{laminations_from, in_arrays};
 ghost use Rattle.verdicts.specs.Test.{limit as limit_of, overlap, quantity, price_at};
@@ -46,10 +46,10 @@ fn limit(level: u64, percent: u16, margin: u32) -> u64
 {
     let by_percent = level + level * (percent as u64) / 100;
     let by_margin = level + (margin as u64);
-    if (margin == NO_MARGIN) | (by_percent < by_margin) {
+    if margin == NO_MARGIN {
         by_percent
     } else {
-        by_margin
+        by_percent.min(by_margin)
     }
 }
 
@@ -122,29 +122,19 @@ fn fails_in(from: u64, to: u64, level: u64, t: Threshold, pair: Pair) -> bool
     }
 }
 
-// The lesser of two numbers.
-fn lesser(a: u64, b: u64) -> u64
-    ensures { result ≡ min a b }
-{
-    if a < b { a } else { b }
-}
-
 // The least level of the laminations.
 fn least_level(cents: &[u64; 20], count: usize) -> u64
     requires { count ≤ 20 }
     ensures { result ≡ least_of cents.now count }
 {
-    let mut least: u64 = 18446744073709551615;
-    let mut i = 0;
-    while i < count {
-        least = lesser(least, cents[i]);
-        i += 1;
+    let mut least = u64::MAX;
+    for i in 0..count {
+        least = least.min(cents[i]);
     }
     least
 }
 
-// The first lamination that a pair fails in, counted from 1; 0 where it fails in none. A price that passes at the least level
-// passes in every lamination, and most do.
+// The first lamination that a pair fails in, counted from 1. A price that passes at the least level passes in every lamination, and most do.
 fn failing_lamination<'a>(
     from: &'a [u64; 20],
     to: &'a [u64; 20],
@@ -153,21 +143,19 @@ fn failing_lamination<'a>(
     least: u64,
     t: Threshold,
     pair: Pair,
-) -> usize
+) -> Option<usize>
     requires { (count ≤ 20) × (least ≡ least_of cents.now count) × (pair.price < 4294967296) }
     ensures { result ≡ first_failing t pair from.now to.now cents.now 0 count }
 {
     if !fails(least, t, pair.price) {
-        return 0;
+        return None;
     }
-    let mut i = 0;
-    while i < count {
+    for i in 0..count {
         if fails_in(from[i], to[i], cents[i], t, pair) {
-            return i + 1;
+            return Some(i + 1);
         }
-        i += 1;
     }
-    0
+    None
 }
 
 // The test of an energy offer: each pair in turn, against laminations in lent arrays.
@@ -185,21 +173,18 @@ fn offer_test<'a>(
 {
     let least = least_level(cents, count);
     let pairs = offer.len() / 6;
-    let mut low: u64 = 0;
-    let mut k = 0;
-    while k < pairs {
+    let mut low = 0;
+    for k in 0..pairs {
         let high = quantity_at(offer, k);
         let price = price_at(offer, k);
         let pair = Pair { low, high, price };
-        let i = failing_lamination(from, to, cents, count, least, t, pair);
-        if i != 0 {
+        if let Some(lamination) = failing_lamination(from, to, cents, count, least, t, pair) {
             return Verdict::Fails {
                 pair: k + 1,
-                lamination: i,
+                lamination,
             };
         }
         low = high;
-        k += 1;
     }
     Verdict::Passes
 }

@@ -4,14 +4,12 @@ use mathlib.Core.List.{List}
 use Prim.Native.Nat.{ℕ, ◌<◌, ◌≤◌}
 use borrow.Author.Tests.{lt-ltb, le-ltb}
 use lib.ListN.{length}
-use Rattle.records.specs.declared.Answer.TheVariants.{Accepted, Refused as Turned}
-use Rattle.records.specs.Answers.{refuse_if, is_accepted}
+use Rattle.records.specs.Answers.{Accepted, refuse_if, is_accepted, Refused}
 use Rattle.text.proofs.Over.{Wrote}
-use Rattle.layout.specs.declared.Written.{Written}
-use Rattle.layout.specs.declared.Written.TheVariants.{Bytes, Refused}
+use Rattle.layout.specs.Written.{Written, Bytes}
 use Rattle.layout.specs.Report.{short_for, buffer_with, written}
 
-too_short : (text : List ℕ) (n : ℕ) → n < length text → short_for text n ≡ Turned 15 0
+too_short : (text : List ℕ) (n : ℕ) → n < length text → short_for text n ≡ Refused 15 0
 unfolding short_for refuse_if
 too_short text n h = rw (lt-ltb n (length text) h)
 

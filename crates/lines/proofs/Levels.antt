@@ -16,7 +16,7 @@ use Rattle.formulas.specs.Levels.{Shown, shown_as}
 use Rattle.arrays.specs.Packed.{Arrays, arrays_of, lamination_at, laminations_from, single_of, unpacked}
 use Rattle.lines.specs.Parts.{packed_report, lamination_lines, held_line, other_lines}
 use Rattle.layout.specs.Report.{profile_line, energy_line, amount_line, level_line, level_lines, retired_line, report_text, longest_report}
-use Rattle.layout.proofs.Lines.{number-length, lines-append, lines-within}
+use Rattle.layout.proofs.Lines.{number-length, energy-length, amount-length, tenths-within, hundredths-within, lines-append, lines-within}
 
 -- one lamination more, at the end
 laminations-more : (r : Arrays) (j n : ℕ) → laminations_from r j (suc n) ≡ laminations_from r j n ++ (lamination_at r (j + n) ∷ [])
@@ -126,3 +126,18 @@ report-within r k h =
       number-length retired_word k,
       decimal-within k,
     )
+
+-- how long the lines are, and that each fits, for `grind`
+pub ruleset lengths = (
+  length-append,
+  number-length,
+  energy-length,
+  amount-length,
+  decimal-within,
+  tenths-within,
+  hundredths-within,
+  others-length,
+  others-within,
+  report-length,
+  report-within,
+)

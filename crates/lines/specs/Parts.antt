@@ -3,7 +3,7 @@ use Rattle.std.specs.Prelude.{Bool, cond, List, [], ◌++◌, ℕ, length}
 use Rattle.rules.specs.Fit.{start, no_load, reserve}
 use Rattle.arrays.specs.declared.HourLevels.{HourLevels}
 use Rattle.arrays.specs.Packed.{Arrays, laminations_from, single_of, unpacked}
-use Rattle.layout.specs.declared.Written.{Written}
+use Rattle.layout.specs.Written.{Written}
 use Rattle.layout.specs.Report.{amount_line, level_lines, report_text, short_for, buffer_with, written}
 
 -- the whole, with so many payments retired

@@ -1,5 +1,5 @@
 // The report of levels in hand, line by line in a lent buffer. The definitions are in specs/, their laws in proofs/.
-#![tactic(auto)]
+#![tactic(auto, using(crate::proofs::Levels::lengths))]
 
 ghost use Rattle.std.specs.Prelude.{◌≡◌, ◌++◌, ◌≤◌, length};
 ghost use Rattle.text.specs.Text.{over, tenths, space};
@@ -10,6 +10,7 @@ ghost use Rattle.lines.specs.Parts.{packed_report, lamination_lines, held_line, 
 
 use arrays::SingleLevels;
 use layout::Written;
+use records::Refusal;
 use rules::level_held;
 
 // A line with a word and a whole number; the line end is one byte.
@@ -81,10 +82,8 @@ fn laminations_len<'a>(
     ensures { result ≡ length (lamination_lines (in_arrays from.now to.now cents.now count) count) }
 {
     let mut len = 0;
-    let mut i = 0;
-    while i < count {
+    for i in 0..count {
         len += energy_line_len((i + 1) as u64, from[i], to[i], cents[i]);
-        i += 1;
     }
     len
 }
@@ -102,10 +101,8 @@ fn put_laminations<'a>(
         buf.old) }
 {
     let mut at = 0;
-    let mut i = 0;
-    while i < count {
+    for i in 0..count {
         at += put_energy_line(&mut buf[at..], (i + 1) as u64, from[i], to[i], cents[i]);
-        i += 1;
     }
     at
 }
@@ -193,10 +190,10 @@ pub fn put_report<'a>(
 {
     if buf.len() < layout::LONGEST {
         if buf.len() < report_len(lv, retired, from, to, cents) {
-            return Written::Refused {
+            return Err(Refusal {
                 number: 15,
                 place: 0,
-            };
+            });
         }
     }
     let a = put_number_line(buf, b"profile ", lv.profile as u64);
@@ -209,5 +206,5 @@ pub fn put_report<'a>(
             lv.noload,
             lv.reserve,
         );
-    Written::Bytes(c + put_number_line(&mut buf[c..], b"retired ", retired))
+    Ok(c + put_number_line(&mut buf[c..], b"retired ", retired))
 }

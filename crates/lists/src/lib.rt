@@ -4,7 +4,7 @@
 
 ghost use Rattle.std.specs.Prelude.{◌≡◌, cond};
 
-// One of two numbers, without a branch.
+// One of two numbers. A function of its own: what an `if` chose is lost to a proof where its two ways join.
 pub fn choose(b: bool, x: usize, y: usize) -> usize
     ensures { result ≡ cond b x y }
 {

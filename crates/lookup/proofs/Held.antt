@@ -1,6 +1,6 @@
 -- The records that the index at hand is of: all that the layers above know of them.
 use mathlib.Core.Path.{◌≡◌, refl, ap, ap₂, sym, subst, ◌∙◌}
-use mathlib.Core.Bool.{Bool, true, false, cond, ◌&&◌, not, false≢true}
+use mathlib.Core.Bool.{Bool, true, false, cond, ◌&&◌, not, false≢true, true≢false}
 use mathlib.Core.List.{List, []}
 use Prim.Native.Nat.{ℕ, ◌≤◌, ◌<◌, ◌+◌}
 use native.Mathlib.Omega.{arith}
@@ -136,8 +136,13 @@ module _ {d ix : List ℕ} (h : Indexed d ix) where
     part-is i fit u p q = part_held i fit (or-false-left (datable k) (eqb k AO) u) p q ∙ held-always u
 
     -- and it lies in the dossier
-    pub record-in : InKey k n → slot k n < length ix → datable k ≡ false → {j len : ℕ} → j ≡ slot k n → len ≡ size k → RecordIn d (get_or ix j 0) len
+    record-in : InKey k n → slot k n < length ix → datable k ≡ false → {j len : ℕ} → j ≡ slot k n → len ≡ size k → RecordIn d (get_or ix j 0) len
     record-in i fit u p q = index-inside h.index some_good k n i fit u p q
+
+    -- which is what `held_at` asks of a record
+    pub asks-record : InKey k n → slot k n < length ix → datable k ≡ false → {j len : ℕ} → j ≡ slot k n → len ≡ size k
+        → (j < length ix) × (◌≡◌ {A = Bool} false false → RecordIn d (get_or ix j 0) len) × (◌≡◌ {A = Bool} false true → BodyIn d (get_or ix j 0) len)
+    asks-record i fit u p q = (rw p fit, (λ _. record-in i fit u p q), λ e. absurd (false≢true e))
 
     module _ (b : early k ≡ true) (i : InKey k n) where
       pub slot-fits : {j : ℕ} → j ≡ slot k n → j < length ix
@@ -146,11 +151,14 @@ module _ {d ix : List ℕ} (h : Indexed d ix) where
       pub part-found : varies k ≡ false → {j len : ℕ} → j ≡ slot k n → len ≡ size k → part_at d ix j len ≡ current k n (records d)
       part-found = part-is i (slot-fits refl)
 
-      pub record-inside : datable k ≡ false → {j len : ℕ} → j ≡ slot k n → len ≡ size k → RecordIn d (get_or ix j 0) len
-      record-inside = record-in i (slot-fits refl)
+      pub asks-found : datable k ≡ false → {j len : ℕ} → j ≡ slot k n → len ≡ size k
+          → (j < length ix) × (◌≡◌ {A = Bool} false false → RecordIn d (get_or ix j 0) len) × (◌≡◌ {A = Bool} false true → BodyIn d (get_or ix j 0) len)
+      asks-found = asks-record i (slot-fits refl)
 
-      pub body-inside : {j len : ℕ} → j ≡ slot k n → len ≡ size k → BodyIn d (get_or ix j 0) len
-      body-inside p q = index-body-inside h.index some_good k n i (slot-fits refl) p q
+      -- and of the fields of one that may have a first hour
+      pub asks-body : {j len : ℕ} → j ≡ slot k n → len ≡ size k
+          → (j < length ix) × (◌≡◌ {A = Bool} true false → RecordIn d (get_or ix j 0) len) × (◌≡◌ {A = Bool} true true → BodyIn d (get_or ix j 0) len)
+      asks-body p q = (slot-fits p, (λ e. absurd (true≢false e)), λ _. index-body-inside h.index some_good k n i (slot-fits refl) p q)
 
       pub body-found : {j len : ℕ} → j ≡ slot k n → len ≡ size k → body_at d ix j len ≡ body (current k n (held d ix))
       body-found p q = index-body h.index some_good k n i (slot-fits refl) p q ∙ ap body (sym current-some)

@@ -1,22 +1,20 @@
 -- From the index to the lookup.
-use mathlib.Core.Path.{◌≡◌, refl, ap, sym, ◌∙◌}
+use mathlib.Core.Path.{◌≡◌, refl, ap, ◌∙◌}
 use mathlib.Core.Bool.{Bool, true, false, cond, ◌&&◌}
 use mathlib.Core.List.{List, [], ◌∷◌}
-use Prim.Native.Nat.{ℕ, ◌+◌, ◌*◌, ◌≤◌, ◌<◌}
+use Prim.Native.Nat.{ℕ, ◌+◌, ◌≤◌, ◌<◌}
 use native.Mathlib.Nat.{le_trans}
 use native.Mathlib.Omega.{arith}
 use lib.Dec.{eqb, leb}
 use lib.ListN.{length}
 use borrow.Author.Tests.{eq-eqb, ne_eqb, leb-true}
+use Rattle.std.specs.Prelude.{Ok, Err}
 use Rattle.lists.specs.Tests.{every_of}
 use Rattle.lists.proofs.Tests.{every_of-at}
 use Rattle.fields.specs.Numbers.{number}
-use Rattle.fields.proofs.Numbers.{number-join}
 use Rattle.records.specs.Table.{Row, table, no_row, row_of, kinds}
-use Rattle.records.specs.declared.Answer.{Answer}
-use Rattle.records.specs.declared.Answer.TheVariants.{Accepted, Refused}
 use Rattle.records.specs.Record.{mark, kind_of, key_in, key_width}
-use Rattle.records.specs.Answers.{is_accepted}
+use Rattle.records.specs.Answers.{Accepted, Answer, is_accepted, Refused}
 use Rattle.records.specs.Dossier.{records}
 use Rattle.station.specs.Current.{longest, current, readable, lookup, lookup_bytes}
 use Rattle.station.proofs.Current.{too_long}
@@ -25,18 +23,6 @@ use Rattle.lookup.specs.declared.Part.{Part}
 use Rattle.lookup.specs.Parts.{part, part_bytes, current_part, lookup_part, index_of}
 use Rattle.lookup.proofs.Parts.{slots-most, current-bytes, current-ends}
 use Rattle.lookup.proofs.Opening.{accepted-indexed}
-
--- ---- a key's bytes as a number
-
-pub number-0 : (l : List ℕ) → length l ≡ 0 → 0 ≡ number 0 (length l) l
-unfolding number
-number-0 l e = rw e refl
-
-pub number_at : (l : List ℕ) (w : ℕ) {b : ℕ} → length l ≡ w → b ≡ number 0 w l → b ≡ number 0 (length l) l
-number_at l w e h = rw e h
-
-pub number-3 : (l : List ℕ) {b c : ℕ} → length l ≡ 3 → b ≡ number 0 2 l → c ≡ number 2 1 l → b * 256 + c ≡ number 0 (length l) l
-number-3 l e h g = rw (e, h, g) (sym (number-join 0 2 1 l))
 
 -- no key is wider than four bytes
 pub width-le : (k : ℕ) → key_width k ≤ 4
@@ -52,8 +38,8 @@ module _ (d : List ℕ) (k n : ℕ) (b : k < kinds) where
   by_answer P p q = go (readable d) refl
     where
       go : (a : Answer) → a ≡ readable d → P (cond (is_accepted a) (current_part k n (records d)) (part 0 0)) (cond (is_accepted a) (current k n (records d)) [])
-      go Accepted e = unfold is_accepted in p e
-      go (Refused m p) e = unfold is_accepted in q
+      go (Ok x) e = unfold is_accepted in p e
+      go (Err r) e = unfold is_accepted in q
 
   -- its bytes are the part that the lookup hands back
   pub lookup-bytes : part_bytes d (lookup_part d k n) ≡ lookup d k n

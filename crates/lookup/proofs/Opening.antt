@@ -1,5 +1,5 @@
 -- From the pass to the answer.
-use mathlib.Core.Path.{◌≡◌, refl, ap, ap₂, sym, ◌∙◌}
+use mathlib.Core.Path.{◌≡◌, refl, ap, sym, ◌∙◌}
 use mathlib.Core.Bool.{Bool, true, false}
 use mathlib.Core.List.{List, [], ◌∷◌}
 use Prim.Native.Nat.{ℕ, ◌+◌, ◌≤◌, ◌<◌}
@@ -7,21 +7,20 @@ use native.Mathlib.Omega.{arith}
 use lib.Dec.{ltb}
 use lib.ListN.{length, replicate, length-replicate}
 use borrow.Author.Tests.{lt-ltb, le-ltb, ltb-true, ltb-false}
+use Rattle.std.specs.Prelude.{Ok, Err}
 use Rattle.lists.specs.Lists.{Each, done, also}
 use Rattle.lists.proofs.Lists.{each_map}
 use Rattle.lists.proofs.Tests.{split, or-false-left, or-false-right}
 use Rattle.records.specs.Record.{mark, is_dated}
-use Rattle.records.specs.declared.Answer.{Answer}
-use Rattle.records.specs.declared.Answer.TheVariants.{Accepted, Refused}
-use Rattle.records.specs.Answers.{or_else, refuse_if}
+use Rattle.records.specs.Answers.{Accepted, Answer, or_else, refuse_if, Refused, refusal_of}
 use Rattle.records.specs.Dossier.{records, scan}
 use Rattle.records.specs.Walk.{folded, walk}
 use Rattle.records.proofs.Answers.{or_else-parts, not-refuse_if}
 use Rattle.records.proofs.Walk.{walk-is-fold, outcome}
 use Rattle.station.specs.Current.{readable, twins}
 use Rattle.station.proofs.Current.{too_long}
-use Rattle.index.specs.declared.Passed.{Passed}
-use Rattle.index.specs.declared.Passed.TheVariants.{Ended, Stopped}
+use Rattle.index.specs.declared.Summary.{Summary}
+use Rattle.index.specs.Passed.{Passed, Ended, Stopped}
 use Rattle.index.specs.Slots.{short, wide, Kept, kept, fresh, keep_step, pass_of, slots_of}
 use Rattle.index.proofs.Holds.{rising-twins, top-slots, folded-length}
 use Rattle.lookup.specs.Parts.{scanned, index_of, Whole, Complete, UpTo}
@@ -50,9 +49,6 @@ none-dated d p x (r ∷ l) e =
     also (or-false-right x.dated (is_dated (mark r)) (still-none d (p + length r) (keep_step d x p r) l e))
     (none-dated d (p + length r) (keep_step d x p r) l e)
 
-pub not-ended : {n p : ℕ} {b : Bool} {m : ℕ} {f : Bool} → Stopped n p ≡ Ended b m f → ⊥
-not-ended e = let z : ◌≡◌ {A = ℕ} 0 1 = ap (λ x. elim x [ Ended a b c ↦ 1 | Stopped i j ↦ 0 ]) e in omega arith
-
 module _ (d : List ℕ) (w : ℕ) where
   pub scan-long : 60000 < length d → Stopped 13 0 ≡ scanned w d
   unfolding scanned
@@ -80,27 +76,20 @@ module _ (d : List ℕ) (w : ℕ) where
   pass-ended {b} {c} {f} e = go (scan 0 (records d)) refl
     where
       go : (a : Answer) → scan 0 (records d) ≡ a → (scan 0 (records d) ≡ Accepted) × (b ≡ fold.rising) × (c ≡ fold.top) × (f ≡ fold.dated)
-      go Accepted s =
-          let z = e ∙ ap pass_of (way Accepted s) in (
-            s,
-            ap (λ x. elim x [ Ended u v w ↦ u | Stopped i j ↦ b ]) z,
-            ap (λ x. elim x [ Ended u v w ↦ v | Stopped i j ↦ c ]) z,
-            ap (λ x. elim x [ Ended u v w ↦ w | Stopped i j ↦ f ]) z,
-          )
-      go (Refused m q) s =
-          absurd (let z : ◌≡◌ {A = ℕ} 1 0 = ap (λ x. elim x [ Ended u v w ↦ 1 | Stopped i j ↦ 0 ]) (e ∙ ap pass_of (way (Refused m q) s)) in omega arith)
+      go (Ok x) s =
+          let z : Ended b c f ≡ Ended fold.rising fold.top fold.dated = e ∙ ap pass_of (way Accepted s) in
+          let y : ◌≡◌ {A = Summary} (record { rising = b; top = c; dated = f }) (record { rising = fold.rising; top = fold.top; dated = fold.dated }) = cc in
+          (s, ap (λ (x : Summary). x.rising) y, ap (λ (x : Summary). x.top) y, ap (λ (x : Summary). x.dated) y)
+      go (Err r) s = absurd (let z : Ended b c f ≡ Err r = e ∙ ap pass_of (way (Err r) s) in cc)
 
   -- the pass stopped: at what is drawn first
   pass-stopped : (n p : ℕ) → length d ≤ 60000 → Stopped n p ≡ pass_of (walk (keep_step d) (fresh w) d) → Refused n p ≡ readable d
-  unfolding pass_of outcome or_else
+  unfolding pass_of outcome or_else refusal_of
   pass-stopped n p h e = go (scan 0 (records d)) refl
     where
       go : (a : Answer) → scan 0 (records d) ≡ a → Refused n p ≡ readable d
-      go Accepted s = absurd (let z : ◌≡◌ {A = ℕ} 0 1 = ap (λ x. elim x [ Ended u v w ↦ 1 | Stopped i j ↦ 0 ]) (e ∙ ap pass_of (way Accepted s)) in omega arith)
-      go (Refused m q) s =
-          let z : Stopped n p ≡ Stopped m q = e ∙ ap pass_of (way (Refused m q) s) in
-          ap₂ (λ (x y : ℕ). Refused x y) (ap (λ x. elim x [ Ended u v w ↦ n | Stopped i j ↦ i ]) z) (ap (λ x. elim x [ Ended u v w ↦ p | Stopped i j ↦ j ]) z)
-          ∙ sym (after d h ∙ rw s refl)
+      go (Ok x) s = absurd (let z : Stopped n p ≡ Ended fold.rising fold.top fold.dated = e ∙ ap pass_of (way Accepted s) in cc)
+      go (Err r) s = ap refusal_of (e ∙ ap pass_of (way (Err r) s)) ∙ sym (after d h ∙ rw s refl)
 
   -- the index that the pass leaves, where nothing is drawn
   pub pass-filled : {ix x : List ℕ} → ix ≡ replicate w 0 → short ≤ w → length d ≤ 60000 → scan 0 (records d) ≡ Accepted
@@ -124,12 +113,12 @@ module _ (d : List ℕ) (w : ℕ) where
   -- ---- from the scan to the answer
 
   pub scan-stopped : {n p : ℕ} → Stopped n p ≡ scanned w d → Refused n p ≡ readable d
-  unfolding scanned
+  unfolding scanned refusal_of
   scan-stopped {n} {p} e =
       split (ltb 60000 (length d))
       (λ t.
       let z : Stopped n p ≡ Stopped 13 0 = e ∙ rw t refl in
-      ap₂ (λ (x y : ℕ). Refused x y) (ap (λ x. elim x [ Ended u v w ↦ n | Stopped i j ↦ i ]) z) (ap (λ x. elim x [ Ended u v w ↦ p | Stopped i j ↦ j ]) z)
+      ap refusal_of z
       ∙ too_long d (ltb-true 60000 (length d) t))
       (λ f. pass-stopped n p (ltb-false 60000 (length d) f) (e ∙ rw f refl))
 

@@ -8,15 +8,15 @@ use native.Mathlib.Omega.{arith}
 use lib.Dec.{ltb, eqb, lit≤}
 use lib.ListN.{length, get_or, take, drop, length-take, length-drop}
 use lib.Seq.{get_or-take, get_or-drop, drop-drop, drop_at, take-add}
-use borrow.Author.Tests.{ne_eqb, lt-ltb, le-ltb, eqb-true, eqb-false, ltb-false}
+use borrow.Author.Tests.{ne_eqb, lt-ltb, le-ltb, eqb-true}
 use Rattle.lists.specs.Lists.{Each, done, also}
 use Rattle.lists.proofs.Lists.{each_map, member-each}
 use Rattle.lists.specs.Tests.{all_below}
-use Rattle.lists.proofs.Tests.{split, or-false-right, below_at}
-use Rattle.records.specs.Table.{table, row_of, CH, FP, LC, AO, kinds, HP, FU, AD, MM, RQ, HR, TH}
+use Rattle.lists.proofs.Tests.{split, below_at}
+use Rattle.records.specs.Table.{table, row_of, CH, FP, LC, kinds}
 use Rattle.records.specs.Record.{mark, is_dated, kind, datable, size, key_of, key_in, key_width}
 use Rattle.records.specs.MarkShapes.{shape, shape_of, key_test, body}
-use Rattle.records.specs.declared.Answer.TheVariants.{Accepted}
+use Rattle.records.specs.Answers.{Accepted}
 use Rattle.records.specs.Dossier.{first_of, records, scan}
 use Rattle.station.specs.Current.{matches, better, current_from, current, start_from, start_of}
 use Rattle.station.specs.Declared.{CurrentOf, absent as gone, standing}
@@ -26,7 +26,7 @@ use Rattle.index.specs.Holding.{held_record, IndexOf}
 use Rattle.index.proofs.Holding.{index-of}
 use Rattle.records.proofs.Record.{size-ge, mark-take}
 use Rattle.records.proofs.Dated.{other-mark, plain-mark, none-kind, body-dated, body-plain, body-nil, body-length}
-use Rattle.records.proofs.EveryMark.{by_kind, dated-letter}
+use Rattle.records.proofs.EveryMark.{dated-letter}
 use Rattle.index.proofs.KeyBounds.{Spans, InKey, at-kind, in-key, key-test, test-key}
 use Rattle.index.proofs.Slots.{slot_lt, early, slot-short, slot-narrow, in-empty}
 use Rattle.index.proofs.Holds.{Holds, absent, there, Good, good-records, index-holds}
@@ -65,20 +65,7 @@ pub cut : (d : List ℕ) (p : Part) → take (p.start + p.length - p.start) (dro
 unfolding part_bytes
 cut d p = ap (λ (n : ℕ). take n (drop p.start d)) (add-sub_cancel_left p.start p.length)
 
-pub place-ends : (e : ℕ) (ix : List ℕ) (j n : ℕ) {p : Part} → p ≡ place_at e ix j n → p.start + p.length ≤ e
-unfolding place_at
-place-ends e ix j n q = rw q (go (eqb (get_or ix j 0) 0 || ltb e (get_or ix j 0 - 1 + n)) refl)
-  where
-    go : (b : Bool) → eqb (get_or ix j 0) 0 || ltb e (get_or ix j 0 - 1 + n) ≡ b
-        → (cond b (part 0 0) (part (get_or ix j 0 - 1) n)).start + (cond b (part 0 0) (part (get_or ix j 0 - 1) n)).length ≤ e
-    go true x = omega arith
-    go false x = ltb-false e (get_or ix j 0 - 1 + n) (or-false-right (eqb (get_or ix j 0) 0) (ltb e (get_or ix j 0 - 1 + n)) x)
-
 -- ---- what a slot holds
-
-pub first-most : (b : Bool) → cond b 4 0 ≤ 4
-first-most true = omega arith
-first-most false = omega arith
 
 -- none, or the bytes from place s on
 module _ (d : List ℕ) (v n : ℕ) where
@@ -362,22 +349,3 @@ key-small k n p =
     at-kind (λ j. InKey j n → n < 256 ^ key_width j) k n p (λ q. omega (arith, q.spans)) (λ q. omega (arith, q.spans)) (λ q. omega (arith, q.spans))
     (λ q. omega (arith, q.spans)) (λ q. omega (arith, q.spans)) (λ q. omega (arith, q.spans)) (λ q. omega (arith, q.spans)) (λ q. omega (arith, q.spans))
     (λ q. omega (arith, q.spans)) (λ q. omega (arith, q.spans)) (λ q. omega (arith, q.spans)) (λ q. omega (arith, q.spans)) p
-
--- by a kind's name and how many bytes its keys have
-pub at_width : (j w : ℕ) {k n : ℕ} → key_width j ≡ w → k ≡ j → n < 256 ^ key_width k → n < 256 ^ w
-at_width j w e f h = rw (f, e) at h
-
--- ---- the slot by kind
-
-pub slot-kind : {k j n m r : ℕ} → r ≡ slot k m → m ≡ n → j ≡ k → r ≡ slot j n
-slot-kind e f g = e ∙ ap₂ slot (sym g) f
-
-pub slot-none : (k n : ℕ) → k < kinds → (k ≡ HP → ⊥) → (k ≡ FU → ⊥) → (k ≡ AD → ⊥) → (k ≡ MM → ⊥) → (k ≡ RQ → ⊥) → (k ≡ HR → ⊥) → (k ≡ CH → ⊥) → (k ≡ TH → ⊥)
-    → (k ≡ FP → ⊥) → (k ≡ LC → ⊥) → (k ≡ AO → ⊥) → 0 ≡ slot k n
-unfolding slot
-slot-none k n l a b c d e f g h i j o =
-    split (eqb k 0)
-    (λ z. rw (eqb-true k 0 z) refl)
-    (λ z. by_kind (λ m. k ≡ m → 0 ≡ slot m n) (λ w. refl) (λ w. absurd (a w)) (λ w. absurd (b w)) (λ w. absurd (c w)) (λ w. absurd (d w)) (λ w. absurd (e w))
-    (λ w. absurd (f w)) (λ w. absurd (g w)) (λ w. absurd (h w)) (λ w. absurd (i w)) (λ w. absurd (j w)) (λ w. absurd (o w)) k
-    (eqb-false k 0 z) l refl)

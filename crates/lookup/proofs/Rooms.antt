@@ -1,19 +1,25 @@
 -- How long an index a dossier is read with, and whether a short one has a slot for every record.
 use mathlib.Core.Path.{◌≡◌, refl, ap, sym, subst, ◌∙◌}
-use mathlib.Core.Bool.{Bool, true, false, cond, ◌&&◌, ◌||◌, not, true≢false}
+use mathlib.Core.Bool.{Bool, true, false, ◌&&◌, ◌||◌, not, true≢false}
 use mathlib.Core.List.{List, [], ◌∷◌}
 use Prim.Native.Nat.{ℕ, ◌+◌, ◌-◌, ◌≤◌, ◌<◌}
 use native.Mathlib.Omega.{arith}
-use lib.Dec.{eqb, ltb, leb, lit≤}
-use borrow.Author.Tests.{eqb-true, eqb-false, ltb-true, leb-true, leb-false}
+use lib.Dec.{eqb, ltb, lit≤}
+use borrow.Author.Tests.{eqb-true, eqb-false, ltb-true}
 use lib.ListN.{length, take, drop, length-drop, drop_of_length-le}
 use lib.Seq.{drop-drop}
+use Rattle.std.specs.Prelude.{Result, Err}
+use Rattle.records.specs.declared.Refusal.{Refusal}
+use Rattle.records.specs.Answers.{Accepted, Refused, refuse_if, refusal_of}
 use Rattle.lists.specs.Lists.{Each, done, also}
 use Rattle.lists.specs.Tests.{among, every_of}
 use Rattle.lists.proofs.Lists.{each_map}
 use Rattle.lists.proofs.Tests.{split, and_left, and_right}
 use Rattle.records.specs.Table.{table, CH, FP, LC, marks}
 use Rattle.records.specs.Record.{mark, datable, size}
+use Rattle.records.specs.Marks.{row}
+use Rattle.records.specs.declared.marks.Mark.{Mark}
+use mathlib.Core.Logic.{◌⊎◌, inl, inr}
 use Rattle.records.specs.Dossier.{rest_of, records_in, records}
 use Rattle.records.proofs.Record.{no_size}
 use Rattle.records.proofs.Dated.{other-mark}
@@ -22,22 +28,20 @@ use Rattle.records.proofs.Dossier.{first-mark, records-step}
 use Rattle.station.specs.Current.{longest, matches, current}
 use Rattle.station.proofs.Current.{matches-kind}
 use Rattle.index.proofs.Turn.{tail}
-use Rattle.lookup.specs.declared.Room.{Room}
-use Rattle.lookup.specs.declared.Room.TheVariants.{TooLong}
-use Rattle.lookup.specs.Parts.{is_too_long, fits_short}
+use Rattle.lookup.specs.Parts.{fits_short, too_long}
 use Rattle.lookup.proofs.Parts.{none-current}
 
--- what 13 rests on, of the way in to every call
-pub overlong-room : {r : Room} (d : List ℕ) → is_too_long r ≡ ltb longest (length d) → r ≡ TooLong → longest < length d
-overlong-room d e t = ltb-true longest (length d) (sym e ∙ ap is_too_long t)
+-- what is refused before a dossier is read: one that is too long
+pub overlong-room : {A : Type 0} {w : Result A Refusal} {r : Refusal} (d : List ℕ) → refusal_of w ≡ too_long d → w ≡ Err r
+    → (longest < length d) × (r ≡ record { number = 13; place = 0 })
+unfolding refusal_of refuse_if
+overlong-room {r = r} d e f =
+    let said : Err r ≡ too_long d = rw f at e in
+    split (ltb longest (length d))
+    (λ t. (ltb-true longest (length d) t, let at : Err r ≡ Refused 13 0 = rw t at said in cc))
+    (λ z. absurd (let at : Err r ≡ Accepted = rw z at said in cc))
 
 -- ---- the records by their marks, one after the other
-
--- where a look at the first bytes ends
-pub look-ends : {n e : ℕ} → e ≡ cond (leb n 600) n 600 → (e ≤ n) × (e ≤ 600)
-look-ends {n} {e} q =
-    split (leb n 600) (λ t. (omega (arith, rw t at q), omega (arith, rw t at q, leb-true n 600 t)))
-    (λ f. (omega (arith, rw f at q, leb-false n 600 f), omega (arith, rw f at q)))
 
 -- a mark whose slots come last
 abbrev Late : ℕ → Bool
@@ -106,3 +110,16 @@ short_none d e k n late =
         go : (b : Bool) → not b ≡ true → b ≡ false
         go true e = sym e
         go false e = refl
+
+-- ---- by a mark's name
+
+pub late_is : (m : Mark) → (m ≡ Mark.CH) ⊎ (m ≡ Mark.FP) ⊎ (m ≡ Mark.LC) → Late (row m) ≡ true
+late_is m (inl e) = rw e refl
+late_is m (inr (inl e)) = rw e refl
+late_is m (inr (inr e)) = rw e refl
+
+pub late_not : (m : Mark) → (m ≡ Mark.CH → ⊥) → (m ≡ Mark.FP → ⊥) → (m ≡ Mark.LC → ⊥) → Late (row m) ≡ false
+late_not Mark.CH a b c = absurd (a refl)
+late_not Mark.FP a b c = absurd (b refl)
+late_not Mark.LC a b c = absurd (c refl)
+late_not _ a b c = refl

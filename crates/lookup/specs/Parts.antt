@@ -2,22 +2,18 @@
 use Rattle.std.specs.Prelude.{Bool, true, false, cond, ◌||◌, not, List, [], ◌≡◌, ℕ, ◌+◌, ◌-◌, ◌≤◌, ◌<◌, ltb, eqb, length, get_or, take, drop, replicate}
 use Rattle.lists.specs.Lists.{Each, those}
 use Rattle.lists.specs.Tests.{every_of, same}
-use Rattle.records.specs.declared.Answer.TheVariants.{Accepted}
 use Rattle.records.specs.Table.{CH, FP, LC}
 use Rattle.records.specs.Record.{mark, kind, size, key_of}
-use Rattle.records.specs.Answers.{is_accepted}
+use Rattle.records.specs.Answers.{Answer, Accepted, refuse_if, is_accepted}
 use Rattle.records.specs.Dossier.{records, scan}
 use Rattle.records.specs.Walk.{folded, walk}
 use Rattle.station.specs.Current.{current, start_of, longest, readable}
 use Rattle.station.specs.InForce.{Query, in_force, varies}
 use Rattle.station.specs.Parameters.{Parameters, Amounts, parameters, amounts}
-use Rattle.index.specs.declared.Passed.{Passed}
-use Rattle.index.specs.declared.Passed.TheVariants.{Stopped}
+use Rattle.index.specs.Passed.{Passed, Stopped}
 use Rattle.index.specs.Slots.{slot, short, narrow, wide, fresh, keep_step, pass_of}
 use Rattle.index.specs.Holding.{held_record, IndexOf}
 use Rattle.lookup.specs.declared.Part.{Part}
-use Rattle.lookup.specs.declared.Room.{Room}
-use Rattle.lookup.specs.declared.Room.TheVariants.{TooLong, Short, Narrow, Wide}
 
 -- a part by its start and its length
 abbrev pub part : ℕ → ℕ → Part
@@ -53,12 +49,9 @@ Empty ix = (short ≤ length ix) × (ix ≡ replicate (length ix) 0)
 unfoldable pub fits_short : List ℕ → Bool
 fits_short d = every_of (λ r. not (eqb (mark r) CH || eqb (mark r) FP || eqb (mark r) LC)) (records d)
 
--- no index is needed: all that any call tells of how long an index it begins with
-abbrev pub is_too_long : Room → Bool
-is_too_long TooLong = true
-is_too_long Short = false
-is_too_long Narrow = false
-is_too_long Wide = false
+-- "13 dossier too long", before it is read
+abbrev pub too_long : List ℕ → Answer
+too_long d = refuse_if (ltb longest (length d)) 13 0
 
 -- where the record of a slot of value v stands in a dossier of e bytes, n being its length; nowhere if there is none
 abbrev pub place_in : ℕ → ℕ → ℕ → Part

@@ -2,7 +2,7 @@
 // sums in 64 bits rest. The laws are in proofs/.
 #![tactic(auto)]
 
-ghost use Rattle.std.specs.Prelude.{◌≡◌, cond, ◌≤◌, length, eqb};
+ghost use Rattle.std.specs.Prelude.{◌≡◌, ◌≤◌, length, not, eqb, count_by};
 ghost use Rattle.records.specs.Dossier.{records};
 ghost use Rattle.station.specs.Parameters.{parameters, amounts, technology, capacity, factor, start_heat, no_load_heat, incremental_fuel, charge, efficiency};
 ghost use Rattle.station.specs.Parameters.{window, output, heat, fuel, emission, adder, cost_c, output_w, interval_t, hours_per_start_s, first_hour, last_hour};
@@ -79,11 +79,9 @@ pub fn full_hours(d: &[u8], index: &[u16]) -> u64
     requires { Indexed d.now index.now }
     ensures { result ≡ full_hours (parameters_held d.now index.now) }
 {
-    let at_most = capacity(d, index);
-    if at_most == 0 {
-        return 0;
-    }
-    charge(d, index) / at_most
+    charge(d, index)
+        .checked_div(capacity(d, index))
+        .unwrap_or(0)
 }
 
 pub fn output(d: &[u8], index: &[u16], i: usize) -> u64
@@ -100,25 +98,21 @@ pub fn heat(d: &[u8], index: &[u16], i: usize) -> u64
     fields::u32_at(lookup::hp(d, index, i), 9) as u64
 }
 
-// 1 of a slot that holds a record, 0 of an empty one.
-fn counted(v: u16) -> u16
-    ensures { result ≡ cond (eqb v 0) 0 1 }
+// How many of some slots hold a record, counted in two bytes, so that the compiler does several at a time.
+fn full_slots(slots: &[u16]) -> u16
+    requires { length slots.now ≤ 21 }
+    ensures { result ≡ count_by (λ v. not (eqb v 0)) slots.now }
 {
-    if v == 0 { 0 } else { 1 }
+    slots.iter().map(|&v| (v != 0) as u16).sum()
 }
 
-// How many points there are: the slots of HP that are not empty, counted in two bytes, so that the compiler does several at a time.
+// How many points there are: the slots of HP that are not empty.
 pub fn points_of(d: &[u8], index: &[u16]) -> usize
     requires { Indexed d.now index.now }
     ensures { (result ≡ points (parameters (records d.now))) × (result ≤ 21) }
 {
-    let mut n = 0u16;
-    let mut i = 0;
-    while i < 21 {
-        i += 1;
-        n += counted(index[index::keys::slot_hp(i)]);
-    }
-    n as usize
+    let first = index::keys::slot_hp(1);
+    full_slots(&index[first..first + 21]) as usize
 }
 
 pub fn fuel(d: &[u8], index: &[u16], p: usize) -> u64

@@ -7,7 +7,7 @@ use lib.Dec.{eqb}
 use borrow.Author.Tests.{lt-leb}
 use Rattle.lists.specs.Lists.{Each, done, also, Permutation, those}
 use Rattle.lists.proofs.Lists.{each_map}
-use Rattle.records.specs.declared.Answer.TheVariants.{Accepted}
+use Rattle.records.specs.Answers.{Accepted}
 use Rattle.records.specs.Table.{FU}
 use Rattle.records.specs.Record.{mark, since, issue, key_of}
 use Rattle.records.specs.Dossier.{records}

@@ -4,7 +4,7 @@ use mathlib.Core.Bool.{true, false}
 use mathlib.Core.List.{[], ◌∷◌, ◌++◌, map}
 use Prim.Native.Nat.{◌<◌}
 use Rattle.lists.specs.Lists.{done, also, joined}
-use Rattle.records.specs.declared.Answer.TheVariants.{Accepted, Refused}
+use Rattle.records.specs.Answers.{Accepted, Refused}
 use Rattle.records.specs.Table.{thermal, FV}
 use Rattle.records.specs.Made.{made_from}
 use Rattle.records.proofs.RaiseTest.{rise_test, record_test, records_test, raise_test, raise-by}

@@ -7,15 +7,14 @@ use native.Mathlib.Omega.{arith}
 use lib.Dec.{leb}
 use lib.ListN.{length, get_or}
 use borrow.Author.Tests.{leb-true, leb-false, eq-eqb, lt-ltb}
+use Rattle.std.specs.Prelude.{Ok, Err}
 use Rattle.lists.specs.Lists.{Each}
 use Rattle.lists.specs.Tests.{between}
 use Rattle.lists.proofs.Lists.{each_map, member-each, those-each, those-test, each-those}
 use Rattle.lists.proofs.Tests.{split, and_both}
-use Rattle.records.specs.declared.Answer.{Answer}
-use Rattle.records.specs.declared.Answer.TheVariants.{Accepted, Refused}
 use Rattle.records.specs.Table.{table, row_of, FU}
 use Rattle.records.specs.Record.{mark_in, mark, is_dated, kind_of, kind, since, key_of}
-use Rattle.records.specs.Answers.{or_else, refuse_if, answer_numbers, number_of}
+use Rattle.records.specs.Answers.{Accepted, Answer, or_else, refuse_if, answer_numbers, number_of, Refused}
 use Rattle.records.specs.Dossier.{records}
 use Rattle.station.specs.Current.{matches, current, present}
 use Rattle.station.specs.Declared.{CurrentOf, absent, standing}
@@ -102,8 +101,8 @@ fuel-declared =
 
 accepted-numbers : (a : Answer) → answer_numbers a ≡ 0 ∷ [] → a ≡ Accepted
 unfolding answer_numbers
-accepted-numbers Accepted h = refl
-accepted-numbers (Refused n p) h = absurd (let z : ◌≡◌ {A = ℕ} 2 0 = ap (λ l. get_or l 0 0) h in omega arith)
+accepted-numbers (Ok x) h = refl
+accepted-numbers (Err r) h = absurd (let z : ◌≡◌ {A = ℕ} 2 0 = ap (λ l. get_or l 0 0) h in omega arith)
 
 pub acceptance-declared : AcceptanceDeclared
 acceptance-declared = record { only = accepted-sound; always = sound-accepted; numbers = λ d h. record { clean = accepted-numbers (answer d) h } }

@@ -5,9 +5,8 @@ use mathlib.Core.List.{List, [], ◌∷◌, ◌++◌}
 use Prim.Native.Nat.{ℕ}
 use lib.IntN.{pos, negsuc}
 use Rattle.lists.specs.Lists.{Permutation, empty, keep, swap, then, joined}
-use Rattle.records.specs.declared.Answer.TheVariants.{Accepted, Refused}
 use Rattle.records.specs.Table.{thermal, storage, hydro, LC}
-use Rattle.records.specs.Answers.{number_of}
+use Rattle.records.specs.Answers.{Accepted, number_of, Refused}
 use Rattle.records.specs.Made.{minus, made}
 use Rattle.records.proofs.RaiseTest.{rise_test, record_test, records_test, raise_test, raise-by}
 use Rattle.station.specs.Week.{week_price, week_energy}

@@ -7,10 +7,9 @@ use lib.Dec.{leb, eqb}
 use Rattle.lists.specs.Lists.{Pairwise, none, more, those}
 use Rattle.lists.specs.Tests.{between}
 use Rattle.lists.proofs.Tests.{split, and_right, between-low, between-high, in_between}
-use Rattle.records.specs.declared.Answer.TheVariants.{Refused}
 use Rattle.records.specs.Table.{AO}
 use Rattle.records.specs.Record.{kind, since, told}
-use Rattle.records.specs.Answers.{or_else, refuse_if, is_accepted}
+use Rattle.records.specs.Answers.{or_else, refuse_if, is_accepted, Refused}
 use Rattle.records.specs.Dossier.{records}
 use Rattle.station.specs.InForce.{speaks_to, Query, query, in_force}
 use Rattle.station.specs.Parameters.{parameters, amounts}

@@ -6,7 +6,7 @@ use Prim.Native.Nat.{ℕ}
 use native.Mathlib.Omega.{arith}
 use lib.ListN.{length, get_or}
 use Rattle.lists.specs.Lists.{done, also, Pairwise, joined}
-use Rattle.records.specs.declared.Answer.TheVariants.{Accepted, Refused}
+use Rattle.records.specs.Answers.{Accepted, Refused}
 use Rattle.records.specs.Table.{thermal}
 use Rattle.records.specs.Dossier.{records}
 use Rattle.records.proofs.RaiseTest.{rise_test, record_test, records_test, raise_test, raise-by}

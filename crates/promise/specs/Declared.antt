@@ -1,10 +1,9 @@
 -- The definitions that go step by step, declared: the current record, what counts at some hour, fuel at an hour, and acceptance.
 use Rattle.std.specs.Prelude.{◌≡◌, true, List, [], ◌∷◌, ℕ, ◌≤◌, ◌<◌, length}
 use Rattle.lists.specs.Lists.{Each, Member}
-use Rattle.records.specs.declared.Answer.TheVariants.{Refused}
 use Rattle.records.specs.Table.{FU}
 use Rattle.records.specs.Record.{since}
-use Rattle.records.specs.Answers.{answer_numbers}
+use Rattle.records.specs.Answers.{answer_numbers, Refused}
 use Rattle.records.specs.Dossier.{records}
 use Rattle.station.specs.Current.{matches, current}
 use Rattle.station.specs.Declared.{CurrentOf, Counting}

@@ -1,7 +1,7 @@
 -- Demand 3: one claim about dossiers as bytes, for every technology and formula.
 use Rattle.std.specs.Prelude.{◌≡◌, true, false, List, [], ◌∷◌, ℕ, ℤ, ◌≤ℤ◌}
 use Rattle.lists.specs.Lists.{Pairwise, Each}
-use Rattle.records.specs.declared.Answer.TheVariants.{Accepted, Refused}
+use Rattle.records.specs.Answers.{Accepted, Refused}
 use Rattle.records.specs.Record.{since}
 use Rattle.records.specs.Dossier.{records}
 use Rattle.records.specs.Raise.{RaiseFor}

@@ -1,10 +1,9 @@
 -- "A co-owner at the same plant": the other owner's costs change nothing, a dossier without AO means the same to both, and whom a query may name.
 use Rattle.std.specs.Prelude.{◌≡◌, Bool, ◌&&◌, not, List, [], ◌∷◌, ℕ, eqb, ℤ}
 use Rattle.lists.specs.Lists.{Pairwise}
-use Rattle.records.specs.declared.Answer.TheVariants.{Refused}
 use Rattle.records.specs.Table.{AO}
 use Rattle.records.specs.Record.{kind, told}
-use Rattle.records.specs.Answers.{or_else, refuse_if}
+use Rattle.records.specs.Answers.{or_else, refuse_if, Refused}
 use Rattle.records.specs.Dossier.{records}
 use Rattle.station.specs.InForce.{come, Unowned, Query, query, in_force}
 use Rattle.rules.specs.Answer.{answer, IsAccepted}

@@ -4,10 +4,9 @@ use mathlib.Core.Bool.{not}
 use mathlib.Core.List.{List}
 use Prim.Native.Nat.{ℕ, ◌≤◌}
 use native.Mathlib.Omega.{arith}
+use Rattle.std.specs.Prelude.{Ok, Err}
 use Rattle.lists.proofs.Tests.{split}
-use Rattle.records.specs.declared.Answer.{Answer}
-use Rattle.records.specs.declared.Answer.TheVariants.{Accepted, Refused as Turned}
-use Rattle.records.specs.Answers.{refuse_if}
+use Rattle.records.specs.Answers.{Accepted, Answer, refuse_if, Refused}
 use Rattle.records.specs.Dossier.{records}
 use Rattle.records.proofs.Dossier.{scan-each}
 use Rattle.station.specs.InForce.{come, Unowned, Query}
@@ -18,9 +17,7 @@ use Rattle.lookup.specs.Parts.{AtQuery, Indexed}
 use Rattle.lookup.proofs.Held.{query-indexed}
 use Rattle.formulas.specs.Levels.{parameters_at, profile, fuelled, IsOwner, query_answer}
 use Rattle.formulas.proofs.Hours.{hour-accepted, hour-without, hour-refused, hour-parts}
-use Rattle.query.specs.declared.Asked.{Asked}
-use Rattle.query.specs.declared.Asked.TheVariants.{Answered, Refused}
-use Rattle.query.specs.Drawn.{asked, asked_at}
+use Rattle.query.specs.Drawn.{asked, asked_at, Asked, Answered}
 use Rattle.query.proofs.Requests.{profile-range}
 
 -- ---- what is drawn
@@ -31,7 +28,7 @@ module _ (d : List ℕ) (q : Query) where
   its-profile = profile (parameters_at d q) q.hour
 
   -- a refused dossier's own refusal, and of an accepted one 20
-  pub asked-own : IsOwner q.owner → {n p : ℕ} → answer d ≡ Turned n p → Refused n p ≡ asked_at d q
+  pub asked-own : IsOwner q.owner → {n p : ℕ} → answer d ≡ Refused n p → Refused n p ≡ asked_at d q
   unfolding asked_at asked
   asked-own o e = rw (hour-refused d q o e) refl
 
@@ -44,21 +41,21 @@ module _ (d : List ℕ) (q : Query) where
       (λ f. rw (hour-without d q o (record { clean = e }) f, f) refl)
 
   -- and back
-  pub asked-refused : {n p : ℕ} {r : Asked} → r ≡ asked_at d q → r ≡ Refused n p → query_answer d q ≡ Turned n p
+  pub asked-refused : {n p : ℕ} {r : Asked} → r ≡ asked_at d q → r ≡ Refused n p → query_answer d q ≡ Refused n p
   unfolding asked_at asked
   asked-refused {n} {p} e f = go (query_answer d q) (sym f ∙ e)
     where
-      go : (a : Answer) → Refused n p ≡ asked a its-profile → a ≡ Turned n p
-      go Accepted t = let z : ◌≡◌ {A = ℕ} 0 1 = cc t in absurd (omega arith)
-      go (Turned m k) t = cc t
+      go : (a : Answer) → Refused n p ≡ asked a its-profile → a ≡ Refused n p
+      go (Ok x) t = let z : ◌≡◌ {A = ℕ} 0 1 = cc t in absurd (omega arith)
+      go (Err y) t = cc t
 
   asked-answered : {p : ℕ} → Answered p ≡ asked_at d q → (query_answer d q ≡ Accepted) × (p ≡ its-profile)
   unfolding asked_at asked
   asked-answered {p} e = go (query_answer d q) e
     where
       go : (a : Answer) → Answered p ≡ asked a its-profile → (a ≡ Accepted) × (p ≡ its-profile)
-      go Accepted t = (refl, cc t)
-      go (Turned m r) t = let z : ◌≡◌ {A = ℕ} 0 1 = cc t in absurd (omega arith)
+      go (Ok x) t = (refl, cc t)
+      go (Err y) t = let z : ◌≡◌ {A = ℕ} 0 1 = cc t in absurd (omega arith)
 
   within : {ix : List ℕ} → AtQuery q d ix → (1 ≤ its-profile) × (its-profile ≤ 4)
   unfolding profile

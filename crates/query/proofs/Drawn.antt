@@ -7,7 +7,7 @@ use lib.Dec.{ltb, eqb}
 use lib.ListN.{length, get_or}
 use borrow.Author.Tests.{ne_eqb}
 use Rattle.records.specs.Table.{FU}
-use Rattle.records.specs.Answers.{refuse_if}
+use Rattle.records.specs.Answers.{refuse_if, Refused}
 use Rattle.station.specs.Current.{present}
 use Rattle.station.specs.Parameters.{parameters}
 use Rattle.index.specs.Slots.{slot}
@@ -16,9 +16,7 @@ use Rattle.lookup.proofs.Keys.{fuel-key}
 use Rattle.lookup.proofs.Parts.{index-tells}
 use Rattle.lookup.proofs.Held.{slot-fits, some_good, current-some}
 use Rattle.formulas.specs.Levels.{parameters_in, profile, fuelled}
-use Rattle.query.specs.declared.Asked.{Asked}
-use Rattle.query.specs.declared.Asked.TheVariants.{Answered, Refused}
-use Rattle.query.specs.Drawn.{asked}
+use Rattle.query.specs.Drawn.{asked, Asked, Answered}
 use Rattle.query.proofs.Requests.{profile-held}
 
 -- the hour's profile has fuel in force exactly if its slot isn't empty

@@ -8,6 +8,8 @@ use native.Mathlib.Omega.{arith}
 use lib.Dec.{leb, ltb, eqb}
 use lib.ListN.{length}
 use borrow.Author.Tests.{eqb-false}
+use Rattle.std.specs.Prelude.{Option, Some, None}
+use Rattle.std.specs.Bool.{then_some}
 use Rattle.lists.specs.Lists.{Each}
 use Rattle.records.specs.Table.{table, row_of, field_of, RQ}
 use Rattle.lists.specs.Tests.{among}
@@ -26,10 +28,15 @@ use Rattle.formulas.specs.Levels.{covers, profile_of, profile}
 -- what one request asks for at an hour, read of its record
 pub asked-request : (l : List (List ℕ)) (h n : ℕ) {r : List ℕ} {asked first last : ℕ} → r ≡ current RQ n l → asked ≡ requested (parameters l) n
     → first ≡ first_hour (parameters l) n → last ≡ last_hour (parameters l) n
-    → (t : Bool) → ltb 0 (length r) && not (eqb asked 0) && leb first h && leb h last ≡ t
-    → cond t asked 0 ≡ cond (covers (parameters l) h n) (requested (parameters l) n) 0
+    → then_some (ltb 0 (length r) && not (eqb asked 0) && leb first h && leb h last) asked
+    ≡ cond (covers (parameters l) h n) (Some (requested (parameters l) n)) None
 unfolding covers
-asked-request l h n e a b c t f = rw (← f, a, b, c, there-is l RQ n e) refl
+asked-request l h n {r} {asked} {first} {last} e a b c =
+    rw (← a, ← b, ← c, ← there-is l RQ n e) (go (ltb 0 (length r) && not (eqb asked 0) && leb first h && leb h last))
+  where
+    go : (t : Bool) → then_some t asked ≡ cond t (Some asked) None
+    go true = refl
+    go false = refl
 
 covered : (s : ℕ) (a b c : Bool) → a && not (eqb s 0) && b && c ≡ true → 1 ≤ s
 covered s true b c e = go (eqb s 0) refl e
@@ -60,36 +67,30 @@ profile-range {l} e h (suc n) = go (covers (parameters l) h (suc n)) refl (profi
 
 -- the highest of some requests decides if it asks for a profile at the hour, and else the others do
 module _ (l : List (List ℕ)) (h : ℕ) where
-  abbrev asked : ℕ → ℕ
-  asked n = cond (covers (parameters l) h n) (requested (parameters l) n) 0
+  abbrev asked : ℕ → Option ℕ
+  asked n = cond (covers (parameters l) h n) (Some (requested (parameters l) n)) None
 
-  pub highest-asks : (n : ℕ) {p : ℕ} → 1 ≤ n → p ≡ asked n → (p ≡ 0 → ⊥) → p ≡ profile_of (parameters l) h n
+  pub highest-asks : (n : ℕ) {p : ℕ} → 1 ≤ n → Some p ≡ asked n → p ≡ profile_of (parameters l) h n
   unfolding profile_of
-  highest-asks zero a e f = absurd (omega arith)
-  highest-asks (suc n) {p} a e f = go (covers (parameters l) h (suc n)) e
+  highest-asks zero a e = absurd (omega arith)
+  highest-asks (suc n) {p} a e = go (covers (parameters l) h (suc n)) e
     where
-      go : (t : Bool) → p ≡ cond t (requested (parameters l) (suc n)) 0 → p ≡ cond t (requested (parameters l) (suc n)) (profile_of (parameters l) h n)
-      go true q = q
-      go false q = absurd (f q)
+      go : (t : Bool) → Some p ≡ cond t (Some (requested (parameters l) (suc n))) None
+          → p ≡ cond t (requested (parameters l) (suc n)) (profile_of (parameters l) h n)
+      go true q = cc
+      go false q = cc
 
-  pub highest-silent : (n : ℕ) {p : ℕ} → 1 ≤ n → p ≡ asked n → p ≡ 0 → profile_of (parameters l) h (n - 1) ≡ profile_of (parameters l) h n
-  unfolding profile_of covers
-  highest-silent zero a e f = absurd (omega arith)
-  highest-silent (suc n) {p} a e f =
+  pub highest-silent : (n : ℕ) → 1 ≤ n → None ≡ asked n → profile_of (parameters l) h (n - 1) ≡ profile_of (parameters l) h n
+  unfolding profile_of
+  highest-silent zero a e = absurd (omega arith)
+  highest-silent (suc n) a e =
       let w : suc n - 1 ≡ n = omega arith in
-      rw w (go (covers (parameters l) h (suc n)) refl e)
+      rw w (go (covers (parameters l) h (suc n)) e)
     where
-      go : (t : Bool) → covers (parameters l) h (suc n) ≡ t → p ≡ cond t (requested (parameters l) (suc n)) 0
+      go : (t : Bool) → ◌≡◌ {A = Option ℕ} None (cond t (Some (requested (parameters l) (suc n))) None)
           → profile_of (parameters l) h n ≡ cond t (requested (parameters l) (suc n)) (profile_of (parameters l) h n)
-      go true c q =
-          absurd (omega (
-            arith,
-            q,
-            f,
-            covered (requested (parameters l) (suc n)) ((parameters l).has RQ (suc n)) (leb (first_hour (parameters l) (suc n)) h)
-                (leb h (last_hour (parameters l) (suc n))) c,
-          ))
-      go false c q = refl
+      go true q = cc
+      go false q = refl
 
 -- where the slots of all requests are empty, there is none, and no hour has another profile than 1
 module _ (d ix : List ℕ) (h : Indexed d ix) {j : ℕ} (first : j ≡ slot RQ 1) (empty : slots_empty ix j 16 ≡ true) (hour : ℕ) where

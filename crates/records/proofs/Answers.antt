@@ -5,18 +5,17 @@ use Prim.Native.Nat.{ℕ}
 use native.Mathlib.Omega.{arith}
 use lib.Dec.{eqb}
 use borrow.Author.Tests.{eqb-true, eq-eqb}
-use Rattle.records.specs.declared.Answer.{Answer}
-use Rattle.records.specs.declared.Answer.TheVariants.{Accepted, Refused}
-use Rattle.records.specs.Answers.{or_else, drawn, refuse_if}
+use Rattle.std.specs.Prelude.{Ok, Err}
+use Rattle.records.specs.Answers.{Accepted, Answer, or_else, drawn, refuse_if, Refused}
 
 pub not-refused : (n p : ℕ) → Refused n p ≡ Accepted → ⊥
-not-refused n p e = let z : ◌≡◌ {A = ℕ} 1 0 = ap (λ x. elim x [ Accepted ↦ 0 | Refused i j ↦ 1 ]) e in omega arith
+not-refused n p e = let z : ◌≡◌ {A = ℕ} 1 0 = ap (λ x. elim x [ Ok x ↦ 0 | Err r ↦ 1 ]) e in omega arith
 
 -- a chain is accepted exactly if each part is
 pub or_else-parts : (a b : Answer) → or_else a b ≡ Accepted → (a ≡ Accepted) × (b ≡ Accepted)
 unfolding or_else
-or_else-parts Accepted b h = (refl, h)
-or_else-parts (Refused n p) b h = absurd (not-refused n p h)
+or_else-parts (Ok x) b h = (refl, h)
+or_else-parts (Err r) b h = absurd (not-refused r.number r.place h)
 
 pub parts-or_else : (a b : Answer) → a ≡ Accepted → b ≡ Accepted → or_else a b ≡ Accepted
 unfolding or_else
@@ -45,10 +44,10 @@ refuse_if-not b n p e = rw e refl
 
 pub or_else-assoc : (a b c : Answer) → or_else (or_else a b) c ≡ or_else a (or_else b c)
 unfolding or_else
-or_else-assoc Accepted b c = refl
-or_else-assoc (Refused n p) b c = refl
+or_else-assoc (Ok x) b c = refl
+or_else-assoc (Err r) b c = refl
 
 pub or_else-none : (a : Answer) → or_else a Accepted ≡ a
 unfolding or_else
-or_else-none Accepted = refl
-or_else-none (Refused n p) = refl
+or_else-none (Ok x) = refl
+or_else-none (Err r) = refl

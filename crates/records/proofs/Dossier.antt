@@ -7,8 +7,7 @@ use native.Mathlib.Omega.{arith}
 use lib.ListN.{length, length-take, length-drop, length-append, take-append-drop, get_or-append}
 use lib.Seq.{take_at, drop_at}
 use Rattle.lists.specs.Lists.{Each, done, also, joined}
-use Rattle.records.specs.declared.Answer.{Answer}
-use Rattle.records.specs.declared.Answer.TheVariants.{Accepted}
+use Rattle.records.specs.Answers.{Answer, Accepted}
 use Rattle.records.specs.Record.{mark, size, fault}
 use Rattle.records.specs.Dossier.{first_of, rest_of, records_in, records, first_drawn, scan}
 use Rattle.records.proofs.Answers.{or_else-parts, parts-or_else, drawn-none, none-drawn}

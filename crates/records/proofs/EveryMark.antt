@@ -70,15 +70,6 @@ undated k l a b c =
 pub undated-none : (k : ℕ) → k < marks → (k ≡ FV → ⊥) → (k ≡ AV → ⊥) → (k ≡ MV → ⊥) → cond (is_dated k) k 0 ≡ 0
 undated-none k l a b c = rw (undated k l a b c) refl
 
--- their kinds stand as far apart from them as each from the other
-pub kind-above : (k : ℕ) → k < marks → AO < k → kind_of k ≡ k - 10
-unfolding kind_of is_dated row_of table
-kind-above k l h =
-    by-mark (λ j. k ≡ j → kind_of j ≡ j - 10) (λ w. absurd (omega arith)) (λ w. absurd (omega arith)) (λ w. absurd (omega arith)) (λ w. absurd (omega arith))
-    (λ w. absurd (omega arith)) (λ w. absurd (omega arith)) (λ w. absurd (omega arith)) (λ w. absurd (omega arith)) (λ w. absurd (omega arith))
-    (λ w. absurd (omega arith)) (λ w. absurd (omega arith)) (λ w. absurd (omega arith)) (λ w. refl) (λ w. refl) (λ w. refl)
-    k (λ z. absurd (omega arith)) l refl
-
 -- one that is none of the others has one, or is none
 pub dated-or-none : (k : ℕ) → k < marks → (k ≡ RS → ⊥) → (k ≡ HP → ⊥) → (k ≡ FU → ⊥) → (k ≡ AD → ⊥) → (k ≡ MM → ⊥) → (k ≡ RQ → ⊥) → (k ≡ HR → ⊥)
     → (k ≡ CH → ⊥) → (k ≡ TH → ⊥) → (k ≡ FP → ⊥) → (k ≡ LC → ⊥) → (k ≡ AO → ⊥) → cond (is_dated k) k 0 ≡ k

@@ -7,5 +7,6 @@ pub mod Raise
 pub mod RaiseTest
 pub mod Walk
 pub mod MarkShapes
+pub mod Ranges
 pub mod Read
 pub mod Over

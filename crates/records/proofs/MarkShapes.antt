@@ -5,6 +5,8 @@ use Prim.Native.Nat.{ℕ, zero, suc, ◌<◌}
 use native.Mathlib.Omega.{arith}
 use lib.ListN.{length, get_or}
 use Rattle.records.specs.declared.MarkShape.{MarkShape}
+use Rattle.records.specs.declared.marks.Mark.{Mark}
+use Rattle.records.specs.declared.marks.Mark.TheVariants.{Unknown, RS, HP, FU, AD, MM, RQ, HR, CH, TH, FP, LC, AO, FV, AV, MV}
 use Rattle.records.specs.Table.{table, no_row, row_of, marks}
 use Rattle.records.specs.Record.{fields_at, size, key_width}
 use Rattle.records.specs.MarkShapes.{shape, shapes, shape_of}
@@ -27,3 +29,23 @@ shape_size k e = ap (λ (m : MarkShape). m.length) e
 pub shape-width : (k : ℕ) {m : MarkShape} → m ≡ shape_of k → m.width ≡ key_width k
 unfolding shape_of shape key_width
 shape-width k e = ap (λ (m : MarkShape). m.width) e
+
+-- what follows whichever mark of the code it is
+pub which : {A : Type 0} (m : Mark) → (m ≡ Unknown → A) → (m ≡ RS → A) → (m ≡ HP → A) → (m ≡ FU → A) → (m ≡ AD → A) → (m ≡ MM → A) → (m ≡ RQ → A)
+    → (m ≡ HR → A) → (m ≡ CH → A) → (m ≡ TH → A) → (m ≡ FP → A) → (m ≡ LC → A) → (m ≡ AO → A) → (m ≡ FV → A) → (m ≡ AV → A) → (m ≡ MV → A) → A
+which Unknown a b c d e f g h i j k l n o p q = a refl
+which RS a b c d e f g h i j k l n o p q = b refl
+which HP a b c d e f g h i j k l n o p q = c refl
+which FU a b c d e f g h i j k l n o p q = d refl
+which AD a b c d e f g h i j k l n o p q = e refl
+which MM a b c d e f g h i j k l n o p q = f refl
+which RQ a b c d e f g h i j k l n o p q = g refl
+which HR a b c d e f g h i j k l n o p q = h refl
+which CH a b c d e f g h i j k l n o p q = i refl
+which TH a b c d e f g h i j k l n o p q = j refl
+which FP a b c d e f g h i j k l n o p q = k refl
+which LC a b c d e f g h i j k l n o p q = l refl
+which AO a b c d e f g h i j k l n o p q = n refl
+which FV a b c d e f g h i j k l n o p q = o refl
+which AV a b c d e f g h i j k l n o p q = p refl
+which MV a b c d e f g h i j k l n o p q = q refl

@@ -87,12 +87,12 @@ begun a b s e =
     (eqb-true (get_or s 1 0) b (and_right (eqb (get_or s 0 0) a) (eqb (get_or s 1 0) b) e))
 
 -- two letters as one number are alike if each is
-pub two-letters : (x y a b : ℕ) → x < 256 → a < 256 → eqb (y * 256 + x) (b * 256 + a) ≡ eqb x a && eqb y b
+pub two-letters : (x y a b : ℕ) → x < 256 → a < 256 → eqb (x + y * 256) (a + b * 256) ≡ eqb x a && eqb y b
 two-letters x y a b p q =
     split (eqb x a)
     (λ e. rw (e, eqb-true x a e) (alike (eqb y b) refl))
-    (λ e. rw e (ne_eqb (y * 256 + x) (b * 256 + a) (λ z. eqb-false x a e (omega (arith, p, q, z)))))
+    (λ e. rw e (ne_eqb (x + y * 256) (a + b * 256) (λ z. eqb-false x a e (omega (arith, p, q, z)))))
   where
-    alike : (t : Bool) → eqb y b ≡ t → eqb (y * 256 + a) (b * 256 + a) ≡ t
-    alike true e = eq-eqb (y * 256 + a) (b * 256 + a) (rw (eqb-true y b e) refl)
-    alike false e = ne_eqb (y * 256 + a) (b * 256 + a) (λ z. eqb-false y b e (omega (arith, z)))
+    alike : (t : Bool) → eqb y b ≡ t → eqb (a + y * 256) (a + b * 256) ≡ t
+    alike true e = eq-eqb (a + y * 256) (a + b * 256) (rw (eqb-true y b e) refl)
+    alike false e = ne_eqb (a + y * 256) (a + b * 256) (λ z. eqb-false y b e (omega (arith, z)))

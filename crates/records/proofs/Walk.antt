@@ -8,10 +8,9 @@ use lib.Dec.{eqb}
 use lib.ListN.{length, take, drop, length-take, length-drop}
 use lib.Seq.{drop-drop}
 use borrow.Author.Tests.{eqb-true, eqb-false, eq-eqb, ne_eqb}
-use Rattle.records.specs.declared.Answer.{Answer}
-use Rattle.records.specs.declared.Answer.TheVariants.{Accepted, Refused}
+use Rattle.std.specs.Prelude.{Ok, Err}
 use Rattle.records.specs.Record.{mark, size, fault}
-use Rattle.records.specs.Answers.{or_else, drawn}
+use Rattle.records.specs.Answers.{Accepted, Answer, or_else, drawn, Refused}
 use Rattle.records.specs.Dossier.{first_of, rest_of, records_in, records, first_drawn, scan}
 use Rattle.records.specs.Walk.{Record, Faulty, found, Step, Walked, ended, stopped, folded, walk_from, walk, Rest}
 use Rattle.records.proofs.Answers.{or_else-assoc, or_else-none}
@@ -61,8 +60,8 @@ first-fold test p a (r ∷ l) = first-fold test (p + length r) (or_else a (test 
 -- ---- the walk over the bytes is the fold over the records, where the scan is clean; else it stops where the scan does
 
 unfoldable pub outcome : {A : Type 0} → Answer → A → Walked A
-outcome Accepted a = ended a
-outcome (Refused n p) a = stopped n p
+outcome (Ok x) a = ended a
+outcome (Err r) a = stopped r.number r.place
 
 module _ {A : Type 0} (step : Step A) where
   walk-in : (f p : ℕ) (a : A) (s : List ℕ) → walk_from step f p a s ≡ outcome (scan p (records_in f s)) (folded step p a (records_in f s))

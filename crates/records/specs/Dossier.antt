@@ -1,8 +1,6 @@
 -- The dossier: its records; which of its bytes are money; 1, 2 and 3 in turn.
 use Rattle.std.specs.Prelude.{Bool, false, cond, List, [], ◌∷◌, ℕ, zero, suc, ◌+◌, ◌-◌, ltb, length, take, drop}
-use Rattle.records.specs.declared.Answer.{Answer}
-use Rattle.records.specs.declared.Answer.TheVariants.{Accepted}
-use Rattle.records.specs.Answers.{or_else, drawn}
+use Rattle.records.specs.Answers.{Accepted, Answer, or_else, drawn}
 use Rattle.records.specs.Record.{mark, size, fault, money_byte}
 
 -- the first record of what is left of a dossier, as long as its mark says (an unknown mark takes mark and issue, and is refused)

@@ -1,4 +1,5 @@
 pub mod Table
+pub mod Marks
 pub mod Record
 pub mod Made
 pub mod MarkShapes

@@ -1,10 +1,10 @@
 -- The code's table of marks and what it reads there.
 -- All of it follows from the table of marks.
-use Rattle.std.specs.Prelude.{Bool, cond, ◌&&◌, ◌||◌, List, [], ◌∷◌, map, ℕ, ◌+◌, ◌/◌, ◌%◌, ltb, eqb, get_or, drop}
-use Rattle.lists.specs.Tests.{between}
+use Rattle.std.specs.Prelude.{Bool, cond, ◌&&◌, ◌||◌, List, [], ◌∷◌, map, ℕ, ◌+◌, ◌/◌, ◌%◌, ltb, eqb, length, get_or, drop}
+use Rattle.lists.specs.Tests.{all_below, between}
 use Rattle.records.specs.declared.MarkShape.{MarkShape}
-use Rattle.records.specs.Table.{Field, Row, no_field, no_row, table, row_of, AO}
-use Rattle.records.specs.Record.{mark, is_dated, fields_from, widths, is_key, key_in, key_width}
+use Rattle.records.specs.Table.{Field, Row, no_field, no_row, table, row_of, field_of, AO}
+use Rattle.records.specs.Record.{mark, is_dated, fields_from, widths, offset_in, is_key, key_in, key_width, read, in_range}
 
 -- a bound of field i of a row, if the field belongs to the key, else 0
 abbrev pub key_bound : (Field → ℕ) → Row → ℕ → ℕ
@@ -51,6 +51,10 @@ key_test k n = ltb 0 k && key_fits (shape_of k) n
 -- few records have such a mark: it has a first hour, no key, or an owner
 unfoldable pub rare : ℕ → Bool
 rare k = is_dated k || eqb (key_width k) 0 || eqb k AO
+
+-- whether the fields of mark k are in their ranges, read from byte o on
+unfoldable pub fields_hold : ℕ → ℕ → List ℕ → Bool
+fields_hold k o r = all_below (length (row_of k).fields) (λ i. in_range (field_of k i) (read (field_of k i) (offset_in o (row_of k).fields i) r))
 
 -- whether some bytes begin with two letters
 abbrev pub begins : List ℕ → ℕ → ℕ → Bool

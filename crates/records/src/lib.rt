@@ -2,21 +2,24 @@
 #![tactic(auto)]
 
 pub mod marks;
+pub mod rows;
 
-ghost use Rattle.std.specs.Prelude.{◌≡◌, cond, ◌||◌, ◌+◌, ◌*◌, ◌<◌, ◌≤◌, eqb, get_or};
-ghost use Rattle.lists.specs.Tests.{between};
-ghost use Rattle.fields.specs.Numbers.{number, biased};
-ghost use Rattle.records.specs.Table;
-ghost use Rattle.records.specs.Table.{marks};
-ghost use Rattle.records.specs.Record.{mark, is_dated, kind_of, size, ranges_hold};
+ghost use Rattle.std.specs.Prelude.{◌≡◌, cond, ◌+◌, ◌*◌, ◌<◌, get_or};
+ghost use Rattle.records.specs.Marks.{row};
+ghost use Rattle.records.specs.Record.{mark, is_dated, kind_of, fields_at, since, size};
 ghost use Rattle.records.specs.MarkShapes.{begins, shape_of, key_field, key_fits, key_test};
 
-// An answer to a dossier: accepted, or refused with number and place.
-#[derive(Drop)]
-pub enum Answer {
-    Accepted,
-    Refused { number: u8, place: usize },
+pub use crate::marks::Mark;
+
+// A refusal: the paper's number, and the place.
+#[derive(Clone, Copy, Debug, PartialEq, Eq)]
+pub struct Refusal {
+    pub number: u8,
+    pub place: usize,
 }
+
+// An answer to a dossier: accepted, or refused.
+pub type Answer = Result<(), Refusal>;
 
 // A mark's whole length, the bytes of its key, and the lowest and highest of its key fields.
 #[derive(Clone, Copy)]
@@ -148,89 +151,74 @@ pub const MARKS: [MarkShape; 16] = [
 // No record of a known mark is shorter.
 pub const SHORTEST: usize = 10;
 
+// The range of a price, -200,000 to 200,000 cents, held plus 2^31.
+pub const LOWEST_PRICE: u64 = 2147283648;
+
+pub const HIGHEST_PRICE: u64 = 2147683648;
+
 // The row of a mark.
-pub fn mark_shape(mark: usize) -> MarkShape
-    requires { mark < marks }
-    ensures { result ≡ shape_of mark }
+pub fn mark_shape(mark: Mark) -> MarkShape
+    ensures { result ≡ shape_of (row mark) }
 {
-    MARKS[mark]
+    MARKS[mark as usize]
 }
 
 // The mark that a mark is but for a first hour: FU of FV, AD of AV, MM of MV.
-pub fn kind_of(mark: usize) -> usize
-    requires { mark < marks }
-    ensures { result ≡ kind_of mark }
+#[tactic(auto, unfolding(crate::specs::Record::kind_of, crate::specs::Record::is_dated, crate::specs::Table::row_of, crate::specs::Table::table))]
+pub fn kind_of(mark: Mark) -> Mark
+    ensures { row result ≡ kind_of (row mark) }
 {
-    if mark <= marks::AO { mark } else { mark - 10 }
+    match mark {
+        Mark::FV => Mark::FU,
+        Mark::AV => Mark::AD,
+        Mark::MV => Mark::MM,
+        undated => undated,
+    }
 }
 
-// The length of records of the marks that few dossiers have.
-fn rare_length(mark: usize) -> usize
-    requires { (Table.LC ≤ mark) × (mark < marks) }
-    ensures { result ≡ size mark }
+// Where the fields of a mark's records begin: behind a first hour, which three marks have.
+#[tactic(auto, unfolding(crate::specs::Record::fields_at, crate::specs::Table::row_of, crate::specs::Table::table))]
+pub fn fields_at(mark: Mark) -> usize
+    ensures { result ≡ fields_at (row mark) }
 {
-    if mark == marks::FV {
-        return FV.length;
+    match mark {
+        Mark::FV | Mark::AV | Mark::MV => 10,
+        _ => 6,
     }
-    if mark == marks::AV {
-        return AV.length;
-    }
-    if mark == marks::MV {
-        return MV.length;
-    }
-    if mark == marks::AO {
-        return AO.length;
-    }
-    LC.length
 }
 
-// The length of a mark's records. A row of the table, asked for by a number, would be made with the whole table each time.
-pub fn length_of(mark: usize) -> usize
-    requires { mark < marks }
-    ensures { result ≡ size mark }
+// The length of a mark's records. A row of the table, asked for by a variable place, would be made with the whole table each time.
+#[tactic(auto, using(crate::proofs::Record::sizes))]
+pub fn length_of(mark: Mark) -> usize
+    ensures { result ≡ size (row mark) }
 {
-    if mark == 0 {
-        return UNKNOWN.length;
+    match mark {
+        Mark::Unknown => UNKNOWN.length,
+        Mark::RS => RS.length,
+        Mark::HP => HP.length,
+        Mark::FU => FU.length,
+        Mark::AD => AD.length,
+        Mark::MM => MM.length,
+        Mark::RQ => RQ.length,
+        Mark::HR => HR.length,
+        Mark::CH => CH.length,
+        Mark::TH => TH.length,
+        Mark::FP => FP.length,
+        Mark::LC => LC.length,
+        Mark::AO => AO.length,
+        Mark::FV => FV.length,
+        Mark::AV => AV.length,
+        Mark::MV => MV.length,
     }
-    if mark == marks::CH {
-        return CH.length;
-    }
-    if mark == marks::HP {
-        return HP.length;
-    }
-    if mark == marks::TH {
-        return TH.length;
-    }
-    if mark == marks::HR {
-        return HR.length;
-    }
-    if mark == marks::FP {
-        return FP.length;
-    }
-    if mark == marks::FU {
-        return FU.length;
-    }
-    if mark == marks::AD {
-        return AD.length;
-    }
-    if mark == marks::MM {
-        return MM.length;
-    }
-    if mark == marks::RQ {
-        return RQ.length;
-    }
-    if mark == marks::RS {
-        return RS.length;
-    }
-    rare_length(mark)
 }
 
 // Whether a number is within the bounds of a key field.
+#[tactic(auto, unfolding(crate::specs::MarkShapes::key_field, lists::specs::Tests::between))]
 fn in_field(m: MarkShape, i: usize, x: usize) -> bool
     requires { i < 4 }
     ensures { result ≡ key_field m i x }
 {
-    ((m.lowest[i] as usize) <= x) & (x <= (m.highest[i] as usize))
+    (m.lowest[i] as usize..=m.highest[i] as usize).contains(&x)
 }
 
 // Whether a number, cut into key fields, is a key of a mark of this shape.
@@ -253,278 +241,85 @@ fn in_fields(m: MarkShape, n: usize) -> bool
 }
 
 // Whether a number is a key of a mark.
-pub fn in_key(mark: usize, n: usize) -> bool
-    requires { mark < marks }
-    ensures { result ≡ key_test mark n }
+pub fn in_key(mark: Mark, n: usize) -> bool
+    ensures { result ≡ key_test (row mark) n }
 {
-    (0 < mark) & in_fields(mark_shape(mark), n)
+    (mark != Mark::Unknown) & in_fields(mark_shape(mark), n)
 }
 
-// Two letters as one number, the first low, as the machine reads them: code that tries mark after mark then compares one number with constants.
-fn letters(a: u8, b: u8) -> u16
-    ensures { (result ≡ b * 256 + a) × (a < 256) }
-{
-    (b as u16) * 256 + (a as u16)
-}
-
-// The mark is compared as two fixed bytes.
+// The mark is compared as two fixed bytes; as one number, so that code that tries mark after mark compares it with constants.
 pub fn is_mark(s: &[u8], m: &[u8; 2]) -> bool
     ensures { result ≡ begins s.now (get_or m.now 0 0) (get_or m.now 1 0) }
 {
-    letters(fields::byte_at(s, 0), fields::byte_at(s, 1)) == letters(m[0], m[1])
+    u16::from_le_bytes([fields::byte_at(s, 0), fields::byte_at(s, 1)]) == u16::from_le_bytes(*m)
 }
 
-// The mark of a record that has a first hour, 0 if its mark has none.
-fn dated_mark_at(s: &[u8]) -> usize
-    ensures { result ≡ cond (is_dated (mark s.now)) (mark s.now) 0 }
+// The mark of a record that has a first hour, none if its mark has none.
+fn dated_mark_at(s: &[u8]) -> Mark
+    ensures { row result ≡ cond (is_dated (mark s.now)) (mark s.now) 0 }
 {
     if is_mark(s, b"FV") {
-        return marks::FV;
+        return Mark::FV;
     }
     if is_mark(s, b"AV") {
-        return marks::AV;
+        return Mark::AV;
     }
     if is_mark(s, b"MV") {
-        return marks::MV;
+        return Mark::MV;
     }
-    0
+    Mark::Unknown
 }
 
-// The mark of a record, 0 if it is unknown. The commonest marks come first.
-pub fn mark_at(s: &[u8]) -> usize
-    ensures { result ≡ mark s.now }
+// The mark of a record. The commonest marks come first; a `match` of the two letters was tried, and is slower.
+pub fn mark_at(s: &[u8]) -> Mark
+    ensures { row result ≡ mark s.now }
 {
     if is_mark(s, b"CH") {
-        return marks::CH;
+        return Mark::CH;
     }
     if is_mark(s, b"HP") {
-        return marks::HP;
+        return Mark::HP;
     }
     if is_mark(s, b"TH") {
-        return marks::TH;
+        return Mark::TH;
     }
     if is_mark(s, b"HR") {
-        return marks::HR;
+        return Mark::HR;
     }
     if is_mark(s, b"FP") {
-        return marks::FP;
+        return Mark::FP;
     }
     if is_mark(s, b"FU") {
-        return marks::FU;
+        return Mark::FU;
     }
     if is_mark(s, b"AD") {
-        return marks::AD;
+        return Mark::AD;
     }
     if is_mark(s, b"MM") {
-        return marks::MM;
+        return Mark::MM;
     }
     if is_mark(s, b"RQ") {
-        return marks::RQ;
+        return Mark::RQ;
     }
     if is_mark(s, b"RS") {
-        return marks::RS;
+        return Mark::RS;
     }
     if is_mark(s, b"LC") {
-        return marks::LC;
+        return Mark::LC;
     }
     if is_mark(s, b"AO") {
-        return marks::AO;
+        return Mark::AO;
     }
     dated_mark_at(s)
 }
 
-// Whether the number in one, two, four and eight bytes is between two others.
-fn in1(s: &[u8], at: usize, low: u16, high: u16) -> bool
-    ensures { result ≡ between low high (number at 1 s.now) }
+// The first hour of the record at the front, 0 where its mark has none.
+#[tactic(auto, unfolding(crate::specs::Record::since, crate::specs::Record::is_dated, crate::specs::Table::row_of, crate::specs::Table::table))]
+pub fn since_at(s: &[u8]) -> u32
+    ensures { result ≡ since s.now }
 {
-    let x = fields::u8_at(s, at) as u16;
-    (low <= x) & (x <= high)
-}
-
-fn in2(s: &[u8], at: usize, low: u16, high: u16) -> bool
-    requires { at < 65536 }
-    ensures { result ≡ between low high (number at 2 s.now) }
-{
-    let x = fields::u16_at(s, at);
-    (low <= x) & (x <= high)
-}
-
-fn in4(s: &[u8], at: usize, low: u32, high: u32) -> bool
-    requires { at + 2 < 65536 }
-    ensures { result ≡ between low high (number at 4 s.now) }
-{
-    let x = fields::u32_at(s, at);
-    (low <= x) & (x <= high)
-}
-
-fn in8(s: &[u8], at: usize, low: u64, high: u64) -> bool
-    requires { at + 6 < 65536 }
-    ensures { result ≡ between low high (number at 8 s.now) }
-{
-    let x = fields::u64_at(s, at);
-    (low <= x) & (x <= high)
-}
-
-// The same of two bytes, or 0.
-fn zero_or(s: &[u8], at: usize, low: u16, high: u16) -> bool
-    requires { at < 65536 }
-    ensures { result ≡ (eqb (number at 2 s.now) 0 || between low high (number at 2 s.now)) }
-{
-    let x = fields::u16_at(s, at);
-    (x == 0) | ((low <= x) & (x <= high))
-}
-
-// The range of a price, -200,000 to 200,000 cents, held plus 2^31.
-pub const LOWEST_PRICE: u64 = 2147283648;
-
-pub const HIGHEST_PRICE: u64 = 2147683648;
-
-// Whether a price, held plus 2^31, is in its range.
-fn price(s: &[u8], at: usize) -> bool
-    requires { at + 2 < 65536 }
-    ensures { result ≡ between 2147283648 2147683648 (biased (number at 4 s.now)) }
-{
-    let x = ((fields::u32_at(s, at) as u64) + 2147483648) % 4294967296;
-    (LOWEST_PRICE <= x) & (x <= HIGHEST_PRICE)
-}
-
-// The ranges of each mark.
-pub fn ch_ok(s: &[u8]) -> bool
-    ensures { result ≡ ranges_hold Table.CH s.now }
-{
-    let m = CH;
-    in2(s, 6, m.lowest[0], m.highest[0]) & price(s, 8) & in4(s, 12, 0, 1000000)
-}
-
-pub fn hr_ok(s: &[u8]) -> bool
-    ensures { result ≡ ranges_hold Table.HR s.now }
-{
-    let m = HR;
-    in1(s, 6, m.lowest[0], m.highest[0]) & price(s, 7)
-}
-
-pub fn fp_ok(s: &[u8]) -> bool
-    ensures { result ≡ ranges_hold Table.FP s.now }
-{
-    let m = FP;
-    in2(s, 6, m.lowest[0], m.highest[0]) & price(s, 8)
-}
-
-pub fn lc_ok(s: &[u8]) -> bool
-    ensures { result ≡ ranges_hold Table.LC s.now }
-{
-    in4(s, 6, 0, 2000000000)
-}
-
-pub fn hp_ok(s: &[u8]) -> bool
-    ensures { result ≡ ranges_hold Table.HP s.now }
-{
-    let m = HP;
-    in1(s, 6, m.lowest[0], m.highest[0]) & in2(s, 7, 0, 20000) & in4(s, 9, 0, 20000000)
-}
-
-pub fn fu_ok(s: &[u8]) -> bool
-    ensures { result ≡ ranges_hold Table.FU s.now }
-{
-    let m = FU;
-    in1(s, 6, m.lowest[0], m.highest[0]) & in4(s, 7, 0, 400000000) & in4(s, 11, 0, 400000000)
-}
-
-pub fn fv_ok(s: &[u8]) -> bool
-    ensures { result ≡ ranges_hold Table.FV s.now }
-{
-    let m = FV;
-    in1(s, 10, m.lowest[0], m.highest[0]) & in4(s, 11, 0, 400000000) & in4(s, 15, 0, 400000000)
-}
-
-pub fn ad_ok(s: &[u8]) -> bool
-    ensures { result ≡ ranges_hold Table.AD s.now }
-{
-    let m = AD;
-    in1(s, 6, m.lowest[0], m.highest[0])
-        & in1(s, 7, m.lowest[1], m.highest[1])
-        & in1(s, 8, m.lowest[2], m.highest[2])
-        & in8(s, 9, 0, 1000000000000)
-}
-
-pub fn ao_ok(s: &[u8]) -> bool
-    ensures { result ≡ ranges_hold Table.AO s.now }
-{
-    let m = AO;
-    in1(s, 6, m.lowest[0], m.highest[0])
-        & in1(s, 7, m.lowest[1], m.highest[1])
-        & in1(s, 8, m.lowest[2], m.highest[2])
-        & in1(s, 9, m.lowest[3], m.highest[3])
-        & in8(s, 10, 0, 1000000000000)
-}
-
-pub fn av_ok(s: &[u8]) -> bool
-    ensures { result ≡ ranges_hold Table.AV s.now }
-{
-    let m = AV;
-    in1(s, 10, m.lowest[0], m.highest[0])
-        & in1(s, 11, m.lowest[1], m.highest[1])
-        & in1(s, 12, m.lowest[2], m.highest[2])
-        & in8(s, 13, 0, 1000000000000)
-}
-
-pub fn mm_ok(s: &[u8]) -> bool
-    ensures { result ≡ ranges_hold Table.MM s.now }
-{
-    let m = MM;
-    in1(s, 6, m.lowest[0], m.highest[0])
-        & in1(s, 7, m.lowest[1], m.highest[1])
-        & in8(s, 8, 0, 100000000000)
-        & in2(s, 16, 1, 20000)
-        & in4(s, 18, 1, 1000000)
-        & in2(s, 22, 0, 10000)
-}
-
-pub fn mv_ok(s: &[u8]) -> bool
-    ensures { result ≡ ranges_hold Table.MV s.now }
-{
-    let m = MV;
-    in1(s, 10, m.lowest[0], m.highest[0])
-        & in1(s, 11, m.lowest[1], m.highest[1])
-        & in8(s, 12, 0, 100000000000)
-        & in2(s, 20, 1, 20000)
-        & in4(s, 22, 1, 1000000)
-        & in2(s, 26, 0, 10000)
-}
-
-pub fn rq_ok(s: &[u8]) -> bool
-    ensures { result ≡ ranges_hold Table.RQ s.now }
-{
-    let m = RQ;
-    in1(s, 6, m.lowest[0], m.highest[0])
-        & in4(s, 7, 0, 4294967295)
-        & in4(s, 11, 0, 4294967295)
-        & in1(s, 15, 0, 4)
-        & (fields::u32_at(s, 7) <= fields::u32_at(s, 11))
-}
-
-pub fn th_ok(s: &[u8]) -> bool
-    ensures { result ≡ ranges_hold Table.TH s.now }
-{
-    let m = TH;
-    in1(s, 6, m.lowest[0], m.highest[0])
-        & in1(s, 7, m.lowest[1], m.highest[1])
-        & in2(s, 8, 0, 10000)
-        & in4(s, 10, 0, 4294967295)
-        & in4(s, 14, 0, 4294967295)
-}
-
-pub fn rs_ok(s: &[u8]) -> bool
-    ensures { result ≡ ranges_hold Table.RS s.now }
-{
-    in1(s, 6, 1, 4)
-        & in2(s, 7, 1, 20000)
-        & zero_or(s, 9, 500, 2000)
-        & in4(s, 11, 0, 20000000)
-        & in4(s, 15, 0, 20000000)
-        & in4(s, 19, 0, 1000000)
-        & in4(s, 23, 0, 1000000)
-        & zero_or(s, 27, 500, 1000)
-        & in2(s, 29, 0, 4000)
-        & ((fields::u8_at(s, 6) == 4) | (fields::u16_at(s, 29) <= 168))
+    match mark_at(s) {
+        Mark::FV | Mark::AV | Mark::MV => fields::u32_at(s, 6),
+        _ => 0,
+    }
 }

@@ -2,18 +2,19 @@
 use mathlib.Core.Path.{◌≡◌, refl, ap, ap₂, ◌∙◌}
 use mathlib.Core.List.{List}
 use Prim.Native.Nat.{ℕ}
-use Rattle.records.specs.declared.Answer.TheVariants.{Accepted, Refused}
-use Rattle.records.specs.Answers.{is_accepted}
+use Rattle.std.specs.Prelude.{Ok, Err}
+use Rattle.records.specs.declared.Refusal.{Refusal}
+use Rattle.records.specs.Answers.{Accepted}
 use Rattle.station.specs.InForce.{Query}
 use Rattle.station.specs.Parameters.{Parameters, Amounts, technology}
 use Rattle.lookup.proofs.Held.{parameters-held, amounts-held}
 use Rattle.formulas.specs.Levels.{parameters_at, query_answer, Line, lines_of, lines, levels}
 use Rattle.formulas.proofs.Hours.{hour-parts, levels-fuelled}
 use Rattle.arrays.specs.declared.HourLevels.{HourLevels}
-use Rattle.arrays.specs.Packed.{packed, packed_at, no_levels}
+use Rattle.arrays.specs.Packed.{packed, packed_at}
 use Rattle.query.proofs.Asking.{Ready}
 use Rattle.reference.specs.Held.{lines_held, packed_held}
-use Rattle.reference.specs.Answer.{levels_answer}
+use Rattle.reference.specs.Answer.{with_levels, levels_answer}
 
 -- where a query is answered, in its profile
 module _ {d : List ℕ} {q : Query} {p : ℕ} {ix : List ℕ} (g : Ready d q p ix) where
@@ -29,13 +30,11 @@ module _ {d : List ℕ} {q : Query} {p : ℕ} {ix : List ℕ} (g : Ready d q p i
       ∙ ap₂ (λ (s : Parameters) (l : List Line). packed (technology s) p l) (parameters-held q g.index) lines-held
       ∙ ap (λ (x : ℕ). packed (technology (parameters_at d q)) x (levels d q)) g.its
 
--- the answer with the levels
-pub levels-accepted : (d : List ℕ) (q : Query) {l : HourLevels} → query_answer d q ≡ Accepted → l ≡ packed_at d q
-    → record { answer = Accepted; levels = l } ≡ levels_answer d q
-unfolding levels_answer is_accepted
+-- the levels, or the refusal
+pub levels-accepted : (d : List ℕ) (q : Query) {l : HourLevels} → query_answer d q ≡ Accepted → l ≡ packed_at d q → Ok l ≡ levels_answer d q
+unfolding levels_answer with_levels
 levels-accepted d q e f = rw (e, f) refl
 
-pub levels-refused : (d : List ℕ) (q : Query) (n p : ℕ) {l : HourLevels} → query_answer d q ≡ Refused n p → l ≡ no_levels
-    → record { answer = Refused n p; levels = l } ≡ levels_answer d q
-unfolding levels_answer is_accepted
-levels-refused d q n p e f = rw (e, f) refl
+pub levels-refused : (d : List ℕ) (q : Query) {r : Refusal} → query_answer d q ≡ Err r → Err r ≡ levels_answer d q
+unfolding levels_answer with_levels
+levels-refused d q e = rw e refl

@@ -27,11 +27,9 @@ pub fn laminations(
         (laminations (parameters_held d.now index.now) (amounts_held d.now index.now) p 1 n []))) }
 {
     let more = additions(d, index, p);
-    let mut i = 0;
-    while i < n {
+    for i in 0..n {
         from[i] = bottom(d, index, i + 1);
         to[i] = parameters::output(d, index, i + 2);
         cents[i] = lamination(d, index, p, i + 1, more);
-        i += 1;
     }
 }

@@ -7,27 +7,24 @@ ghost use Rattle.std.specs.Prelude.{◌≡◌, [], ◌∷◌, true, ◌≤◌, l
 ghost use Rattle.station.specs.Parameters.{technology, capacity};
 ghost use Rattle.station.specs.Week.{WeekIn};
 ghost use Rattle.station.specs.InForce.{query};
-ghost use Rattle.lookup.specs.Parts.{Indexed, Empty, parameters_held, amounts_held};
+ghost use Rattle.lookup.specs.Parts.{Indexed, parameters_held, amounts_held};
 ghost use Rattle.formulas.specs.Levels.{IsOwner};
 ghost use Rattle.rules.specs.Fit.{holds};
-ghost use Rattle.records.specs.declared.Answer.TheVariants.{Accepted};
+ghost use Rattle.index.specs.Slots.{short, wide};
+ghost use Rattle.records.specs.Answers.{Accepted};
 ghost use Rattle.formulas.specs.Exact.{micro_dollars, cents as cents_of};
 ghost use Rattle.rules.specs.Answer.{answer};
-ghost use Rattle.arrays.specs.Packed.{padded, single_levels, hour_of, single_sum, amount_of, no_levels};
+ghost use Rattle.arrays.specs.Packed.{padded, single_levels, hour_of, single_sum, amount_of};
 ghost use Rattle.reference.specs.Held.{lines_held, packed_held};
 ghost use Rattle.reference.specs.Answer.{levels_answer};
 
 use arithmetic::Money;
 use arrays::{HourLevels, SingleLevels};
-use query::{Asked, Way};
-use records::Answer;
+use lookup::Room;
+use records::Refusal;
 
-// The answer to a dossier with its levels at an hour: all zero where it is refused.
-#[derive(Drop)]
-pub struct LevelsAnswer {
-    pub answer: Answer,
-    pub levels: HourLevels,
-}
+// The levels of a dossier at an hour, or what it refuses.
+pub type LevelsAnswer = Result<HourLevels, Refusal>;
 
 // The levels of a technology with one lamination, from 0 to the capacity, given the sums of its energy and reserve.
 fn one_lamination(
@@ -143,26 +140,6 @@ pub fn single_level(d: &[u8], index: &[u16], p: usize, level: u8) -> u64
     money.cents
 }
 
-// What a refused call shows.
-fn no_levels() -> HourLevels
-    ensures { result ≡ no_levels }
-{
-    let from = [0u64; 20];
-    let to = [0u64; 20];
-    let cents = [0u64; 20];
-    HourLevels {
-        technology: 0,
-        profile: 0,
-        count: 0,
-        from,
-        to,
-        cents,
-        start: 0,
-        noload: 0,
-        reserve: 0,
-    }
-}
-
 // The levels of an accepted dossier in a profile, with their laminations.
 fn whole_levels(d: &[u8], index: &[u16], sums: &[u64], p: usize) -> HourLevels
     requires { (answer d.now ≡ Accepted) × Indexed d.now index.now × (1 ≤ p) × (p ≤ 4) × (length sums.now ≡ 2) × WeekIn d.now sums.now }
@@ -185,47 +162,24 @@ fn whole_levels(d: &[u8], index: &[u16], sums: &[u64], p: usize) -> HourLevels
     }
 }
 
-// The answer to a dossier, with its levels at an hour where it is accepted; worked out in an empty index.
-fn levels_in(d: &[u8], index: &mut [u16], hour: u32, owner: u8) -> LevelsAnswer
-    requires { Empty index.old × IsOwner owner }
+// The levels of a dossier at an hour, with an index of so many slots.
+fn levels_in<const SLOTS: usize>(d: &[u8], hour: u32, owner: u8) -> LevelsAnswer
+    requires { (short ≤ SLOTS) × (SLOTS ≤ wide) × IsOwner owner }
     ensures { result ≡ levels_answer d.now (query hour owner) }
 {
+    let mut index = [0u16; SLOTS];
     let mut sums = [0u64; 2];
-    match query::judge_at(d, hour, owner, index, &mut sums) {
-        Asked::Answered { profile } => {
-            let answer = Answer::Accepted;
-            let levels = whole_levels(d, index, &sums, profile);
-            LevelsAnswer { answer, levels }
-        }
-        Asked::Refused { number, place } => {
-            let answer = Answer::Refused { number, place };
-            let levels = no_levels();
-            LevelsAnswer { answer, levels }
-        }
-    }
+    let profile = query::judge_at(d, hour, owner, &mut index, &mut sums)?;
+    Ok(whole_levels(d, &index, &sums, profile))
 }
 
-// The same of a dossier.
+// The levels of a dossier at an hour.
 pub fn levels(d: &[u8], hour: u32, owner: u8) -> LevelsAnswer
     ensures { result ≡ levels_answer d.now (query hour owner) }
 {
-    match query::way_in(d, owner) {
-        Way::Closed { number } => {
-            let answer = Answer::Refused { number, place: 0 };
-            let levels = no_levels();
-            LevelsAnswer { answer, levels }
-        },
-        Way::Short => {
-            let mut index = [0u16; index::SHORT];
-            levels_in(d, &mut index, hour, owner)
-        }
-        Way::Narrow => {
-            let mut index = [0u16; index::NARROW];
-            levels_in(d, &mut index, hour, owner)
-        }
-        Way::Wide => {
-            let mut index = [0u16; index::WIDE];
-            levels_in(d, &mut index, hour, owner)
-        }
+    match query::way_in(d, owner)? {
+        Room::Short => levels_in::<{ index::SHORT }>(d, hour, owner),
+        Room::Narrow => levels_in::<{ index::NARROW }>(d, hour, owner),
+        Room::Wide => levels_in::<{ index::WIDE }>(d, hour, owner),
     }
 }

@@ -3,8 +3,9 @@ use mathlib.Core.Path.{◌≡◌, refl, ap, ap₂, ◌∙◌}
 use mathlib.Core.List.{List, map}
 use Prim.Native.Nat.{ℕ}
 use lib.ListN.{length}
-use Rattle.records.specs.declared.Answer.TheVariants.{Accepted, Refused as Turned}
-use Rattle.records.specs.Answers.{or_else, is_accepted}
+use Rattle.std.specs.Prelude.{Err}
+use Rattle.records.specs.declared.Refusal.{Refusal}
+use Rattle.records.specs.Answers.{Accepted, or_else, is_accepted}
 use Rattle.station.specs.InForce.{Query}
 use Rattle.arrays.specs.declared.HourLevels.{HourLevels}
 use Rattle.lookup.specs.Parts.{parameters_held}
@@ -14,8 +15,7 @@ use Rattle.query.proofs.Asking.{Ready}
 use Rattle.reference.specs.Held.{packed_held}
 use Rattle.reference.proofs.AtQuery.{lines-held}
 use Rattle.reference.proofs.Handed.{handed-shown, handed-profile}
-use Rattle.layout.specs.declared.Written.{Written}
-use Rattle.layout.specs.declared.Written.TheVariants.{Refused}
+use Rattle.layout.specs.Written.{Written}
 use Rattle.lines.specs.Parts.{packed_report}
 use Rattle.lines.proofs.Fits.{Put}
 use Rattle.layout.specs.Report.{report, buffer_with, written, report_answer, buffer_after}
@@ -40,6 +40,6 @@ module _ (d : List ℕ) (q : Query) (e : List ℕ) where
   told-levels r k a f p = rw (a, ← f) p
 
   -- a refused dossier's refusal comes first
-  pub told-refusal : (k p : ℕ) → query_answer d q ≡ Turned k p → Told d q e (Refused k p) e
+  pub told-refusal : (r : Refusal) → query_answer d q ≡ Err r → Told d q e (Err r) e
   unfolding report_answer buffer_after buffer_with written or_else is_accepted
-  told-refusal k p a = rw a (refl, refl)
+  told-refusal r a = rw a (refl, refl)

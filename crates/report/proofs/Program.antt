@@ -8,12 +8,12 @@ use borrow.Author.Tests.{lt-ltb, le-ltb, ltb-true, ltb-false}
 use lib.Dec.{ltb, eqb}
 use lib.ListN.{length, take, drop, length-drop, length-map}
 use lib.Seq.{take_all, length-take-le}
+use Rattle.std.specs.Prelude.{Ok, Err}
 use Rattle.lists.specs.Tests.{count_to}
 use Rattle.lists.proofs.Tests.{split}
 use Rattle.fields.specs.Numbers.{number}
-use Rattle.records.specs.declared.Answer.{Answer}
-use Rattle.records.specs.declared.Answer.TheVariants.{Accepted, Refused as Turned}
-use Rattle.records.specs.Answers.{or_else, refuse_if, is_accepted}
+use Rattle.records.specs.declared.Refusal.{Refusal}
+use Rattle.records.specs.Answers.{Accepted, Answer, or_else, refuse_if, is_accepted, Refused}
 use Rattle.records.proofs.Answers.{or_else-none}
 use Rattle.records.specs.Table.{thermal, nuclear, storage, hydro, HP}
 use Rattle.index.proofs.Turn.{tail}
@@ -27,8 +27,7 @@ use Rattle.text.specs.Text.{refusal_line}
 use Rattle.text.proofs.Decimal.{decimal-within}
 use Rattle.text.proofs.Lengths.{refusal-length}
 use Rattle.text.proofs.Over.{Wrote}
-use Rattle.layout.specs.declared.Written.{Written}
-use Rattle.layout.specs.declared.Written.TheVariants.{Bytes, Refused}
+use Rattle.layout.specs.Written.{Written, Bytes}
 use Rattle.layout.specs.Report.{report, buffer_with, written, report_answer, buffer_after, longest_report, printed, program_query, prints}
 use Rattle.lines.proofs.Fits.{long-enough}
 use Rattle.report.specs.Print.{print_answer, buffer_printed}
@@ -77,8 +76,8 @@ report-fits d q =
 
 printed-fits : (a : Answer) (text : List ℕ) → length text ≤ longest_report → length (printed a text) ≤ longest_report
 unfolding printed
-printed-fits Accepted text h = h
-printed-fits (Turned n p) text h = omega (arith, refusal-length n p, decimal-within n, decimal-within p)
+printed-fits (Ok x) text h = h
+printed-fits (Err r) text h = omega (arith, refusal-length r.number r.place, decimal-within r.number, decimal-within r.place)
 
 -- and so has all that the program prints
 pub prints-fits : (i : List ℕ) → length (prints i) ≤ longest_report
@@ -87,7 +86,7 @@ prints-fits i = printed-fits _ _ (report-fits (drop 4 i) (program_query i))
 
 -- ---- the input
 
-no-hour : (n : ℕ) (a : Answer) → n < 4 → or_else (refuse_if (ltb n 4) 16 0) a ≡ Turned 16 0
+no-hour : (n : ℕ) (a : Answer) → n < 4 → or_else (refuse_if (ltb n 4) 16 0) a ≡ Refused 16 0
 unfolding or_else refuse_if
 no-hour n a h = rw (lt-ltb n 4 h)
 
@@ -108,7 +107,7 @@ prints-too-long : (i : List ℕ) → 60004 < length i → prints i ≡ refusal_l
 unfolding printed
 prints-too-long i h =
     let k : 60000 < length (drop 4 i) = simp length-drop (omega arith) in
-    prints-answer i (Turned 13 0) (omega arith) (hour-refused (drop 4 i) (program_query i) (omega arith, omega arith) (overlong (drop 4 i) k))
+    prints-answer i (Refused 13 0) (omega arith) (hour-refused (drop 4 i) (program_query i) (omega arith, omega arith) (overlong (drop 4 i) k))
 
 -- 4 hour bytes, 60,000 of a dossier, and one more to tell that it is too long: what comes after them changes nothing
 pub prints-cut : (i : List ℕ) → prints (take 60005 i) ≡ prints i
@@ -146,22 +145,21 @@ module _ (i e : List ℕ) (room : longest_report ≤ length e) (four : 4 ≤ len
   print-report n {b} t = go (query_answer (drop 4 i) (program_query i)) refl
     where
       go : (a : Answer) → query_answer (drop 4 i) (program_query i) ≡ a → Wrote (prints i) e n b
-      go Accepted p =
+      go (Ok x) p =
           let l : n ≡ length (report (drop 4 i) (program_query i)) = cc (told-answer Accepted p t).0 in
           rw (prints-answer i Accepted four p) (l, (told-answer Accepted p t).1)
-      go (Turned k q) p = let z : ◌≡◌ {A = ℕ} 0 1 = cc (told-answer (Turned k q) p t).0 in absurd (omega arith)
+      go (Err r) p = let z : ◌≡◌ {A = ℕ} 0 1 = cc (told-answer (Err r) p t).0 in absurd (omega arith)
 
   -- a refusal that is told is what is printed, and the buffer is as it was
-  pub print-refusal : (k q : ℕ) {b : List ℕ} → Told (drop 4 i) (program_query i) e (Refused k q) b → (prints i ≡ refusal_line k q) × (b ≡ e)
+  pub print-refusal : (r : Refusal) {b : List ℕ} → Told (drop 4 i) (program_query i) e (Err r) b → (prints i ≡ refusal_line r.number r.place) × (b ≡ e)
   unfolding printed buffer_with written is_accepted
-  print-refusal k q {b} t = go (query_answer (drop 4 i) (program_query i)) refl
+  print-refusal r {b} t = go (query_answer (drop 4 i) (program_query i)) refl
     where
-      go : (a : Answer) → query_answer (drop 4 i) (program_query i) ≡ a → (prints i ≡ refusal_line k q) × (b ≡ e)
-      go Accepted p = let z : ◌≡◌ {A = ℕ} 0 1 = cc (told-answer Accepted p t).0 in absurd (omega arith)
-      go (Turned k' q') p =
-          let f : k ≡ k' = cc (told-answer (Turned k' q') p t).0 in
-          let g : q ≡ q' = cc (told-answer (Turned k' q') p t).0 in
-          rw (f, g) (prints-answer i (Turned k' q') four p, (told-answer (Turned k' q') p t).1)
+      go : (a : Answer) → query_answer (drop 4 i) (program_query i) ≡ a → (prints i ≡ refusal_line r.number r.place) × (b ≡ e)
+      go (Ok x) p = let z : ◌≡◌ {A = ℕ} 0 1 = cc (told-answer Accepted p t).0 in absurd (omega arith)
+      go (Err s) p =
+          let f : r ≡ s = cc (told-answer (Err s) p t).0 in
+          rw f (prints-answer i (Err s) four p, (told-answer (Err s) p t).1)
 
 -- what the function tells its caller, with the buffer that it leaves: all is printed where every text fits, and else nothing
 pub told_text : (i e : List ℕ) {n : ℕ} {b : List ℕ} → longest_report ≤ length e → Wrote (prints i) e n b → (Bytes n ≡ print_answer i e) × (b ≡ buffer_printed i e)

@@ -1,8 +1,8 @@
 -- What the function that prints tells its caller, and what it leaves of a lent buffer: every buffer in which all texts fit will do, and no other.
 use Rattle.std.specs.Prelude.{Bool, cond, List, ℕ, ltb, length}
 use Rattle.text.specs.Text.{over}
-use Rattle.layout.specs.declared.Written.{Written}
-use Rattle.layout.specs.declared.Written.TheVariants.{Bytes, Refused}
+use Rattle.layout.specs.Written.{Written, Bytes}
+use Rattle.records.specs.Answers.{Refused}
 use Rattle.layout.specs.Report.{longest_report, prints}
 
 -- a buffer that is too short for some text: 15, whatever the input

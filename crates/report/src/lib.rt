@@ -1,36 +1,32 @@
 // The report, and what the program `levels` prints. The laws of both are in proofs/.
 #![tactic(auto)]
 
-ghost use Rattle.std.specs.Prelude.{◌≡◌, length};
+ghost use Rattle.std.specs.Prelude.{◌≡◌, ◌≤◌, length};
 ghost use Rattle.station.specs.InForce.{query};
-ghost use Rattle.lookup.specs.Parts.{Empty};
+ghost use Rattle.index.specs.Slots.{short, wide};
 ghost use Rattle.formulas.specs.Levels.{IsOwner};
 ghost use Rattle.layout.specs.Report.{written, report, report_answer, buffer_after};
 ghost use Rattle.report.specs.Print.{print_answer, buffer_printed};
 
 use layout::Written;
-use query::{Asked, Way};
+use lookup::Room;
+use records::Refusal;
 
-// The report of a dossier at an hour, written to a lent buffer; worked out in an empty index.
-fn report_in(d: &[u8], index: &mut [u16], hour: u32, owner: u8, buf: &mut [u8]) -> Written
-    requires { Empty index.old × IsOwner owner }
+// The report of a dossier at an hour, written to a lent buffer; worked out with an index of so many slots.
+fn report_in<const SLOTS: usize>(d: &[u8], hour: u32, owner: u8, buf: &mut [u8]) -> Written
+    requires { (short ≤ SLOTS) × (SLOTS ≤ wide) × IsOwner owner }
     ensures answer { result ≡ written (report_answer d.now (query hour owner) (length buf.old)) (length (report d.now (query hour owner))) }
     ensures buffer { buf.new ≡ buffer_after d.now (query hour owner) buf.old }
 {
+    let mut index = [0u16; SLOTS];
     let mut sums = [0u64; 2];
-    match query::judge_at(d, hour, owner, index, &mut sums) {
-        Asked::Answered { profile } => {
-            let mut from = [0u64; 20];
-            let mut to = [0u64; 20];
-            let mut cents = [0u64; 20];
-            let lv = reference::profile_levels(
-                d, index, &sums, profile, &mut from, &mut to, &mut cents,
-            );
-            let retired = costs::maintenance::retired(d, index, profile);
-            lines::put_report(buf, lv, retired, &from, &to, &cents)
-        }
-        Asked::Refused { number, place } => Written::Refused { number, place },
-    }
+    let profile = query::judge_at(d, hour, owner, &mut index, &mut sums)?;
+    let mut from = [0u64; 20];
+    let mut to = [0u64; 20];
+    let mut cents = [0u64; 20];
+    let lv = reference::profile_levels(d, &index, &sums, profile, &mut from, &mut to, &mut cents);
+    let retired = costs::maintenance::retired(d, &index, profile);
+    lines::put_report(buf, lv, retired, &from, &to, &cents)
 }
 
 // The same of a dossier.
@@ -38,20 +34,10 @@ pub fn report(d: &[u8], hour: u32, owner: u8, buf: &mut [u8]) -> Written
     ensures answer { result ≡ written (report_answer d.now (query hour owner) (length buf.old)) (length (report d.now (query hour owner))) }
     ensures buffer { buf.new ≡ buffer_after d.now (query hour owner) buf.old }
 {
-    match query::way_in(d, owner) {
-        Way::Closed { number } => Written::Refused { number, place: 0 },
-        Way::Short => {
-            let mut index = [0u16; index::SHORT];
-            report_in(d, &mut index, hour, owner, buf)
-        }
-        Way::Narrow => {
-            let mut index = [0u16; index::NARROW];
-            report_in(d, &mut index, hour, owner, buf)
-        }
-        Way::Wide => {
-            let mut index = [0u16; index::WIDE];
-            report_in(d, &mut index, hour, owner, buf)
-        }
+    match query::way_in(d, owner)? {
+        Room::Short => report_in::<{ index::SHORT }>(d, hour, owner, buf),
+        Room::Narrow => report_in::<{ index::NARROW }>(d, hour, owner, buf),
+        Room::Wide => report_in::<{ index::WIDE }>(d, hour, owner, buf),
     }
 }
 
@@ -65,18 +51,16 @@ pub fn print(input: &[u8], out: &mut [u8]) -> Written
     ensures buffer { out.new ≡ buffer_printed input.now out.old }
 {
     if out.len() < layout::LONGEST {
-        return Written::Refused {
+        return Err(Refusal {
             number: 15,
             place: 0,
-        };
+        });
     }
     if input.len() < 4 {
-        return Written::Bytes(text::put_refusal(out, 16, 0));
+        return Ok(text::put_refusal(out, 16, 0));
     }
     match report(&input[4..], fields::u32_at(input, 0), PROGRAM_OWNER, out) {
-        Written::Bytes(len) => Written::Bytes(len),
-        Written::Refused { number, place } => {
-            Written::Bytes(text::put_refusal(out, number, place))
-        }
+        Ok(len) => Ok(len),
+        Err(refusal) => Ok(text::put_refusal(out, refusal.number, refusal.place)),
     }
 }

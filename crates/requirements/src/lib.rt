@@ -1,9 +1,9 @@
 // 7, 8, 9 and 17: the curve, the fuel, the window and the forecast.
 #![tactic(auto)]
 
-ghost use Rattle.std.specs.Prelude.{◌≡◌, ◌-◌, ◌≤◌, length};
+ghost use Rattle.std.specs.Prelude.{◌≡◌, ◌≤◌, length};
 ghost use Rattle.lists.specs.Tests.{all_to};
-ghost use Rattle.records.specs.Table.{FU, HR, FP};
+ghost use Rattle.records.specs.Table.{FU};
 ghost use Rattle.records.specs.Dossier.{records};
 ghost use Rattle.station.specs.Parameters.{parameters};
 ghost use Rattle.lookup.specs.Parts.{Whole, Indexed, Complete};
@@ -12,14 +12,7 @@ ghost use Rattle.rules.specs.Curve.{curve_holds, curve_fits, fuel_holds, window_
 ghost use Rattle.rules.specs.Answer.{unsupported};
 
 use index::{slots_empty, slots_full};
-use records::Answer;
-
-// What a curve rises by from one point to the next, 0 where it doesn't.
-fn rise(a: u64, b: u64) -> u64
-    ensures { result ≡ b - a }
-{
-    if a < b { b - a } else { 0 }
-}
+use records::{Answer, Refusal};
 
 // The curve of n points, from each point to the next. Slopes are compared by multiplying across.
 fn curve_holds(d: &[u8], index: &[u16], n: usize) -> bool
@@ -31,19 +24,17 @@ fn curve_holds(d: &[u8], index: &[u16], n: usize) -> bool
     let mut h = parameters::heat(d, index, 1);
     let mut dw = 0;
     let mut dh = 0;
-    let mut i = 1;
-    while i < n {
+    for i in 1..n {
         let there = 0 < lookup::hp(d, index, i + 1).len();
         let w1 = parameters::output(d, index, i + 1);
         let h1 = parameters::heat(d, index, i + 1);
-        let a = rise(w, w1);
-        let b = rise(h, h1);
-        ok = ok & (there & (w < w1) & (h <= h1) & (dh * a <= b * dw));
+        let a = w1.saturating_sub(w);
+        let b = h1.saturating_sub(h);
+        ok &= there & (w < w1) & (h <= h1) & (dh * a <= b * dw);
         w = w1;
         h = h1;
         dw = a;
         dh = b;
-        i += 1;
     }
     ok & (w == parameters::capacity(d, index))
 }
@@ -92,10 +83,8 @@ fn requests_fuelled(d: &[u8], index: &[u16]) -> bool
         return true;
     }
     let mut ok = true;
-    let mut n = 0;
-    while n < 16 {
-        n += 1;
-        ok = ok & request_fuelled(d, index, n);
+    for n in 1..=16 {
+        ok &= request_fuelled(d, index, n);
     }
     ok
 }
@@ -108,15 +97,7 @@ fn fuel_holds(d: &[u8], index: &[u16]) -> bool
     fuel_there(d, index, 1) & requests_fuelled(d, index)
 }
 
-// Whether hours 1 to n of the window are there, as their slots tell; an hour without a slot is not.
-fn hours_there(d: &[u8], index: &[u16], n: usize) -> bool
-    requires { Whole d.now index.now × Complete d.now index.now × (n ≤ 168) }
-    ensures { result ≡ all_to n ((parameters (records d.now)).has HR) }
-{
-    slots_full(index, index::keys::slot_hr(1), n)
-}
-
-// What 9 asks.
+// What 9 asks. Whether hours 1 to the window are there, their slots tell; an hour without a slot is not.
 fn window_fits(d: &[u8], index: &[u16]) -> bool
     requires { Whole d.now index.now × Complete d.now index.now }
     ensures { result ≡ window_fits (parameters (records d.now)) }
@@ -126,18 +107,10 @@ fn window_fits(d: &[u8], index: &[u16]) -> bool
     }
     let hours = parameters::full_hours(d, index);
     let window = parameters::window(d, index);
-    (0 < hours) & (hours <= (window as u64)) & hours_there(d, index, window)
+    (0 < hours) & (hours <= (window as u64)) & slots_full(index, index::keys::slot_hr(1), window)
 }
 
-// The same of places 1 to n of the forecast.
-fn places_there(d: &[u8], index: &[u16], n: usize) -> bool
-    requires { Whole d.now index.now × Complete d.now index.now × (n ≤ 4000) }
-    ensures { result ≡ all_to n ((parameters (records d.now)).has FP) }
-{
-    slots_full(index, index::keys::slot_fp(1), n)
-}
-
-// What 17 asks.
+// What 17 asks. The same of places 1 to the window of the forecast.
 fn forecast_fits(d: &[u8], index: &[u16]) -> bool
     requires { Whole d.now index.now × Complete d.now index.now }
     ensures { result ≡ forecast_fits (parameters (records d.now)) }
@@ -146,7 +119,7 @@ fn forecast_fits(d: &[u8], index: &[u16]) -> bool
         return true;
     }
     let window = parameters::window(d, index);
-    (50 <= window) & places_there(d, index, window)
+    (50 <= window) & slots_full(index, index::keys::slot_fp(1), window)
 }
 
 // 7, 8, 9 and 17.
@@ -156,16 +129,16 @@ pub fn unsupported_of(d: &[u8], index: &[u16]) -> Answer
 {
     let place = d.len();
     if !curve_fits(d, index) {
-        return Answer::Refused { number: 7, place };
+        return Err(Refusal { number: 7, place });
     }
     if !fuel_holds(d, index) {
-        return Answer::Refused { number: 8, place };
+        return Err(Refusal { number: 8, place });
     }
     if !window_fits(d, index) {
-        return Answer::Refused { number: 9, place };
+        return Err(Refusal { number: 9, place });
     }
     if !forecast_fits(d, index) {
-        return Answer::Refused { number: 17, place };
+        return Err(Refusal { number: 17, place });
     }
-    Answer::Accepted
+    Ok(())
 }

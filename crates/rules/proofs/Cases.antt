@@ -5,8 +5,7 @@ use mathlib.Core.List.{List, [], ◌∷◌, ◌++◌, map}
 use Prim.Native.Nat.{ℕ, zero, suc, ◌*◌}
 use lib.Dec.{leb, eqb}
 use Rattle.lists.specs.Lists.{Each, done, also, joined}
-use Rattle.records.specs.declared.Answer.{Answer}
-use Rattle.records.specs.declared.Answer.TheVariants.{Accepted, Refused}
+use Rattle.records.specs.Answers.{Answer, Accepted, Refused}
 use Rattle.records.specs.Table.{thermal, nuclear, storage, hydro, RS, HP, FU, AD, MM, RQ, HR, CH, TH, FP, LC, FV, AV, MV}
 use Rattle.records.specs.Made.{made, made_from}
 use Rattle.station.specs.Parameters.{Parameters}

@@ -5,10 +5,8 @@ use mathlib.Core.List.{List, []}
 use Prim.Native.Nat.{ℕ, ◌<◌}
 use lib.Dec.{ltb}
 use lib.ListN.{length}
-use Rattle.records.specs.declared.Answer.{Answer}
-use Rattle.records.specs.declared.Answer.TheVariants.{Accepted, Refused}
 use Rattle.records.specs.Table.{RS}
-use Rattle.records.specs.Answers.{or_else, refuse_if}
+use Rattle.records.specs.Answers.{Accepted, Answer, or_else, refuse_if, Refused}
 use Rattle.records.specs.Dossier.{records, scan}
 use Rattle.records.proofs.Answers.{or_else-assoc}
 use Rattle.records.proofs.Dossier.{joined-records}

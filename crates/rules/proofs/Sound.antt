@@ -10,10 +10,9 @@ use Rattle.lists.specs.Lists.{Each, done, also, Pairwise, none, more, Permutatio
 use Rattle.lists.specs.Tests.{all_below, among}
 use Rattle.lists.proofs.Lists.{each_map, each-permuted, member-each}
 use Rattle.lists.proofs.Tests.{and_left, and_right, below_at}
-use Rattle.records.specs.declared.Answer.TheVariants.{Accepted}
 use Rattle.records.specs.Table.{table, row_of, field_of, RS}
 use Rattle.records.specs.Record.{datable, mark, kind, since, value, told, in_range, agrees, ranges_hold, fault}
-use Rattle.records.specs.Answers.{or_else, refuse_if}
+use Rattle.records.specs.Answers.{Accepted, or_else, refuse_if}
 use Rattle.records.specs.Dossier.{records, scan}
 use Rattle.records.specs.Raise.{Raised}
 use Rattle.records.proofs.Record.{faultless, field-range, range-low}

@@ -12,9 +12,7 @@ use borrow.Author.Tests.{lt-ltb, le-ltb, ltb-false}
 use Rattle.lists.specs.Lists.{joined}
 use Rattle.lists.proofs.Sums.{up_to-length, up_to-at}
 use Rattle.records.specs.Table.{CH}
-use Rattle.records.specs.declared.Answer.{Answer}
-use Rattle.records.specs.declared.Answer.TheVariants.{Accepted, Refused}
-use Rattle.records.specs.Answers.{or_else, refuse_if, is_accepted}
+use Rattle.records.specs.Answers.{Accepted, Answer, or_else, refuse_if, is_accepted, Refused}
 use Rattle.records.specs.Made.{minus, made}
 use Rattle.records.proofs.Answers.{or_else-parts, not-refuse_if}
 use Rattle.station.specs.Current.{readable}

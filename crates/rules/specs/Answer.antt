@@ -1,10 +1,8 @@
 -- The whole answer to a dossier.
 use Rattle.std.specs.Prelude.{◌≡◌, not, List, [], ℕ, ltb, length}
 use Rattle.lists.specs.Lists.{joined}
-use Rattle.records.specs.declared.Answer.{Answer}
-use Rattle.records.specs.declared.Answer.TheVariants.{Accepted}
 use Rattle.records.specs.Table.{RS}
-use Rattle.records.specs.Answers.{or_else, refuse_if}
+use Rattle.records.specs.Answers.{Accepted, Answer, or_else, refuse_if}
 use Rattle.records.specs.Dossier.{records, scan}
 use Rattle.station.specs.Current.{longest, twins}
 use Rattle.station.specs.Parameters.{Parameters, parameters, technology}

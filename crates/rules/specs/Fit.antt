@@ -1,10 +1,9 @@
 -- 6: what a technology may have, and the first record that counts at some hour and that it may not.
 use Rattle.std.specs.Prelude.{Bool, true, cond, ◌&&◌, ◌||◌, not, List, [], ◌∷◌, ℕ, ◌≤◌, ltb, eqb, length}
 use Rattle.lists.specs.Tests.{all_below, among}
-use Rattle.records.specs.declared.Answer.{Answer}
 use Rattle.records.specs.Table.{Field, row_of, field_of, thermal, nuclear, storage, hydro, AD, TH, AO}
 use Rattle.records.specs.Record.{mark, kind_of, value}
-use Rattle.records.specs.Answers.{refuse_if}
+use Rattle.records.specs.Answers.{Answer, refuse_if}
 use Rattle.records.specs.Dossier.{first_drawn}
 use Rattle.station.specs.InForce.{counts}
 

@@ -1,7 +1,6 @@
 -- The week that is asked for: the answer to a dossier, and its prices and energies in two lent lists.
 use Rattle.std.specs.Prelude.{cond, ◌||◌, List, ◌++◌, ℕ, ltb, ℤ, length, drop}
-use Rattle.records.specs.declared.Answer.{Answer}
-use Rattle.records.specs.Answers.{or_else, refuse_if, is_accepted}
+use Rattle.records.specs.Answers.{Answer, or_else, refuse_if, is_accepted}
 use Rattle.station.specs.Week.{intervals, week_prices, week_energies}
 use Rattle.rules.specs.Answer.{answer}
 

@@ -5,10 +5,9 @@ ghost use Rattle.std.specs.Prelude.{◌≡◌};
 ghost use Rattle.rules.specs.Fit.{holds};
 
 // Whether a technology holds a level.
+#[tactic(auto, unfolding(crate::specs::Fit::holds, crate::specs::Fit::levels_of, lists::specs::Tests::among))]
 pub fn level_held(t: u8, level: u8) -> bool
     ensures { result ≡ holds t level }
 {
-    (t == 1) & ((level == 1) | (level == 2) | (level == 3) | (level == 4))
-        | (t == 2) & (level == 1)
-        | ((t == 3) | (t == 4)) & ((level == 1) | (level == 4))
+    matches!((t, level), (1, 1..=4) | (2, 1) | (3 | 4, 1 | 4))
 }

@@ -13,8 +13,7 @@ use Rattle.lists.proofs.Lists.{each_map, member-each}
 use Rattle.lists.proofs.Tests.{and_left, and_right, cond-relates}
 use Rattle.fields.specs.Numbers.{number}
 use Rattle.records.specs.Record.{mark, kind, key_width, issue, key_of}
-use Rattle.records.specs.declared.Answer.TheVariants.{Refused}
-use Rattle.records.specs.Answers.{or_else, refuse_if}
+use Rattle.records.specs.Answers.{or_else, refuse_if, Refused}
 use Rattle.records.specs.Raise.{Raised}
 use Rattle.records.proofs.Dated.{kind-fields}
 use Rattle.records.proofs.Raise.{raised-kind, raised-issue, raised-key, raised-nil}

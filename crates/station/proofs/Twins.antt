@@ -10,9 +10,8 @@ use borrow.Author.Tests.{leb-true, leb-false, eqb-true, eqb-false, eq-eqb, ne_eq
 use Rattle.lists.specs.Lists.{Each, done, also, Pairwise, none, more, Permutation, empty, keep, swap, then, those}
 use Rattle.lists.proofs.Lists.{each-permuted, each_of, those-each}
 use Rattle.lists.proofs.Tests.{or-false-left, or-false-right}
-use Rattle.records.specs.declared.Answer.TheVariants.{Accepted}
 use Rattle.records.specs.Record.{kind, issue, key_of}
-use Rattle.records.specs.Answers.{refuse_if}
+use Rattle.records.specs.Answers.{Accepted, refuse_if}
 use Rattle.records.specs.Raise.{Raised}
 use Rattle.records.proofs.Answers.{or_else-parts, parts-or_else, not-refuse_if, refuse_if-not}
 use Rattle.records.proofs.Raise.{raised-kind, raised-issue, raised-key}

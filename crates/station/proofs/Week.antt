@@ -4,9 +4,8 @@ use mathlib.Core.List.{List}
 use Prim.Native.Nat.{ℕ}
 use Rattle.fields.specs.Numbers.{unbiased, biased_of}
 use Rattle.fields.proofs.Numbers.{biased_of-unbiased}
-use Rattle.records.specs.declared.Answer.TheVariants.{Accepted}
 use Rattle.records.specs.Table.{table, row_of, field_of, CH}
-use Rattle.records.specs.Answers.{is_accepted}
+use Rattle.records.specs.Answers.{Accepted, is_accepted}
 use Rattle.records.specs.Dossier.{records}
 use Rattle.station.specs.Current.{current, readable, lookup}
 use Rattle.station.specs.Parameters.{parameters, amounts, charge_price, charge_energy}

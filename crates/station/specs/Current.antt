@@ -1,9 +1,7 @@
 -- The current record of a kind and key; 4; the lookup. "A key is shared by old and new mark", so it is a kind that has keys: FU's for FU and FV.
 use Rattle.std.specs.Prelude.{Bool, false, cond, ◌&&◌, ◌||◌, List, [], ◌∷◌, ℕ, ◌+◌, leb, ltb, eqb, length}
 use Rattle.fields.specs.Numbers.{number}
-use Rattle.records.specs.declared.Answer.{Answer}
-use Rattle.records.specs.declared.Answer.TheVariants.{Accepted}
-use Rattle.records.specs.Answers.{or_else, refuse_if, is_accepted}
+use Rattle.records.specs.Answers.{Accepted, Answer, or_else, refuse_if, is_accepted}
 use Rattle.records.specs.Record.{mark, kind_of, kind, key_width, issue, key_of}
 use Rattle.records.specs.Dossier.{records, scan}
 

@@ -4,9 +4,10 @@ use mathlib.Core.Path.{◌≡◌, refl, sym, ap, ◌∙◌}
 use mathlib.Core.Bool.{Bool, true, false}
 use mathlib.Core.Logic.{⊎_elim}
 use mathlib.Core.List.Memᴰ
-use mathlib.Core.List.{List, ◌++◌, foldl, foldl-append, Memᴰ}
+use mathlib.Core.List.{List, [], ◌++◌, foldl, foldl-append, Memᴰ}
 use Prim.Native.Nat.{ℕ, zero, suc, ◌+◌, ◌-◌, ◌*◌, ◌/◌, ◌%◌, ◌^◌, ◌<◌, ◌≤◌}
 use native.Mathlib.Nat.{pow-suc, one-le-pow}
+use native.Mathlib.Numerals.{add-one}
 use native.Mathlib.Omega.{arith}
 use borrow.Author.Tests.{lt-ltb, le-ltb, ltb-true, ltb-false}
 use lib.Dec.{ltb}
@@ -110,3 +111,22 @@ decimal-no-leading-zero n h =
       simp length-append (omega arith),
       λ e. omega (arith, p.1 (rw (get_or-append t (digit (n % 10)) 0 0 p.0) at e)),
     )) 19 n h).1
+
+-- ---- the last digits of a number, as many as there are places for
+
+unfoldable pub last_digits : ℕ → ℕ → List ℕ
+last_digits zero n = []
+last_digits (suc k) n = last_digits k (n / 10) ++ digit (n % 10)
+
+-- in its own length they are all of it
+pub decimal-digits_all : (n : ℕ) → n < 10 ^ 20 → last_digits (length (decimal n)) n ≡ decimal n
+unfolding decimal last_digits
+decimal-digits_all n h =
+    by_digits (λ (m : ℕ) (t : List ℕ). last_digits (length t) m ≡ t)
+    (λ m p. ap digit (omega arith))
+    (λ m t p e. rw (length-append t (digit (m % 10)), add-one) (rw e refl)) 19 n h
+
+-- a power of ten that is not the first is at least ten
+pub ten-le : (k : ℕ) → 0 < k → 10 ≤ 10 ^ k
+ten-le zero h = absurd (omega arith)
+ten-le (suc k) h = rw pow-suc (omega (arith, one-le-pow k 10 (omega arith)))

@@ -1,7 +1,7 @@
 // How the report's numbers and words are written as bytes, each at the front of a lent buffer. A
 // writer returns how many bytes it wrote; the next one is lent the buffer from there on. The
 // lengths can be had before anything is written.
-#![tactic(auto)]
+#![tactic(auto, using(crate::proofs::Lengths::lengths))]
 
 ghost use Rattle.std.specs.Prelude.{◌≡◌, ◌++◌, ◌+◌, ◌<◌, ◌≤◌, length};
 ghost use Rattle.text.specs.Text.{over, decimal, tenths, hundredths, refusal_line};
@@ -15,19 +15,11 @@ pub fn put(buf: &mut [u8], word: &[u8]) -> usize
     word.len()
 }
 
-// How many digits a number has: one more than the power of ten that it reaches. The power is held
-// against a tenth of the number, so that it never passes a u64.
+// How many digits a number has; 0 has one.
 pub fn decimal_len(n: u64) -> usize
     ensures { result ≡ length (decimal n) }
 {
-    let tenth = n / 10;
-    let mut tens = 0;
-    let mut power = 1;
-    while power <= tenth {
-        power *= 10;
-        tens += 1;
-    }
-    tens + 1
+    n.max(1).ilog10() as usize + 1
 }
 
 // A digit's byte.
@@ -35,7 +27,7 @@ fn digit(d: u64) -> u8
     requires { d < 10 }
     ensures { result ≡ 48 + d }
 {
-    (48 + d) as u8
+    b'0' + d as u8
 }
 
 // A number. Its length is found first, so that each digit, from the last on, goes straight to its
@@ -45,14 +37,11 @@ pub fn put_decimal(buf: &mut [u8], n: u64) -> usize
     ensures { (result ≡ length (decimal n)) × (buf.new ≡ over (decimal n) buf.old) }
 {
     let len = decimal_len(n);
-    let mut i = len;
     let mut m = n;
-    while 10 <= m {
-        i -= 1;
+    for i in (0..len).rev() {
         buf[i] = digit(m % 10);
         m /= 10;
     }
-    buf[0] = digit(m);
     len
 }
 

@@ -9,11 +9,9 @@ use lib.Dec.{ltb}
 use borrow.Author.Tests.{ltb-true, ltb-false}
 use Rattle.lists.proofs.Tests.{split as either}
 use Rattle.fields.specs.Numbers.{number}
-use Rattle.records.specs.declared.Answer.{Answer}
-use Rattle.records.specs.declared.Answer.TheVariants.{Accepted, Refused}
 use Rattle.records.specs.Record.{mark, size, issue, fault}
 use Rattle.records.specs.MarkShapes.{shortest}
-use Rattle.records.specs.Answers.{or_else, refuse_if}
+use Rattle.records.specs.Answers.{Accepted, Answer, or_else, refuse_if, Refused}
 use Rattle.records.specs.Dossier.{records, scan}
 use Rattle.records.specs.Walk.{Record, found}
 use Rattle.records.proofs.Dossier.{scan-each}

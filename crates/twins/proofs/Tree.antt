@@ -9,7 +9,6 @@ use lib.Dec.{ltb}
 use lib.ListN.{length, get_or, set, length-set, replicate, length-replicate, get_or-replicate, get_or-eq_default}
 use lib.Seq.{get_or-set_same, get_or-set_other}
 use borrow.Author.Tests.{ltb-true, ltb-false}
-use Rattle.records.specs.MarkShapes.{shortest}
 use Rattle.twins.specs.Tree.{halves, place, node, Open, Shape, Fresh}
 use Rattle.twins.proofs.Root.{root-lt}
 
@@ -138,8 +137,3 @@ bare {n} {bytes} {l} ids f =
 
     zero-at : (a : ℕ) → get_or l a 0 ≡ 0
     zero-at a = ap (λ (m : List ℕ). get_or m a 0) f.none ∙ go a (ltb a size) refl
-
--- two cleared arrays hold such a tree
-pub fresh : (n nodes : ℕ) {bytes : ℕ} → 0 < n → n ≤ 65536 → nodes ≤ 65535 → bytes + shortest < shortest * nodes
-    → Fresh n (replicate (n + 2 * nodes) 0) (length (replicate {A = ℕ} nodes 0)) bytes
-fresh n nodes p q r s = rw length-replicate (record { some = p; few = q; none = refl; narrow = r; room = s })

@@ -10,7 +10,7 @@ use lib.IntN.{pos, negsuc}
 use lib.ListN.{replicate}
 use Rattle.lists.specs.Lists.{Each, done, also, joined}
 use Rattle.fields.specs.Numbers.{bias}
-use Rattle.records.specs.declared.Answer.TheVariants.{Accepted, Refused as Turned}
+use Rattle.records.specs.Answers.{Accepted, Refused as Turned}
 use Rattle.records.specs.Table.{RS, HP, FU, AD, RQ, TH, FV}
 use Rattle.records.specs.Made.{minus, made, made_from, pair}
 use Rattle.station.specs.InForce.{query}

@@ -11,8 +11,8 @@ use borrow.Author.Tests.{eqb-true, eqb-false, not-false}
 use Rattle.lists.specs.Tests.{every_of, between, among}
 use Rattle.lists.proofs.Tests.{and_left, and_right, or-false-left, or-false-right, between-low, between-high}
 use Rattle.fields.specs.Numbers.{biased_of}
-use Rattle.records.specs.declared.Answer.{Answer}
-use Rattle.records.specs.declared.Answer.TheVariants.{Accepted, Refused as Turned}
+use Rattle.records.specs.Answers.{Answer}
+use Rattle.records.specs.Answers.{Accepted, Refused as Turned}
 use Rattle.records.specs.Table.{TH}
 use Rattle.records.proofs.Answers.{not-refuse_if, or_else-parts}
 use Rattle.station.specs.InForce.{Query}

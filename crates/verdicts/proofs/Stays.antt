@@ -9,8 +9,10 @@ use lib.Dec.{leb, ltb, eqb}
 use lib.ListN.{length}
 use borrow.Author.Tests.{ltb-false, le-ltb}
 use Rattle.lists.specs.Lists.{Pairwise, none, more}
-use Rattle.records.specs.declared.Answer.{Answer}
-use Rattle.records.specs.declared.Answer.TheVariants.{Accepted, Refused as Turned}
+use Rattle.std.specs.Prelude.{Ok, Err}
+use Rattle.records.specs.Answers.{Answer}
+use Rattle.std.specs.Prelude.{Ok, Err}
+use Rattle.records.specs.Answers.{Accepted, Refused as Turned}
 use Rattle.station.specs.Parameters.{Parameters, percent, margin, floor}
 use Rattle.formulas.specs.Levels.{Line, amount, NoLower}
 use Rattle.formulas.proofs.Sums.{min-mono}
@@ -67,8 +69,8 @@ under-keeps s c v price x y h e = pass-stays (percent s c v) (margin s c v) (flo
 
 pub settle-stays : (z : Answer) {v w : Verdict} → (v ≡ Passes → w ≡ Passes) → settle z v ≡ Passes → settle z w ≡ Passes
 unfolding settle
-settle-stays Accepted f e = f e
-settle-stays (Turned n p) f e = e
+settle-stays (Ok x) f e = f e
+settle-stays (Err r) f e = e
 
 module _ (s : Parameters) (c : ℕ) {l m : List Line} (a : Pairwise NoLower l m) where
   from-stays : (o : List ℕ) (k n : ℕ) → offer_from s c l o k n ≡ Passes → offer_from s c m o k n ≡ Passes

@@ -1,11 +1,9 @@
 -- 10 and 11, which the trader mends; 12 and 14, which the desk mends.
 use Rattle.std.specs.Prelude.{Bool, ◌&&◌, ◌||◌, not, List, [], ◌∷◌, ℕ, zero, suc, ◌+◌, ◌*◌, ◌/◌, ◌%◌, leb, ltb, eqb, length}
 use Rattle.lists.specs.Tests.{every, between}
-use Rattle.records.specs.declared.Answer.{Answer}
-use Rattle.records.specs.declared.Answer.TheVariants.{Accepted}
 use Rattle.records.specs.Table.{TH, price}
 use Rattle.records.specs.Record.{in_range}
-use Rattle.records.specs.Answers.{or_else, refuse_if}
+use Rattle.records.specs.Answers.{Accepted, Answer, or_else, refuse_if}
 use Rattle.station.specs.Parameters.{Parameters, technology, capacity, threshold_key}
 use Rattle.rules.specs.Fit.{energy, holds}
 use Rattle.verdicts.specs.Test.{quantity, price_at, before}

@@ -1,8 +1,8 @@
 -- The verdict on an offer, of a dossier as bytes.
-use Rattle.std.specs.Prelude.{List, [], ◌∷◌, ℕ, ◌/◌, ℤ, length}
+use Rattle.std.specs.Prelude.{List, [], ◌∷◌, ℕ, ◌/◌, ℤ, length, Result, Ok, Err}
 use Rattle.fields.specs.Numbers.{biased_of}
-use Rattle.records.specs.declared.Answer.{Answer}
-use Rattle.records.specs.declared.Answer.TheVariants.{Accepted, Refused as Turned}
+use Rattle.records.specs.Answers.{Answer}
+use Rattle.records.specs.declared.Refusal.{Refusal}
 use Rattle.station.specs.InForce.{Query}
 use Rattle.station.specs.Parameters.{Parameters}
 use Rattle.formulas.specs.Levels.{parameters_at, query_answer, Line, levels}
@@ -13,8 +13,13 @@ use Rattle.verdicts.specs.Refusals.{offer_refusal, price_refusal}
 
 -- a refusal comes before the test: "one that draws no refusal and doesn't fail passes"
 unfoldable pub settle : Answer → Verdict → Verdict
-settle Accepted v = v
-settle (Turned n p) v = Refused n p
+settle (Ok x) v = v
+settle (Err r) v = Refused r.number r.place
+
+-- of what was tested, or refused before
+unfoldable pub verdict_of : Result Verdict Refusal → Verdict
+verdict_of (Ok v) = v
+verdict_of (Err r) = Refused r.number r.place
 
 -- "a definition gives this paper's number and values for each case": 0 passes; 1 fails, with pair and lamination; 2 refused, with number and place
 unfoldable pub numbers : Verdict → List ℕ

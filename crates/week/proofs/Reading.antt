@@ -15,7 +15,7 @@ use Rattle.lists.specs.Lists.{Each, done, also}
 use Rattle.lists.proofs.Tests.{split}
 use Rattle.fields.specs.Numbers.{number, biased, unbiased}
 use Rattle.fields.proofs.Numbers.{number-nil}
-use Rattle.records.specs.declared.Answer.TheVariants.{Accepted}
+use Rattle.records.specs.Answers.{Accepted}
 use Rattle.records.specs.Table.{table, row_of, CH}
 use Rattle.records.specs.Record.{mark, size, fault, issue, key_in, key_width, key_of, ranges_hold, datable, fields_at}
 use Rattle.records.specs.Dossier.{first_of, rest_of, records_in, records}

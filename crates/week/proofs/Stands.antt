@@ -1,43 +1,43 @@
 -- A list of the week: cleared, with one interval put, and whole.
-use mathlib.Core.Path.{◌≡◌, refl, ap, sym, ◌∙◌}
+use mathlib.Core.Path.{◌≡◌, refl, ap, sym, subst, ◌∙◌}
 use mathlib.Core.Bool.{Bool, true, false, cond}
 use mathlib.Core.List.{List, ◌++◌}
 use Prim.Native.Nat.{ℕ, suc, ◌+◌, ◌-◌, ◌≤◌, ◌<◌}
 use native.Mathlib.Decide.{ℕ_discrete, dec_lt}
 use native.Mathlib.Omega.{arith}
 use lib.Dec.{ltb}
-use lib.ListN.{length, get_or, set, drop, length-append, length-drop, length-set, get_or-append}
-use lib.Seq.{ext_get_or, get_or-append-add, get_or-drop, get_or-set_same, get_or-set_other}
-use borrow.Author.Tests.{lt-ltb, le-ltb, ltb-true, ltb-false}
+use lib.ListN.{length, get_or, set, take, drop, replicate, length-append, length-drop, length-set, length-replicate, get_or-append, get_or-replicate}
+use lib.Seq.{length-take-le, ext_get_or, get_or-append-add, get_or-drop, get_or-set_same, get_or-set_other}
+use borrow.Author.Tests.{lt-ltb, le-ltb, ltb-true}
 use Rattle.lists.specs.Sums.{up_to}
-use Rattle.lists.proofs.Tests.{split}
 use Rattle.station.specs.Week.{intervals}
 use Rattle.lists.proofs.Sums.{up_to-length, up_to-at}
 use Rattle.week.specs.Filled.{Stands}
 
 module _ {A : Type 0} (none : A) (before : List A) where
-  -- ---- cleared as far as place i
+  -- ---- cleared
 
-  pub record Cleared (i : ℕ) (l : List A) : Type 0 where
-    pub long : length l ≡ length before
-    pub places : (k : ℕ) → get_or l k none ≡ cond (ltb k i) none (get_or before k none)
-
-  pub cleared-none : Cleared 0 before
-  cleared-none = record { long = refl; places = λ k. rw (le-ltb k 0 (omega arith)) refl }
-
-  pub cleared-next : (i : ℕ) (l : List A) → i < length before → Cleared i l → Cleared (i + 1) (set l i none)
-  cleared-next i l h c = record { long = length-set l i none ∙ c.long; places = λ k. go k (ℕ_discrete k i) }
+  -- the places of the first i intervals, filled by as many of `none`, l
+  pub cleared : (i : ℕ) {l : List A} → i ≡ intervals → i ≤ length before → l ≡ replicate (length (take i before)) none
+      → Stands none (λ n. none) before (l ++ drop i before)
+  cleared i e h f =
+      let n : length (take i before) ≡ i = length-take-le i before h in
+      rw (f, n)
+      (record {
+        long = length-append (replicate i none) (drop i before) ∙ rw (length-replicate i none, length-drop i before) (omega arith);
+        places = λ k. subst (λ (j : ℕ). get_or (replicate i none ++ drop i before) k none ≡ cond (ltb k j) none (get_or before k none)) e (go k (dec_lt k i));
+      })
     where
-      go : (k : ℕ) → Dec (k ≡ i) → get_or (set l i none) k none ≡ cond (ltb k (i + 1)) none (get_or before k none)
-      go k (yes e) = rw (e, get_or-set_same l i none none (omega (arith, h, c.long)), lt-ltb i (i + 1) (omega arith)) refl
-      go k (no e) =
-          get_or-set_other l i k none none e ∙ c.places k ∙ ap (λ (b : Bool). cond b none (get_or before k none))
-          (split (ltb k i)
-          (λ t. t ∙ sym (lt-ltb k (i + 1) (omega (arith, ltb-true k i t))))
-          (λ f. f ∙ sym (le-ltb k (i + 1) (omega (arith, ltb-false k i f, e)))))
-
-  pub cleared-all : (i : ℕ) (l : List A) → i ≡ intervals → Cleared i l → Stands none (λ n. none) before l
-  cleared-all i l e c = record { long = c.long; places = λ k. c.places k ∙ ap (λ (j : ℕ). cond (ltb k j) none (get_or before k none)) e }
+      go : (k : ℕ) → Dec (k < i) → get_or (replicate i none ++ drop i before) k none ≡ cond (ltb k i) none (get_or before k none)
+      go k (yes p) =
+          get_or-append (replicate i none) (drop i before) none k (rw (length-replicate i none) p)
+          ∙ get_or-replicate i k none none p ∙ rw (lt-ltb k i p) refl
+      go k (no p) =
+          let e : k ≡ length (replicate i none) + (k - i) = rw (length-replicate i none) (omega arith) in
+          ap (λ (j : ℕ). get_or (replicate i none ++ drop i before) j none) e
+          ∙ get_or-append-add (replicate i none) (drop i before) (k - i) none
+          ∙ get_or-drop i before (k - i) none
+          ∙ rw (le-ltb k i (omega arith)) (ap (λ (j : ℕ). get_or before j none) (omega arith))
 
   -- ---- interval by interval
 

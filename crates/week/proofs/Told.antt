@@ -8,8 +8,9 @@ use lib.IntN.{ℤ}
 use lib.ListN.{length, drop}
 use borrow.Author.Tests.{ltb-false}
 use Rattle.lists.proofs.Tests.{or-false-left, or-false-right}
-use Rattle.records.specs.declared.Answer.TheVariants.{Accepted, Refused}
-use Rattle.records.specs.Answers.{or_else, refuse_if, is_accepted}
+use Rattle.std.specs.Prelude.{Err}
+use Rattle.records.specs.declared.Refusal.{Refusal}
+use Rattle.records.specs.Answers.{Accepted, or_else, refuse_if, is_accepted, Refused}
 use Rattle.station.specs.Week.{intervals, week_prices, week_energies}
 use Rattle.rules.specs.Answer.{answer}
 use Rattle.rules.specs.Week.{week_answer, prices_after, energies_after}
@@ -21,9 +22,9 @@ module _ (d : List ℕ) (p : List ℤ) (e : List ℕ) where
       → (Refused k i ≡ week_answer d (length p) (length e)) × (p ≡ prices_after d p e) × (e ≡ energies_after d p e)
   kept k i a = let z = refused-keeps d p e k i a in (sym a, sym z.0, sym z.1)
 
-  pub told-refusal : (k i : ℕ) → answer d ≡ Refused k i
-      → (Refused k i ≡ week_answer d (length p) (length e)) × (p ≡ prices_after d p e) × (e ≡ energies_after d p e)
-  told-refusal k i a = kept k i (refused-first d (length p) (length e) k i a)
+  pub told-refusal : (r : Refusal) → answer d ≡ Err r
+      → (Err r ≡ week_answer d (length p) (length e)) × (p ≡ prices_after d p e) × (e ≡ energies_after d p e)
+  told-refusal r a = kept r.number r.place (refused-first d (length p) (length e) r.number r.place a)
 
   -- of an accepted dossier
   module _ (h : answer d ≡ Accepted) where

@@ -6,42 +6,18 @@ ghost use Rattle.fields.specs.Numbers.{unbiased};
 ghost use Rattle.records.specs.Table.{CH};
 ghost use Rattle.records.specs.Record.{mark, size};
 ghost use Rattle.station.specs.Week.{intervals, week_prices, week_energies};
-ghost use Rattle.index.specs.Slots.{slot, narrow};
-ghost use Rattle.lookup.specs.Parts.{Empty, Whole};
+ghost use Rattle.index.specs.Slots.{slot, narrow, wide};
+ghost use Rattle.lookup.specs.Parts.{Whole};
 ghost use Rattle.rules.specs.Answer.{IsAccepted};
 ghost use Rattle.rules.specs.Week.{week_answer, prices_after, energies_after};
 ghost use Rattle.week.specs.Filled.{Stands, Filled};
 
 use index::charging::Interval;
 use lookup::Room;
-use records::Answer;
+use records::{Answer, Refusal};
 
 // How many intervals a week has.
 pub const INTERVALS: usize = 2016;
-
-// No price in any interval. Each list is cleared by itself, which the compiler does in one go.
-fn clear_prices(prices: &mut [i32])
-    requires { intervals ≤ length prices.old }
-    ensures { Stands (pos 0) (λ n. pos 0) prices.old prices.new }
-{
-    let mut i = 0;
-    while i < INTERVALS {
-        prices[i] = 0;
-        i += 1;
-    }
-}
-
-// No energy in any interval.
-fn clear_energies(energies: &mut [u32])
-    requires { intervals ≤ length energies.old }
-    ensures { Stands 0 (λ n. 0) energies.old energies.new }
-{
-    let mut i = 0;
-    while i < INTERVALS {
-        energies[i] = 0;
-        i += 1;
-    }
-}
 
 // A price that is held plus 2^31, in cents.
 fn cents(price: u64) -> i32
@@ -89,40 +65,36 @@ fn put_week(d: &[u8], index: &[u16], prices: &mut [i32], energies: &mut [u32])
     ensures { (prices.new ≡ week_prices d.now ++ drop intervals prices.old)
         × (energies.new ≡ week_energies d.now ++ drop intervals energies.old) }
 {
-    clear_prices(prices);
-    clear_energies(energies);
+    prices[..INTERVALS].fill(0);
+    energies[..INTERVALS].fill(0);
     if index::slots_empty(index, index::keys::slot_ch(1), INTERVALS) {
         return;
     }
     let mut at = 0;
+    // each record says where the next lies, so nothing is counted here
     while at < d.len() {
         at = put_record(d, index, at, prices, energies);
     }
 }
 
-// The week of a dossier, with an empty index that has the slots of CH.
-fn week_in(d: &[u8], index: &mut [u16], prices: &mut [i32], energies: &mut [u32]) -> Answer
-    requires { Empty index.old × (narrow ≤ length index.old) }
+// The week of a dossier, with an index of so many slots, those of CH among them.
+fn week_in<const SLOTS: usize>(d: &[u8], prices: &mut [i32], energies: &mut [u32]) -> Answer
+    requires { (narrow ≤ SLOTS) × (SLOTS ≤ wide) }
     ensures { (result ≡ week_answer d.now (length prices.old) (length energies.old))
         × (prices.new ≡ prices_after d.now prices.old energies.old)
         × (energies.new ≡ energies_after d.now prices.old energies.old) }
 {
+    let mut index = [0u16; SLOTS];
     let mut sums = [0u64; 2];
-    let judged = acceptance::judge(d, index, &mut sums);
-    let answer = judged.answer;
-    match answer {
-        Answer::Accepted => {
-            if (prices.len() < INTERVALS) | (energies.len() < INTERVALS) {
-                return Answer::Refused {
-                    number: 15,
-                    place: 0,
-                };
-            }
-            put_week(d, index, prices, energies);
-            Answer::Accepted
-        }
-        Answer::Refused { number, place } => Answer::Refused { number, place },
+    acceptance::judge(d, &mut index, &mut sums)?;
+    if (prices.len() < INTERVALS) | (energies.len() < INTERVALS) {
+        return Err(Refusal {
+            number: 15,
+            place: 0,
+        });
     }
+    put_week(d, &index, prices, energies);
+    Ok(())
 }
 
 // The same of a dossier. Whatever else it wants, its index has the slots of CH.
@@ -131,22 +103,8 @@ pub fn week(d: &[u8], prices: &mut [i32], energies: &mut [u32]) -> Answer
         × (prices.new ≡ prices_after d.now prices.old energies.old)
         × (energies.new ≡ energies_after d.now prices.old energies.old) }
 {
-    match lookup::room_for(d) {
-        Room::TooLong => Answer::Refused {
-            number: 13,
-            place: 0,
-        },
-        Room::Wide => {
-            let mut index = [0u16; index::WIDE];
-            week_in(d, &mut index, prices, energies)
-        }
-        Room::Narrow => {
-            let mut index = [0u16; index::NARROW];
-            week_in(d, &mut index, prices, energies)
-        }
-        Room::Short => {
-            let mut index = [0u16; index::NARROW];
-            week_in(d, &mut index, prices, energies)
-        }
+    match lookup::room_for(d)? {
+        Room::Wide => week_in::<{ index::WIDE }>(d, prices, energies),
+        Room::Narrow | Room::Short => week_in::<{ index::NARROW }>(d, prices, energies),
     }
 }

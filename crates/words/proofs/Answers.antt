@@ -5,9 +5,9 @@ use Prim.Native.Nat.{ℕ, zero, suc, ◌<◌, ◌≤◌}
 use native.Mathlib.Omega.{arith}
 use borrow.Author.Tests.{lt-ltb, le-ltb}
 use lib.ListN.{length, get_or, drop, length-map}
-use Rattle.records.specs.declared.Answer.{Answer}
-use Rattle.records.specs.declared.Answer.TheVariants.{Accepted, Refused}
-use Rattle.records.specs.Answers.{or_else, refuse_if, is_accepted}
+use Rattle.std.specs.Prelude.{Err}
+use Rattle.records.specs.declared.Refusal.{Refusal}
+use Rattle.records.specs.Answers.{Accepted, Answer, or_else, refuse_if, is_accepted, Refused}
 use Rattle.station.specs.InForce.{Query}
 use Rattle.arrays.specs.declared.HourLevels.{HourLevels}
 use Rattle.formulas.specs.Levels.{query_answer, Line, amount}
@@ -33,9 +33,9 @@ module _ (d : List ℕ) (q : Query) (e : List ℕ) where
   told-few a l = rw (a, lt-ltb (length e) 66 l) (refl, refl)
 
   -- a refused dossier's refusal comes first
-  pub told-refusal : (k p : ℕ) → query_answer d q ≡ Refused k p → Told d q e (Refused k p) e
+  pub told-refusal : (r : Refusal) → query_answer d q ≡ Err r → Told d q e (Err r) e
   unfolding words_answer words_after or_else is_accepted
-  told-refusal k p a = rw a (refl, refl)
+  told-refusal r a = rw a (refl, refl)
 
 -- ---- what `profile_levels` hands over has nothing past its laminations
 

@@ -4,8 +4,9 @@ use mathlib.Core.List.{List, [], ◌∷◌, ◌++◌, append_assoc}
 use Prim.Native.Nat.{ℕ, zero, suc, ◌+◌, ◌*◌, ◌-◌, ◌<◌, ◌≤◌}
 use native.Mathlib.Numerals.{add-one}
 use native.Mathlib.Omega.{arith}
-use lib.ListN.{length, get_or, take, drop, set, replicate, length-append, length-drop, length-set, length-replicate, get_or-replicate, replicate-append-replicate}
-use lib.Seq.{drop-cons, get_or-take}
+use lib.ListN.{length, get_or, take, drop, set, replicate, length-append, length-set, length-replicate, get_or-replicate}
+use lib.Seq.{drop-cons, get_or-take, length-take-le}
+use Rattle.std.proofs.lemmas.List.{take_at}
 use Rattle.arrays.specs.declared.HourLevels.{HourLevels}
 use Rattle.text.specs.Text.{over}
 use Rattle.text.proofs.Over.{Wrote, byte}
@@ -26,21 +27,13 @@ words_of-length r = simp length-append (omega (arith, words_to-length r.profile 
 
 -- ---- stores
 
--- a store leaves each place in the list
-pub within : (l : List ℕ) (i v : ℕ) {n : ℕ} → n < length l → n < length (set l i v)
-within l i v h = rw length-set h
+-- a list whose first n words were overwritten by as many zeros, f
+pub cleared : (n : ℕ) (e : List ℕ) {f : List ℕ} → n ≤ length e → f ≡ replicate (length (take n e)) 0 → f ++ drop n e ≡ replicate n 0 ++ drop n e
+cleared n e h p = let l : length (take n e) ≡ n = length-take-le n e h in rw (p, l)
 
--- one more word that is cleared
-pub clear_next : (e : List ℕ) (i : ℕ) {w : List ℕ} → i < length e → Wrote (replicate i 0) e i w → Wrote (replicate (i + 1) 0) e (i + 1) (set w i 0)
-clear_next e i {w} h p =
-    let q : Wrote (replicate i 0 ++ (0 ∷ [])) e (i + 1) (set w i 0) = byte (replicate i 0) e 0 h p in
-    rw (← replicate-append-replicate {A = ℕ} i 1 0) q
-
-pub cleared-length : (e : List ℕ) (i : ℕ) {w : List ℕ} → i ≤ length e → Wrote (replicate i 0) e i w → length w ≡ length e
-cleared-length e i h (p, q) = rw (q, length-append, length-drop) (omega (arith, length-replicate {A = ℕ} i 0))
-
-pub all-cleared : (e : List ℕ) {i : ℕ} {w : List ℕ} → i ≡ 62 → Wrote (replicate i 0) e i w → w ≡ replicate 62 0 ++ drop 62 e
-all-cleared e k (p, q) = rw k at q
+-- begins with them
+pub cleared-front : (n : ℕ) (e : List ℕ) {w : List ℕ} → w ≡ replicate n 0 ++ e → take n w ≡ replicate n 0
+cleared-front n e p = rw p (take_at (replicate n 0) e n (length-replicate n 0))
 
 -- three words past those that stand
 three : (x e : List ℕ) (a b c : ℕ) {at : ℕ} {w : List ℕ} → at + 2 < length e → Wrote x e at w
@@ -121,19 +114,10 @@ next-words q r e i h k p =
     let b : 3 * i + 2 + 2 < length (begun q r e) = rw (length-set, length-set) (omega arith) in
     rw (l, add-one i) (three (words_to q r i) (begun q r e) (get_or r.from i 0) (get_or r.to i 0) (get_or r.cents i 0) b p)
 
--- the list is as long as it was
-pub wrote-length : (q : ℕ) (r : Arrays) (e : List ℕ) (i : ℕ) {w : List ℕ} → i ≤ 20 → 62 ≤ length e → Wrote (words_to q r i) (begun q r e) (3 * i + 2) w
-    → length w ≡ length e
-wrote-length q r e i h k (p, u) =
-    rw (u, length-append, length-drop, length-set, length-set) (omega (arith, words_to-length q r i))
-
 -- so after the words are cleared and the laminations put
 pub placed : (r : HourLevels) (e : List ℕ) {l w : List ℕ} → l ≡ replicate 62 0 ++ drop 62 e
     → w ≡ words_to r.profile (arrays_of r) 20 ++ drop 62 l → w ≡ words_to r.profile (arrays_of r) 20 ++ drop 62 e
 placed r e p q = q ∙ rw p refl
-
-pub placed-length : (r : HourLevels) (e : List ℕ) {w : List ℕ} → 62 ≤ length e → w ≡ words_to r.profile (arrays_of r) 20 ++ drop 62 e → length w ≡ length e
-placed-length r e h q = rw (q, length-append, length-drop) (omega (arith, words_to-length r.profile (arrays_of r) 20))
 
 -- the last four
 pub last-words : (r : HourLevels) (e : List ℕ) {b : ℕ} {w : List ℕ} → 66 ≤ length e → b ≡ held_bits r.technology → w ≡ words_to r.profile (arrays_of r) 20

@@ -1,7 +1,6 @@
 -- The levels at an hour as 66 numbers, for callers in other languages.
 use Rattle.std.specs.Prelude.{◌≡◌, cond, List, [], ◌∷◌, ◌++◌, ℕ, zero, suc, ◌+◌, ◌≤◌, ltb, length, get_or, drop}
-use Rattle.records.specs.declared.Answer.{Answer}
-use Rattle.records.specs.Answers.{or_else, refuse_if, is_accepted}
+use Rattle.records.specs.Answers.{Answer, or_else, refuse_if, is_accepted}
 use Rattle.rules.specs.Fit.{energy, start, no_load, reserve, holds}
 use Rattle.station.specs.InForce.{Query}
 use Rattle.formulas.specs.Levels.{query_answer}

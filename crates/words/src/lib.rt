@@ -4,38 +4,25 @@
 
 ghost use Rattle.std.specs.Prelude.{◌≡◌, ◌++◌, ◌≤◌, length, take, drop, replicate};
 ghost use Rattle.station.specs.InForce.{query};
-ghost use Rattle.lookup.specs.Parts.{Empty};
+ghost use Rattle.index.specs.Slots.{short, wide};
 ghost use Rattle.formulas.specs.Levels.{IsOwner};
 ghost use Rattle.arrays.specs.Packed.{hour_of, in_arrays};
 ghost use Rattle.words.specs.Words.{held_bits, Blank, words_to, words_of, words_answer, words_after};
 
 use arrays::SingleLevels;
-use lists::choose;
-use query::{Asked, Way};
-use records::Answer;
+use lookup::Room;
+use records::{Answer, Refusal};
 use rules::level_held;
 
 // The levels that a technology holds, a bit each.
 fn held_bits(technology: u8) -> u64
     ensures { result ≡ held_bits technology }
 {
-    let energy = choose(level_held(technology, 1), 1, 0);
-    let start = choose(level_held(technology, 2), 2, 0);
-    let noload = choose(level_held(technology, 3), 4, 0);
-    let reserve = choose(level_held(technology, 4), 8, 0);
-    (energy + start + noload + reserve) as u64
-}
-
-// Nothing in the profile, the number of laminations and their places.
-fn clear_words(words: &mut [u64])
-    requires { 62 ≤ length words.old }
-    ensures { words.new ≡ replicate 62 0 ++ drop 62 words.old }
-{
-    let mut i = 0;
-    while i < 62 {
-        words[i] = 0;
-        i += 1;
-    }
+    let energy = u64::from(level_held(technology, 1));
+    let start = 2 * u64::from(level_held(technology, 2));
+    let noload = 4 * u64::from(level_held(technology, 3));
+    let reserve = 8 * u64::from(level_held(technology, 4));
+    energy + start + noload + reserve
 }
 
 // The profile, the number of laminations, and from, to and level of each; the places behind them have nothing, and few have anything.
@@ -53,13 +40,11 @@ fn put_laminations<'a>(
 {
     words[0] = profile as u64;
     words[1] = count as u64;
-    let mut i = 0;
-    while i < count {
+    for i in 0..count {
         let at = 3 * i + 2;
         words[at] = from[i];
         words[at + 1] = to[i];
         words[at + 2] = cents[i];
-        i += 1;
     }
 }
 
@@ -74,7 +59,7 @@ fn put_words<'a>(
     requires { (66 ≤ length words.old) × Blank (in_arrays from.now to.now cents.now lv.count) }
     ensures { words.new ≡ words_of (hour_of lv from.now to.now cents.now) ++ drop 66 words.old }
 {
-    clear_words(words);
+    words[..62].fill(0);
     put_laminations(from, to, cents, lv.profile, lv.count, words);
     words[62] = held_bits(lv.technology);
     words[63] = lv.start;
@@ -82,32 +67,27 @@ fn put_words<'a>(
     words[65] = lv.reserve;
 }
 
-// The levels of a dossier at an hour, as words in a lent list; worked out in an empty index.
-fn levels_words_in(d: &[u8], index: &mut [u16], hour: u32, owner: u8, words: &mut [u64]) -> Answer
-    requires { Empty index.old × IsOwner owner }
+// The levels of a dossier at an hour, as words in a lent list; worked out with an index of so many slots.
+fn levels_words_in<const SLOTS: usize>(d: &[u8], hour: u32, owner: u8, words: &mut [u64]) -> Answer
+    requires { (short ≤ SLOTS) × (SLOTS ≤ wide) × IsOwner owner }
     ensures { (result ≡ words_answer d.now (query hour owner) (length words.old))
         × (words.new ≡ words_after d.now (query hour owner) words.old) }
 {
+    let mut index = [0u16; SLOTS];
     let mut sums = [0u64; 2];
-    match query::judge_at(d, hour, owner, index, &mut sums) {
-        Asked::Answered { profile } => {
-            if words.len() < 66 {
-                return Answer::Refused {
-                    number: 15,
-                    place: 0,
-                };
-            }
-            let mut from = [0u64; 20];
-            let mut to = [0u64; 20];
-            let mut cents = [0u64; 20];
-            let lv = reference::profile_levels(
-                d, index, &sums, profile, &mut from, &mut to, &mut cents,
-            );
-            put_words(lv, &from, &to, &cents, words);
-            Answer::Accepted
-        }
-        Asked::Refused { number, place } => Answer::Refused { number, place },
+    let profile = query::judge_at(d, hour, owner, &mut index, &mut sums)?;
+    if words.len() < 66 {
+        return Err(Refusal {
+            number: 15,
+            place: 0,
+        });
     }
+    let mut from = [0u64; 20];
+    let mut to = [0u64; 20];
+    let mut cents = [0u64; 20];
+    let lv = reference::profile_levels(d, &index, &sums, profile, &mut from, &mut to, &mut cents);
+    put_words(lv, &from, &to, &cents, words);
+    Ok(())
 }
 
 // The same of a dossier.
@@ -115,19 +95,9 @@ pub fn levels_words(d: &[u8], hour: u32, owner: u8, words: &mut [u64]) -> Answer
     ensures { (result ≡ words_answer d.now (query hour owner) (length words.old))
         × (words.new ≡ words_after d.now (query hour owner) words.old) }
 {
-    match query::way_in(d, owner) {
-        Way::Closed { number } => Answer::Refused { number, place: 0 },
-        Way::Short => {
-            let mut index = [0u16; index::SHORT];
-            levels_words_in(d, &mut index, hour, owner, words)
-        }
-        Way::Narrow => {
-            let mut index = [0u16; index::NARROW];
-            levels_words_in(d, &mut index, hour, owner, words)
-        }
-        Way::Wide => {
-            let mut index = [0u16; index::WIDE];
-            levels_words_in(d, &mut index, hour, owner, words)
-        }
+    match query::way_in(d, owner)? {
+        Room::Short => levels_words_in::<{ index::SHORT }>(d, hour, owner, words),
+        Room::Narrow => levels_words_in::<{ index::NARROW }>(d, hour, owner, words),
+        Room::Wide => levels_words_in::<{ index::WIDE }>(d, hour, owner, words),
     }
 }

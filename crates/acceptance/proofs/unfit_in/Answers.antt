@@ -10,9 +10,6 @@ use Rattle.fit.proofs.Unfit.{slots-keys, readable-distinct}
 use Rattle.acceptance.proofs.unfit_in.Goals as goal
 use Rattle.acceptance.proofs.unfit_in.Goals.{After-slots_tell-slots}
 
-pub slots_tell-slots-requires : goal.slots_tell-slots-requires
-slots_tell-slots-requires c = let p = c.requires in (p.0.roomy, p.4)
-
 -- what the slots tell
 told : (c : After-slots_tell-slots) → c.slots_tell-slots.result ≡ true → KeysFit c.args.t (records c.args.d.now)
 told c e =

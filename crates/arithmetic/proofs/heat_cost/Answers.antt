@@ -5,15 +5,6 @@ use native.Mathlib.Omega.{arith}
 use Rattle.formulas.proofs.Rounding.{quotient_le}
 use Rattle.arithmetic.proofs.heat_cost.Goals as goal
 
-pub overflow_mul-heat : goal.overflow_mul-heat
-overflow_mul-heat c = omega (arith, mul-le-mul c.requires.0 c.requires.1)
-
-pub overflow_mul-heat-2 : goal.overflow_mul-heat-2
-overflow_mul-heat-2 c = omega (arith, mul-le-mul (mul-le-mul c.requires.0 c.requires.1) c.requires.3)
-
-pub overflow_mul-heat-3 : goal.overflow_mul-heat-3
-overflow_mul-heat-3 c = omega (arith, mul-le-mul c.requires.0 c.requires.2)
-
 -- both terms together
 within : (c : goal.After-share-2) → c.share.result + c.share-2.result ≤ 24000000000000
 within c =
@@ -25,9 +16,6 @@ within c =
       quotient_le _ 1000000 16000000000000 (mul-le-mul (mul-le-mul h.0 h.1) h.3),
       quotient_le _ 1000 8000000000000 (mul-le-mul h.0 h.2),
     )
-
-pub overflow_add-result : goal.overflow_add-result
-overflow_add-result c = omega (arith, within c)
 
 pub returns : goal.returns
 returns c = (ap₂ (λ (x y : ℕ). x + y) c.share.ensures.0 c.share-2.ensures.0, within c)

@@ -5,7 +5,6 @@ use native.Mathlib.Omega.{arith}
 use lib.ListN.{length, take, length-set}
 use mir.Val.{bool_byte}
 use Rattle.records.specs.MarkShapes.{shortest}
-use Rattle.records.proofs.EveryMark.{mark-lt}
 use Rattle.counting.proofs.Filling.{fill-first, fill-last, fill-within, fill-low, fill-slot, fill-next, one-high}
 use Rattle.counting.proofs.fill.Goals.{After-length_of-len, After-group_at, After-hidden_at}
 use Rattle.counting.proofs.fill.Goals as goal
@@ -18,14 +17,14 @@ its c =
     let w = c.loop-at in
     let p = c.requires.0 in
     let i = fill-within c.args.all c.args.d.now c.args.index.now w.ids w.count w.at c.loop-at-test.true w.invariant.3
-    c.mark_at-k.ensures c.length_of-len.ensures in
+    c.mark_at-mark.ensures c.length_of-len.ensures in
     (i.0, i.1, w.invariant.1, c.loop-at-test.true, omega (arith, p, w.invariant.2), p.1)
 
 low : (c : After-group_at) → c.group_at.result < 65536
 low c =
     let w = c.loop-at in
     fill-low c.args.all c.args.d.now c.args.index.now w.ids w.count w.at c.loop-at-test.true w.invariant.3
-    c.mark_at-k.ensures c.length_of-len.ensures c.group_at.ensures
+    c.mark_at-mark.ensures c.length_of-len.ensures c.group_at.ensures
 
 -- at most one number more
 more : (c : After-hidden_at) → bool_byte ((c.args.all || c.is_valued.result) && not c.hidden_at.result) ≤ 1
@@ -34,12 +33,6 @@ more c = one-high ((c.args.all || c.is_valued.result) && not c.hidden_at.result)
 pub loop-at-init : goal.loop-at-init
 loop-at-init c =
     (omega arith, omega arith, refl, fill-first c.args.all c.args.d.now c.args.index.now c.requires.1 c.requires.2)
-
-pub length_of-len-requires : goal.length_of-len-requires
-length_of-len-requires c = rw c.mark_at-k.ensures (mark-lt _)
-
-pub group_at-requires : goal.group_at-requires
-group_at-requires c = rw c.mark_at-k.ensures (mark-lt _)
 
 pub overflow_mul-id : goal.overflow_mul-id
 overflow_mul-id c = omega (arith, low (goal.at.overflow_mul-id c).After-group_at)
@@ -59,30 +52,11 @@ overflow_add-ids c =
       its (goal.at.overflow_add-ids c).After-length_of-len,
     )
 
-pub offset_bounds-ids-count : goal.offset_bounds-ids-count
-offset_bounds-ids-count c = omega (arith, its (goal.at.offset_bounds-ids-count c).After-length_of-len)
-
-pub bounds-ids-count : goal.bounds-ids-count
-bounds-ids-count c = omega (arith, its (goal.at.bounds-ids-count c).After-length_of-len)
-
-pub is_valued-requires : goal.is_valued-requires
-is_valued-requires c = rw c.mark_at-k.ensures (mark-lt _)
-
 pub hidden_at-requires : goal.hidden_at-requires
 hidden_at-requires c =
-    let w = c.loop-at in (
-      rw c.mark_at-k.ensures (mark-lt _),
-      fill-slot c.args.all c.args.d.now c.args.index.now w.ids w.count w.at c.loop-at-test.true w.invariant.3
-          c.mark_at-k.ensures c.length_of-len.ensures,
-    )
-
-pub overflow_add-count : goal.overflow_add-count
-overflow_add-count c =
-    omega (
-      arith,
-      its (goal.at.overflow_add-count c).After-length_of-len,
-      more (goal.at.overflow_add-count c).After-hidden_at,
-    )
+    let w = c.loop-at in
+    fill-slot c.args.all c.args.d.now c.args.index.now w.ids w.count w.at c.loop-at-test.true w.invariant.3
+    c.mark_at-mark.ensures c.length_of-len.ensures
 
 pub overflow_add-at : goal.overflow_add-at
 overflow_add-at c = omega (arith, its (goal.at.overflow_add-at c).After-length_of-len)
@@ -98,7 +72,7 @@ loop-at-preserved c =
       omega (arith, i, more (goal.at.loop-at-preserved c).After-hidden_at),
       simp length-set w.invariant.2,
       fill-next c.args.all c.args.d.now c.args.index.now w.ids w.count w.at c.loop-at-test.true w.invariant.3
-          c.mark_at-k.ensures c.length_of-len.ensures c.group_at.ensures c.u32_at.ensures c.u32_at.type_inv
+          c.mark_at-mark.ensures c.length_of-len.ensures c.group_at.ensures c.u32_at.ensures c.u32_at.type_inv
           c.requires.1 c.hidden_at.ensures c.is_valued.ensures (omega (arith, i)) i.5,
     )
 

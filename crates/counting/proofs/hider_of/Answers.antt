@@ -1,21 +1,17 @@
-use native.Mathlib.Omega.{arith}
+use borrow.Author.Rules.{rules}
+use mathlib.Core.Path.{◌≡◌}
+use Prim.Native.Nat.{min, max}
 use Rattle.counting.proofs.Fewer.{some-like, some-lower, some-higher}
 use Rattle.counting.proofs.hider_of.Goals as goal
 
-pub returns-then-ids-eq0 : goal.returns-then-ids-eq0
-returns-then-ids-eq0 c = λ z. absurd (omega (arith, z))
-
-pub loop-i-init : goal.loop-i-init
-loop-i-init c = (omega arith, λ z. absurd (omega (arith, z)), λ z. absurd (omega (arith, z)))
-
-pub loop-i-preserved : goal.loop-i-preserved
-loop-i-preserved c =
+pub loop-id-preserved : goal.loop-id-preserved
+loop-id-preserved c =
     let l = c.args.ids.now in
-    let x = some-like l c.loop-i.i _ c.loop-i-test.true c.like-x.ensures in (
-      omega arith,
-      some-higher l _ _ c.loop-i.invariant.1 x c.higher-first.ensures,
-      some-higher l _ _ c.loop-i.invariant.2 (some-lower l _ _ c.loop-i.invariant.1 x c.lower.ensures) c.higher-second.ensures,
+    let p = c.loop-id.invariant in
+    let x = some-like l c.loop-id.id-index _ c.loop-id-test.true c.like-x.ensures in
+    let top : c.max-first.result ≡ max c.loop-id.first c.like-x.result = search rules in
+    let low : c.min.result ≡ min c.loop-id.first c.like-x.result = search rules in
+    let high : c.max-second.result ≡ max c.loop-id.second c.min.result = search rules in (
+      some-higher l _ _ p.0 x top,
+      some-higher l _ _ p.1 (some-lower l _ _ p.0 x low) high,
     )
-
-pub returns : goal.returns
-returns c = c.loop-i.invariant.2

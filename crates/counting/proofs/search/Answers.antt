@@ -1,22 +1,14 @@
-use mathlib.Core.Path.{◌≡◌, sym, subst}
+use mathlib.Core.Path.{sym, subst}
 use mathlib.Core.List.{List, ◌++◌}
 use Prim.Native.Nat.{ℕ, ◌≤◌}
 use native.Mathlib.Omega.{arith}
-use lib.ListN.{length, take, drop, length-take, length-append}
-use lib.Seq.{length-take-le, take-append-le}
-use Rattle.lists.specs.Sorted.{sorted}
+use lib.ListN.{length, take, drop, length-append}
+use lib.Seq.{take-append-le}
 use Rattle.lists.proofs.Lists.{each_map}
 use Rattle.counting.specs.Sweep.{Thinned}
-use Rattle.counting.proofs.Searched.{part_length, part-inside, refused, accepted}
+use Rattle.counting.proofs.Searched.{part-inside, refused, accepted}
 use Rattle.counting.proofs.search.Goals.{After-fill-m, After-thinned-n}
 use Rattle.counting.proofs.search.Goals as goal
-
-room : (c : After-fill-m) → c.fill-m.result ≤ length c.fill-m.new.ids
-room c = omega (arith, c.fill-m.ensures)
-
-pub slice_bounds-thinned-end-2 : goal.slice_bounds-thinned-end-2
-slice_bounds-thinned-end-2 c =
-    sym (length-take-le c.fill-m.result c.fill-m.new.ids (room (goal.at.slice_bounds-thinned-end-2 c).After-fill-m))
 
 pub thinned-n-requires : goal.thinned-n-requires
 thinned-n-requires c = each_map (λ x q. q.inside) c.fill-m.ensures.3
@@ -43,40 +35,7 @@ fewer c =
     (sym (take-append-le c.thinned-n.result c.thinned-n.new.ids (drop c.fill-m.result c.fill-m.new.ids) (front c)))
     c.thinned-n.ensures.1
 
-pub slice_bounds-sort-end : goal.slice_bounds-sort-end
-slice_bounds-sort-end c = omega (arith, room-there (goal.at.slice_bounds-sort-end c).After-thinned-n)
-
-pub slice_bounds-sort-end-2 : goal.slice_bounds-sort-end-2
-slice_bounds-sort-end-2 c =
-    let v = (goal.at.slice_bounds-sort-end-2 c).After-thinned-n in
-    sym (length-take-le c.thinned-n.result (list_of v) (room-there v))
-
-pub sort-requires : goal.sort-requires
-sort-requires c =
-    omega (
-      arith,
-      length-take c.thinned-n.result (list_of (goal.at.sort-requires c).After-thinned-n),
-      length-take c.fill-m.result c.fill-m.new.ids,
-      c.thinned-n.ensures.0,
-      c.fill-m.ensures,
-      c.requires.1,
-    )
-
 -- ---- where they are sorted
-
-part : (v : After-thinned-n) (s : List ℕ) → s ≡ sorted (take v.thinned-n.result (list_of v))
-    → v.thinned-n.result ≡ length (take v.thinned-n.result (s ++ drop v.thinned-n.result (list_of v)))
-part v s e =
-    part_length v.args.t v.args.all v.args.d.now v.args.index.now (ids-of v) (list_of v) s v.thinned-n.result v.requires.2
-    v.requires.3 (room-there v) v.fill-m.ensures.2 v.fill-m.ensures.3 (fewer v) e
-
-pub slice_bounds-sweep-end : goal.slice_bounds-sweep-end
-slice_bounds-sweep-end c =
-    let v = (goal.at.slice_bounds-sweep-end c).After-thinned-n in
-    omega (arith, part v c.sort.new.a c.sort.ensures, length-take c.thinned-n.result (c.sort.new.a ++ drop c.thinned-n.result (list_of v)))
-
-pub slice_bounds-sweep-end-2 : goal.slice_bounds-sweep-end-2
-slice_bounds-sweep-end-2 c = part (goal.at.slice_bounds-sweep-end-2 c).After-thinned-n c.sort.new.a c.sort.ensures
 
 pub sweep-place-requires : goal.sweep-place-requires
 sweep-place-requires c =

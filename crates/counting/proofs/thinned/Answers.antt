@@ -1,14 +1,12 @@
 use mathlib.Core.Path.{ap, ◌∙◌}
 use Prim.Native.Nat.{ℕ, ◌≤◌}
-use native.Mathlib.Nat.{le_refl}
 use native.Mathlib.Omega.{arith}
 use lib.ListN.{length}
-use lib.Seq.{take_all}
 use Rattle.lists.specs.Lists.{Member, those}
 use Rattle.lists.proofs.Lists.{member-each}
 use Rattle.records.specs.Record.{since}
 use Rattle.records.proofs.Over.{tail}
-use Rattle.counting.specs.Sweep.{place_in, kept_by, whole, without}
+use Rattle.counting.specs.Sweep.{place_in, kept_by, without}
 use Rattle.counting.proofs.thinned.Goals.{Else-b-eq0}
 use Rattle.counting.proofs.thinned.Goals as goal
 
@@ -18,9 +16,6 @@ one c = c.hider_of-b.ensures (omega (arith, c.if-b-eq0.false))
 
 low : (c : Else-b-eq0) → place_in c.hider_of-b.result ≤ length c.args.d.now
 low c = member-each (one c) c.requires
-
-pub returns-then-b-eq0 : goal.returns-then-b-eq0
-returns-then-b-eq0 c = let l = c.args.ids.now in (le_refl (length l), whole (take_all (length l) l (le_refl (length l))))
 
 pub slice_bounds-since_at-count : goal.slice_bounds-since_at-count
 slice_bounds-since_at-count c = omega (arith, low (goal.at.slice_bounds-since_at-count c).Else-b-eq0)

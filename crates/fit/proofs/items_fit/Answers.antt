@@ -1,8 +1,9 @@
-use mathlib.Core.Path.{refl, ap, sym, ◌∙◌}
-use Prim.Native.Nat.{ℕ, ◌+◌, ◌*◌}
+use mathlib.Core.Path.{refl, sym, ◌∙◌}
+use Prim.Native.Nat.{◌+◌, ◌*◌}
 use native.Mathlib.Omega.{arith}
-use Rattle.lists.specs.Tests.{all_to}
-use Rattle.lists.proofs.Tests.{to-next}
+use borrow.Author.Tests.{tests}
+use Rattle.std.proofs.Common.{rules}
+use Rattle.std.proofs.iter.Serving.{serving}
 use Rattle.records.specs.Table.{MM}
 use Rattle.records.specs.Dossier.{records}
 use Rattle.station.specs.Current.{current}
@@ -11,6 +12,7 @@ use Rattle.lookup.proofs.Held.{whole-indexed}
 use Rattle.rules.specs.Fit.{fits}
 use Rattle.fit.specs.BySlots.{items_fit}
 use Rattle.fit.proofs.Plain.{body-whole}
+use Rattle.fit.proofs.Ranges.{all-to}
 use Rattle.fit.proofs.Unfit.{no_items}
 use Rattle.fit.proofs.items_fit.Goals as goal
 
@@ -25,28 +27,15 @@ returns-then-slots_empty c =
     no_items a.t a.d.now a.index.now a.p q.2 q.0 q.3 q.4 c.slot_mm.ensures
     (sym c.slots_empty.ensures ∙ c.if-slots_empty.true)
 
-pub loop-j-init : goal.loop-j-init
-loop-j-init c = (omega arith, unfold all_to in refl)
-
-pub mm-requires : goal.mm-requires
-mm-requires c = let q = c.requires in (whole-indexed q.0, q.3, q.4, omega arith, omega arith)
-
-pub mm_fits-ok-requires : goal.mm_fits-ok-requires
-mm_fits-ok-requires c = c.requires.2
-
-pub loop-j-preserved : goal.loop-j-preserved
-loop-j-preserved c =
-    let a = c.args in
-    let q = c.requires in
-    let l = c.loop-j in (
-      omega arith,
-      to-next l.j (λ i. fits a.t 5 (current MM (a.p * 256 + i) (records a.d.now))) l.invariant.1
-          (c.mm_fits-ok.ensures ∙ ap (fits a.t 5) (c.mm.ensures ∙ body-whole q.0 q.1 5 _)),
-    )
+pub all-requires-clause-callable : goal.all-requires-clause-callable
+all-requires-clause-callable c =
+    let i = whole-indexed c.requires.0 in
+    grind (serving, i, c.requires.2, c.requires.3, c.requires.4)
 
 pub returns : goal.returns
 unfolding items_fit
 returns c =
     let a = c.args in
-    let l = c.loop-j in
-    l.invariant.1 ∙ ap (λ (n : ℕ). all_to n (λ i. fits a.t 5 (current MM (a.p * 256 + i) (records a.d.now)))) (omega arith)
+    let q = c.requires in
+    all-to (λ j. fits a.t MM (current MM (a.p * 256 + j) (records a.d.now))) 8 refl c.all.ensures.ran
+    (λ x b f k. let e = body-whole q.0 q.1 MM (a.p * 256 + x) in search (rules, tests))

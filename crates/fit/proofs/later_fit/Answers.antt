@@ -10,6 +10,3 @@ unfolding owners_fit
 returns-then-top-lt166 c =
     let m : ℕ = c.args.top in
     rw (lt-ltb m 334 (omega (arith, c.if-top-lt166.true)), lt-ltb m 166 c.if-top-lt166.true) refl
-
-pub returns : goal.returns
-returns c = rw (c.priced_fit.ensures, c.owners_fit.ensures) refl

@@ -1,18 +1,12 @@
 use mathlib.Core.Path.{refl}
-use Rattle.lists.specs.Tests.{all_below}
-use borrow.Author.Tests.{eq-eqb, ne_eqb}
+use Prim.Native.Nat.{◌+◌, ◌*◌}
+use borrow.Author.Tests.{ne_eqb, tests}
+use Rattle.std.proofs.Common.{rules}
+use Rattle.index.specs.Slots.{slots_empty}
+use Rattle.fit.proofs.Ranges.{all-below}
 use Rattle.fit.proofs.prorated_fit.Goals as goal
 
-pub returns-then-t-eq2 : goal.returns-then-t-eq2
-returns-then-t-eq2 c = rw (eq-eqb _ 2 c.if-t-eq2.true) refl
-
 pub returns : goal.returns
-unfolding all_below
 returns c =
-    rw (
-      ne_eqb _ 2 c.if-t-eq2.false,
-      c.slots_empty-4.ensures,
-      c.slots_empty-3.ensures,
-      c.slots_empty-2.ensures,
-      c.slots_empty.ensures,
-    ) refl
+    rw (ne_eqb _ 2 c.if-t-eq2.false)
+    (all-below (λ p. slots_empty c.args.index.now (c.args.j + 20 * p) 4) c.args.profiles refl c.all.ensures.ran (λ x b q k. search (rules, tests)))

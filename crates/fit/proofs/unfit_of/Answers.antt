@@ -2,9 +2,6 @@ use mathlib.Core.Path.{sym, ◌∙◌}
 use Rattle.fit.proofs.Unfit.{profiles-accepted, readable-distinct}
 use Rattle.fit.proofs.unfit_of.Goals as goal
 
-pub profiles_fit-requires : goal.profiles_fit-requires
-profiles_fit-requires c = let p = c.requires in (p.0, p.2, p.4)
-
 pub returns-then-profiles_fit : goal.returns-then-profiles_fit
 returns-then-profiles_fit c =
     let a = c.args in

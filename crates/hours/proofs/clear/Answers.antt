@@ -1,24 +1,16 @@
-use mathlib.Core.Path.{refl, ap, ◌∙◌}
+use mathlib.Core.Path.{◌≡◌, ap, sym, ◌∙◌}
+use Prim.Native.Nat.{ℕ, ◌+◌, ◌-◌}
 use native.Mathlib.Omega.{arith}
-use lib.ListN.{length-set}
-use Rattle.hours.specs.Filling.{cleared}
-use Rattle.hours.proofs.Emptied.{cleared-next}
+use lib.ListN.{replicate, drop, length-drop, length-replicate}
+use lib.Seq.{length-take-le}
+use Rattle.std.proofs.lemmas.Slice.{put_mid-paste}
+use Rattle.hours.proofs.Emptied.{cleared-paste}
 use Rattle.hours.proofs.clear.Goals as goal
-
-pub loop-i-init : goal.loop-i-init
-loop-i-init c = (omega arith, refl, unfold cleared in refl)
-
-pub bounds-index-j : goal.bounds-index-j
-bounds-index-j c = omega (arith, c.loop-i.invariant.1, c.requires)
-
-pub loop-i-preserved : goal.loop-i-preserved
-loop-i-preserved c =
-    let l = c.loop-i in
-    let a = c.args in
-    (omega arith, simp length-set l.invariant.1, cleared-next a.index.now l.index a.j l.i l.invariant.2)
 
 pub returns : goal.returns
 returns c =
-    let l = c.loop-i in
     let a = c.args in
-    l.invariant.2 ∙ ap (cleared a.index.now a.j) (omega (arith, l.invariant.0, c.loop-i-test.false))
+    let long = length-take-le (a.j + a.n - a.j) (drop a.j a.index.now) (omega (arith, length-drop a.j a.index.now)) in
+    let zeros : c.fill.new.self ≡ replicate a.n 0 = c.fill.ensures.after (λ y h. h) ∙ ap (λ (m : ℕ). replicate m 0) (long ∙ omega arith) in
+    put_mid-paste a.j _ a.index.now c.fill.new.self (replicate a.n 0) a.n zeros (omega arith) (sym (length-replicate a.n 0))
+    ∙ cleared-paste a.index.now a.j a.n c.requires

@@ -2,7 +2,7 @@ use mathlib.Core.Path.{◌≡◌, refl, ap, sym, ◌∙◌}
 use mathlib.Core.Bool.{true}
 use mathlib.Core.List.{List}
 use Prim.Native.Nat.{ℕ}
-use lib.Dec.{lit<, lit≤}
+use lib.Dec.{lit≤}
 use Rattle.lists.specs.Tests.{among}
 use Rattle.records.specs.MarkShapes.{begins}
 use Rattle.records.specs.Table.{table, row_of, AV, MV}
@@ -27,7 +27,7 @@ mv s e = begun 77 86 s e
 pub put_if_come-requires : goal.put_if_come-requires
 put_if_come-requires c =
     let m = av c.args.s.now (sym c.is_mark.ensures ∙ c.if-is_mark.true) in
-    (lit≤ tt, lit< tt, in-index c.args.s.now c.args.index.now m c.requires.1, c.requires.2, c.requires.3)
+    (lit≤ tt, in-index c.args.s.now c.args.index.now m c.requires.1, c.requires.2, c.requires.3)
 
 pub returns-then-is_mark : goal.returns-then-is_mark
 unfolding is_dated kind_of datable among row_of table
@@ -41,7 +41,7 @@ returns-then-is_mark c =
 pub put_if_come-requires-then-is_mark-2 : goal.put_if_come-requires-then-is_mark-2
 put_if_come-requires-then-is_mark-2 c =
     let m = mv c.args.s.now (sym c.is_mark-2.ensures ∙ c.if-is_mark-2.true) in
-    (lit≤ tt, lit< tt, in-index c.args.s.now c.args.index.now m c.requires.1, c.requires.2, c.requires.3)
+    (lit≤ tt, in-index c.args.s.now c.args.index.now m c.requires.1, c.requires.2, c.requires.3)
 
 pub returns-then-is_mark-2 : goal.returns-then-is_mark-2
 unfolding is_dated kind_of datable among row_of table
@@ -55,7 +55,7 @@ returns-then-is_mark-2 c =
 pub put_if_come-requires-2 : goal.put_if_come-requires-2
 put_if_come-requires-2 c =
     let m = is-fv c.args.s.now c.requires.0 (sym c.is_mark.ensures ∙ c.if-is_mark.false) (sym c.is_mark-2.ensures ∙ c.if-is_mark-2.false) in
-    (lit≤ tt, lit< tt, in-index c.args.s.now c.args.index.now m c.requires.1, c.requires.2, c.requires.3)
+    (lit≤ tt, in-index c.args.s.now c.args.index.now m c.requires.1, c.requires.2, c.requires.3)
 
 pub returns : goal.returns
 unfolding is_dated kind_of datable among row_of table

@@ -22,8 +22,3 @@ put_undated-requires c =
       p.2,
       p.3,
     )
-
-pub returns : goal.returns
-returns c =
-    let u = c.put_undated.ensures in
-    (u.0, u.1 c.args.hour)

@@ -1,67 +1,47 @@
 use mathlib.Core.Path.{refl, ap, sym, ◌∙◌}
-use lib.Dec.{lit<, lit≤}
 use Rattle.lists.specs.Tests.{among}
 use Rattle.records.specs.Table.{table, row_of}
 use Rattle.records.specs.Record.{is_dated, kind_of, datable, size}
 use Rattle.records.proofs.Record.{fu-size, ad-size, mm-size}
-use Rattle.records.proofs.EveryMark.{mark-lt}
-use Rattle.hours.proofs.Turn.{in-index, undated-is, other-is}
+use Rattle.hours.proofs.Turn.{undated-is, other-is, other-kind}
 use Rattle.hours.proofs.put_undated.Goals as goal
 
 -- in each arm, m is its mark
 
 -- ---- AD
 
-pub put-requires : goal.put-requires
-put-requires c =
-    let m = sym c.mark_at-mark.ensures ∙ c.if-mark-eq-AD.true in
-    (lit≤ tt, lit< tt, in-index c.args.s.now c.args.index.now m c.requires.2, c.requires.3, c.requires.4)
-
-pub returns-then-mark-eq-AD : goal.returns-then-mark-eq-AD
+pub returns-in-AD : goal.returns-in-AD
 unfolding is_dated kind_of datable among row_of table
-returns-then-mark-eq-AD c =
+returns-in-AD c =
     let a = c.args in
-    let m = sym c.mark_at-mark.ensures ∙ c.if-mark-eq-AD.true in
+    let m = sym c.in-AD.ensures in
     (sym (ap size m ∙ ad-size), undated-is a.d.now a.index.now a.at a.s.now m refl refl c.put.ensures)
 
 -- ---- MM
 
-pub put-requires-then-mark-eq-MM : goal.put-requires-then-mark-eq-MM
-put-requires-then-mark-eq-MM c =
-    let m = sym c.mark_at-mark.ensures ∙ c.if-mark-eq-MM.true in
-    (lit≤ tt, lit< tt, in-index c.args.s.now c.args.index.now m c.requires.2, c.requires.3, c.requires.4)
-
-pub returns-then-mark-eq-MM : goal.returns-then-mark-eq-MM
+pub returns-in-MM : goal.returns-in-MM
 unfolding is_dated kind_of datable among row_of table
-returns-then-mark-eq-MM c =
+returns-in-MM c =
     let a = c.args in
-    let m = sym c.mark_at-mark.ensures ∙ c.if-mark-eq-MM.true in
-    (sym (ap size m ∙ mm-size), undated-is a.d.now a.index.now a.at a.s.now m refl refl c.put-then-mark-eq-MM.ensures)
+    let m = sym c.in-MM.ensures in
+    (sym (ap size m ∙ mm-size), undated-is a.d.now a.index.now a.at a.s.now m refl refl c.put-in-MM.ensures)
 
 -- ---- FU
 
-pub put-requires-then-mark-eq-FU : goal.put-requires-then-mark-eq-FU
-put-requires-then-mark-eq-FU c =
-    let m = sym c.mark_at-mark.ensures ∙ c.if-mark-eq-FU.true in
-    (lit≤ tt, lit< tt, in-index c.args.s.now c.args.index.now m c.requires.2, c.requires.3, c.requires.4)
-
-pub returns-then-mark-eq-FU : goal.returns-then-mark-eq-FU
+pub returns-in-FU : goal.returns-in-FU
 unfolding is_dated kind_of datable among row_of table
-returns-then-mark-eq-FU c =
+returns-in-FU c =
     let a = c.args in
-    let m = sym c.mark_at-mark.ensures ∙ c.if-mark-eq-FU.true in
-    (sym (ap size m ∙ fu-size), undated-is a.d.now a.index.now a.at a.s.now m refl refl c.put-then-mark-eq-FU.ensures)
+    let m = sym c.in-FU.ensures in
+    (sym (ap size m ∙ fu-size), undated-is a.d.now a.index.now a.at a.s.now m refl refl c.put-in-FU.ensures)
 
 -- ---- any other
 
-pub length_of-requires : goal.length_of-requires
-length_of-requires c = rw c.mark_at-mark.ensures (mark-lt _)
-
-pub returns : goal.returns
-returns c =
-    let k = c.mark_at-mark.ensures in
-    let a = c.args in (
+pub returns-in_default : goal.returns-in_default
+returns-in_default c =
+    let k = c.mark_at.ensures in
+    let a = c.args in
+    let d = c.in_default in (
       c.length_of.ensures ∙ ap size k,
-      other-is a.d.now a.index.now a.at a.s.now refl c.requires.0 c.requires.1 (λ e. c.if-mark-eq-AD.false (k ∙ e))
-          (λ e. c.if-mark-eq-MM.false (k ∙ e)) (λ e. c.if-mark-eq-FU.false (k ∙ e)),
+      other-is a.d.now a.index.now a.at a.s.now refl (other-kind a.s.now k c.requires.0 c.requires.1 d.not-FU d.not-AD d.not-MM),
     )

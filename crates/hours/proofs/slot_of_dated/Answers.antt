@@ -1,33 +1,32 @@
+use mathlib.Core.Path.{ap}
 use native.Mathlib.Omega.{arith}
+use Rattle.records.specs.Marks.{row}
 use Rattle.hours.proofs.Marks.{fields-most, slot-fu, slot-ad, slot-mm, slot-other}
 use Rattle.hours.proofs.slot_of_dated.Goals as goal
 
-pub returns-then-kind-eq-FU : goal.returns-then-kind-eq-FU
-returns-then-kind-eq-FU c =
-    slot-fu _ _ c.kind_of-kind.ensures c.fields_at-at.ensures c.if-kind-eq-FU.true c.u8_at.ensures c.slot_fu.ensures
-
 pub overflow_add-at : goal.overflow_add-at
-overflow_add-at c = omega (arith, c.fields_at-at.ensures, fields-most c.args.mark)
+overflow_add-at c = omega (arith, c.fields_at-at.ensures, fields-most (row c.args.mark))
 
-pub overflow_add-at-then-kind-eq-AD : goal.overflow_add-at-then-kind-eq-AD
-overflow_add-at-then-kind-eq-AD c =
-    omega (arith, c.fields_at-at.ensures, fields-most c.args.mark)
+pub overflow_add-at-in-AD : goal.overflow_add-at-in-AD
+overflow_add-at-in-AD c = omega (arith, c.fields_at-at.ensures, fields-most (row c.args.mark))
 
-pub returns-then-kind-eq-AD : goal.returns-then-kind-eq-AD
-returns-then-kind-eq-AD c =
-    slot-ad _ _ c.kind_of-kind.ensures c.fields_at-at.ensures c.if-kind-eq-AD.true c.u8_at-then-kind-eq-AD.ensures
-    c.u8_at-then-kind-eq-AD-2.ensures c.u8_at-then-kind-eq-AD-3.ensures c.slot_ad.ensures
+pub overflow_add-at-in-MM : goal.overflow_add-at-in-MM
+overflow_add-at-in-MM c = omega (arith, c.fields_at-at.ensures, fields-most (row c.args.mark))
 
-pub overflow_add-at-then-kind-eq-MM : goal.overflow_add-at-then-kind-eq-MM
-overflow_add-at-then-kind-eq-MM c =
-    omega (arith, c.fields_at-at.ensures, fields-most c.args.mark)
+pub returns-in-FU : goal.returns-in-FU
+returns-in-FU c = slot-fu _ _ c.kind_of.ensures c.fields_at-at.ensures (ap row c.in-FU.is) c.u8_at.ensures c.slot_fu.ensures
 
-pub returns-then-kind-eq-MM : goal.returns-then-kind-eq-MM
-returns-then-kind-eq-MM c =
-    slot-mm _ _ c.kind_of-kind.ensures c.fields_at-at.ensures c.if-kind-eq-MM.true c.u8_at-then-kind-eq-MM.ensures c.u8_at-then-kind-eq-MM-2.ensures
+pub returns-in-AD : goal.returns-in-AD
+returns-in-AD c =
+    slot-ad _ _ c.kind_of.ensures c.fields_at-at.ensures (ap row c.in-AD.is) c.u8_at-in-AD.ensures c.u8_at-in-AD-2.ensures
+    c.u8_at-in-AD-3.ensures c.slot_ad.ensures
+
+pub returns-in-MM : goal.returns-in-MM
+returns-in-MM c =
+    slot-mm _ _ c.kind_of.ensures c.fields_at-at.ensures (ap row c.in-MM.is) c.u8_at-in-MM.ensures c.u8_at-in-MM-2.ensures
     c.slot_mm.ensures
 
-pub returns : goal.returns
-returns c =
-    let p = c.requires in
-    slot-other _ _ c.kind_of-kind.ensures c.fields_at-at.ensures p.0 p.1 c.if-kind-eq-FU.false c.if-kind-eq-AD.false c.if-kind-eq-MM.false
+pub returns-in_default : goal.returns-in_default
+returns-in_default c =
+    let d = c.in_default in
+    slot-other _ _ c.kind_of.ensures c.requires d.not-FU d.not-AD d.not-MM

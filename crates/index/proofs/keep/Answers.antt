@@ -8,7 +8,7 @@ use Rattle.records.specs.Record.{mark, fault}
 use Rattle.records.specs.Dossier.{first_of}
 use Rattle.index.specs.declared.Entry.{Entry}
 use Rattle.index.specs.Entries.{entry_as}
-use Rattle.index.proofs.Turn.{tail, bounds, long, first_found, step-held, step-beyond}
+use Rattle.index.proofs.Turn.{max-higher, tail, bounds, long, first_found, step-held, step-beyond}
 use Rattle.index.proofs.keep.Goals as goal
 use Rattle.index.proofs.keep.Goals.{then-j-index, else-j-index}
 
@@ -47,9 +47,9 @@ returns c =
           elim c.if-j-index.branch [
             | then-j-index w ↦
                 let issue = ap (λ (y : ℕ). y + 1) (w.u32_at.ensures ∙ ap (number 2 4) (tail d at)) in
-                rw (w.index-is, w.rising-is) (sym (step-held s _ _ e d a.index.now a.before.rising a.before.top f at slot c.higher_of.ensures issue
+                rw (w.index-is, w.rising-is) (sym (step-held s _ _ e d a.index.now a.before.rising a.before.top f at slot (c.max.ensures ∙ max-higher _ _) issue
                 w.issue_held-held.ensures w.newer_of.ensures))
             | else-j-index w ↦ rw (w.index-is, w.rising-is) (sym (step-beyond s _ _ e d a.index.now a.before.rising a.before.top f at slot
-                c.higher_of.ensures w.if-j-index.false))
+                (c.max.ensures ∙ max-higher _ _) w.if-j-index.false))
           ],
     )

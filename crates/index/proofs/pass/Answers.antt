@@ -6,6 +6,7 @@ use mathlib.Core.List.{List}
 use Prim.Native.Nat.{ℕ, ◌≤◌, ◌-◌}
 use lib.ListN.{length, drop, take, length-drop}
 use lib.Dec.{leb}
+use Rattle.std.specs.Prelude.{Ok}
 use borrow.Author.Tests.{leb-true, le-leb, eq-eqb}
 use Rattle.lists.proofs.Tests.{and_left, and_right, or-true, or-false}
 use Rattle.records.specs.Table.{CH}
@@ -13,19 +14,18 @@ use Rattle.records.specs.Record.{mark, fault, is_dated}
 use Rattle.records.specs.MarkShapes.{begins}
 use Rattle.records.specs.Dossier.{first_of}
 use Rattle.records.proofs.Dossier.{first-mark}
+use Rattle.records.specs.Walk.{Faulty}
 use Rattle.records.proofs.Walk.{start, stop, end}
 use Rattle.index.specs.declared.Entry.{Entry}
-use Rattle.index.specs.declared.Reading.{Reading}
-use Rattle.index.specs.declared.Reading.TheVariants.{Fault}
 use Rattle.index.specs.Slots.{Kept, kept, keep_step, pass_of, slots_of}
-use Rattle.index.specs.Entries.{entry_as, reading_of}
+use Rattle.index.specs.Entries.{fault_number, Reading, entry_as, reading_of}
 use Rattle.index.specs.Intervals.{is_interval, HeldIn}
 use Rattle.index.proofs.Turn.{tail, bounds, long, first_found, goes_on}
 use Rattle.index.proofs.Entries.{FoundAs, entry_read, fault-found}
 use Rattle.index.proofs.Intervals.{ch-letters}
 use Rattle.index.proofs.HeldSums.{sums-beside}
 use Rattle.index.proofs.pass.Goals as goal
-use Rattle.index.proofs.pass.Goals.{Joined-read, in-Whole, in-Dated}
+use Rattle.index.proofs.pass.Goals.{Joined-sound, in-Undated, in-Dated}
 
 pub loop-run-init : goal.loop-run-init
 loop-run-init c = let p = c.requires in (search rules, refl, p.1, p.2, start _ _ _)
@@ -48,8 +48,8 @@ module _ (d : List ℕ) (at : ℕ) where
 
 -- ---- a run of intervals
 
-pub interval_fault-number-requires : goal.interval_fault-number-requires
-interval_fault-number-requires c =
+pub interval_fault-requires : goal.interval_fault-requires
+interval_fault-requires c =
     let d = c.args.d.now in
     let at = c.loop-run.run.end in
     let h = begun d at c.begins_interval.ensures c.if-begins_interval.true in
@@ -62,7 +62,7 @@ returns-then-next-at c =
     let at = c.loop-run.run.end in
     let l = c.loop-run in
     let e = stop (keep_step d) (kept c.args.index.now true 0 false) d at _ _ c.loop-run-test.true l.invariant.4
-    (fault-found (drop at d) _ (ap reading_of (sym (tail d at)) ∙ c.interval_fault-number.ensures)) in
+    (fault-found (drop at d) _ (ap reading_of (sym (tail d at)) ∙ c.interval_fault.ensures) ∙ ap Faulty (sym c.from-number.ensures)) in
     (sym (ap pass_of e), sym (ap (slots_of _) e), c.intervals_from-next.ensures.2)
 
 pub loop-run-preserved-then-begins_interval : goal.loop-run-preserved-then-begins_interval
@@ -73,16 +73,16 @@ loop-run-preserved-then-begins_interval c =
 
 -- ---- any other record
 
-pub returns-in-Fault : goal.returns-in-Fault
+pub returns-in-Err : goal.returns-in-Err
 unfolding pass_of slots_of
-returns-in-Fault c =
+returns-in-Err c =
     let d = c.args.d.now in
     let at = c.loop-run.run.end in
     let l = c.loop-run in
-    let g = read_of d at c.read.ensures c.in-Fault.is in
-    let n = c.fault_of-number.ensures _ (ap reading_of (tail d at) ∙ g) in
+    let g = read_of d at c.read.ensures c.in-Err.is in
+    let n = c.fault_of.ensures _ (ap reading_of (tail d at) ∙ g) in
     let e = stop (keep_step d) (kept c.args.index.now true 0 false) d at _ _ c.loop-run-test.true l.invariant.4
-    (fault-found (drop at d) _ (g ∙ ap Fault (sym n))) in
+    (fault-found (drop at d) _ g ∙ ap Faulty (ap fault_number (sym n) ∙ sym c.from-number-in-Err.ensures)) in
     (sym (ap pass_of e), sym (ap (slots_of l.index) e), l.invariant.3)
 
 -- it is without fault, with its entry, and noted if it has a first hour
@@ -112,25 +112,26 @@ module _ (d : List ℕ) (at : ℕ) {x : Entry} {was now : Bool} where
         false≢true (sym f ∙ g ∙ ap (λ (l : List ℕ). leb 2 (length l) && begins l 67 72) (tail d at) ∙ ap₂ (λ (x y : Bool). x && y) u t)
 
 -- so the reader found it, whichever kind of record it is
-its : (c : Joined-read) → Its (drop c.loop-run.run.end c.args.d.now) c.match-read.entry c.loop-run.dated c.match-read.dated
+its : (c : Joined-sound) → Its (drop c.loop-run.run.end c.args.d.now) c.match-sound.entry c.loop-run.dated c.match-sound.dated
 its c =
     let d = c.args.d.now in
     let at = c.loop-run.run.end in
-    elim c.match-read.branch [
-      | in-Whole w ↦ noted d at w.in-Whole.entry false w.entry-is (entry_read (drop at d) false w.in-Whole.entry (read_of d at c.read.ensures w.in-Whole.is))
+    let g = read_of d at c.read.ensures c.in-Ok.is in
+    elim c.match-sound.branch [
+      | in-Undated w ↦ noted d at w.in-Undated.entry false w.entry-is (entry_read (drop at d) false w.in-Undated.entry (g ∙ ap Ok w.in-Undated.is))
           (w.dated-is ∙ sym (or-false c.loop-run.dated))
-      | in-Dated w ↦ noted d at w.in-Dated.entry true w.entry-is (entry_read (drop at d) true w.in-Dated.entry (read_of d at c.read.ensures w.in-Dated.is))
+      | in-Dated w ↦ noted d at w.in-Dated.entry true w.entry-is (entry_read (drop at d) true w.in-Dated.entry (g ∙ ap Ok w.in-Dated.is))
           (w.dated-is ∙ sym (or-true c.loop-run.dated))
     ]
 
 pub keep-run-requires : goal.keep-run-requires
 keep-run-requires c =
-    let i = its (goal.at.keep-run-requires c).Joined-read in
+    let i = its (goal.at.keep-run-requires c).Joined-sound in
     (c.requires.0, i.clean, i.entry-is)
 
 pub loop-run-smaller : goal.loop-run-smaller
 loop-run-smaller c =
-    let i = its (goal.at.loop-run-smaller c).Joined-read in
+    let i = its (goal.at.loop-run-smaller c).Joined-sound in
     omega (arith, its-length c.args.d.now c.loop-run.run.end i, c.keep-run.ensures.0)
 
 pub loop-run-preserved : goal.loop-run-preserved
@@ -138,7 +139,7 @@ loop-run-preserved c =
     let d = c.args.d.now in
     let at = c.loop-run.run.end in
     let l = c.loop-run in
-    let i = its (goal.at.loop-run-preserved c).Joined-read in
+    let i = its (goal.at.loop-run-preserved c).Joined-sound in
     let r = c.keep-run in
     let e = r.ensures.1 l.dated in (
       omega (arith, its-length d at i, r.ensures.0),

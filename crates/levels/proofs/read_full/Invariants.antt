@@ -1,5 +1,5 @@
 -- what has been read stands at the front of the buffer
-use Rattle.std.proofs.Common.{◌≡◌, ◌≤◌, ◌-◌, length, take}
+use Rattle.std.proofs.Common.{◌≤◌, ◌-◌, length, take}
 use Rattle.std.specs.Io.KnownBytes.{Consumes}
 use Rattle.levels.proofs.read_full.Given as goal
 

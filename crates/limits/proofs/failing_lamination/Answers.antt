@@ -1,7 +1,4 @@
 use mathlib.Core.Path.{sym, ◌∙◌}
-use native.Mathlib.Omega.{arith}
-use Rattle.limits.specs.Thresholds.{first_failing}
-use Rattle.limits.proofs.Turns.{all_left}
 use Rattle.limits.proofs.Laminations.{least-passes, lamination-stop, lamination-next, lamination-end}
 use Rattle.limits.proofs.failing_lamination.Goals as goal
 
@@ -11,29 +8,24 @@ returns-then-not-fails c =
     least-passes a.t a.pair a.from.now a.to.now a.cents.now a.least (sym c.fails.ensures ∙ c.if-not-fails.true)
     a.count c.requires.1
 
-pub loop-i-init : goal.loop-i-init
-loop-i-init c = (omega arith, all_left (first_failing _ _ _ _ _ 0) _)
-
 pub returns-then-fails_in : goal.returns-then-fails_in
 returns-then-fails_in c =
     let i = c.loop-i in
     let a = c.args in
     lamination-stop a.t a.pair a.from.now a.to.now a.cents.now a.count i.i
     c.loop-i-test.true (sym c.fails_in.ensures ∙ c.if-fails_in.true)
-    ∙ i.invariant.1
+    ∙ i.invariant
 
 pub loop-i-preserved : goal.loop-i-preserved
 loop-i-preserved c =
     let i = c.loop-i in
-    let a = c.args in (
-      omega arith,
-      lamination-next a.t a.pair a.from.now a.to.now a.cents.now a.count i.i
-          c.loop-i-test.true (sym c.fails_in.ensures ∙ c.if-fails_in.false)
-          ∙ i.invariant.1,
-    )
+    let a = c.args in
+    lamination-next a.t a.pair a.from.now a.to.now a.cents.now a.count i.i
+    c.loop-i-test.true (sym c.fails_in.ensures ∙ c.if-fails_in.false)
+    ∙ i.invariant
 
 pub returns : goal.returns
 returns c =
     let i = c.loop-i in
     let a = c.args in
-    lamination-end a.t a.pair a.from.now a.to.now a.cents.now a.count i.i c.loop-i-test.false ∙ i.invariant.1
+    lamination-end a.t a.pair a.from.now a.to.now a.cents.now a.count i.i c.loop-i-test.false ∙ i.invariant

@@ -11,19 +11,19 @@ use Rattle.limits.proofs.offer_test.Goals as goal
 
 pub loop-k-init : goal.loop-k-init
 unfolding before
-loop-k-init c = (omega arith, omega (arith, c.requires.1), refl, all_left (offer_shown _ _ _ 0) _)
+loop-k-init c = (omega (arith, c.requires.1), refl, all_left (offer_shown _ _ _ 0) _)
 
 -- in each goal, r is what the arrays tell
 
-pub returns-then-i-ne0 : goal.returns-then-i-ne0
-returns-then-i-ne0 c =
+pub returns-in-Some : goal.returns-in-Some
+returns-in-Some c =
     let i = c.loop-k in
     let a = c.args in
     let o = a.offer.now in
     let r = in_arrays a.from.now a.to.now a.cents.now a.count in
-    pair-stop a.t r o (length o / 6) i.k _ _ c.loop-k-test.true i.invariant.2
-    c.quantity_at-high.ensures c.price_at-price.ensures.0 c.failing_lamination-i.ensures c.if-i-ne0.true
-    ∙ i.invariant.3
+    pair-stop a.t r o (length o / 6) i.k _ c.loop-k-test.true i.invariant.1
+    c.quantity_at-high.ensures c.price_at-price.ensures.0 c.failing_lamination.ensures c.in-Some.is
+    ∙ i.invariant.2
 
 pub loop-k-preserved : goal.loop-k-preserved
 loop-k-preserved c =
@@ -32,11 +32,10 @@ loop-k-preserved c =
     let o = a.offer.now in
     let r = in_arrays a.from.now a.to.now a.cents.now a.count in (
       omega arith,
-      omega arith,
       c.quantity_at-high.ensures ∙ before-next o i.k,
-      pair-next a.t r o (length o / 6) i.k _ _ c.loop-k-test.true i.invariant.2
-          c.quantity_at-high.ensures c.price_at-price.ensures.0 c.failing_lamination-i.ensures c.if-i-ne0.false
-          ∙ i.invariant.3,
+      pair-next a.t r o (length o / 6) i.k _ c.loop-k-test.true i.invariant.1
+          c.quantity_at-high.ensures c.price_at-price.ensures.0 c.failing_lamination.ensures c.in_default.is
+          ∙ i.invariant.2,
     )
 
 pub returns : goal.returns
@@ -45,4 +44,4 @@ returns c =
     let a = c.args in
     let o = a.offer.now in
     let r = in_arrays a.from.now a.to.now a.cents.now a.count in
-    pair_end a.t (laminations_from r 0 a.count) o (length o / 6) i.k c.loop-k-test.false ∙ i.invariant.3
+    pair_end a.t (laminations_from r 0 a.count) o (length o / 6) i.k c.loop-k-test.false ∙ i.invariant.2

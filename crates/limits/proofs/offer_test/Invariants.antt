@@ -8,7 +8,4 @@ use Rattle.limits.proofs.offer_test.Given as goal
 abbrev pub invariant-loop-k : goal.invariant-loop-k
 invariant-loop-k l =
     let m = laminations_from (in_arrays l.from l.to l.cents l.count) 0 l.count in
-    (l.k ≤ l.pairs) × (l.pairs ≤ 20) × (l.low ≡ before l.offer l.k) × (offer_shown l.t m l.offer l.k (l.pairs - l.k) ≡ offer_shown l.t m l.offer 0 l.pairs)
-
-abbrev pub decreases-loop-k : goal.decreases-loop-k
-decreases-loop-k l = l.pairs - l.k
+    (l.pairs ≤ 20) × (l.low ≡ before l.offer l.k) × (offer_shown l.t m l.offer l.k (l.pairs - l.k) ≡ offer_shown l.t m l.offer 0 l.pairs)

@@ -9,9 +9,7 @@ use Rattle.lines.proofs.laminations_len.Goals as goal
 
 -- no line yet
 pub loop-i-init : goal.loop-i-init
-loop-i-init c =
-    let told = in_arrays c.args.from.now c.args.to.now c.args.cents.now c.args.count in
-    (omega arith, ap length (sym (no_line told)))
+loop-i-init c = ap length (sym (no_line (in_arrays c.args.from.now c.args.to.now c.args.cents.now c.args.count)))
 
 pub overflow_add-len : goal.overflow_add-len
 overflow_add-len c =
@@ -21,10 +19,10 @@ overflow_add-len c =
 pub loop-i-preserved : goal.loop-i-preserved
 loop-i-preserved c =
     let told = in_arrays c.args.from.now c.args.to.now c.args.cents.now c.args.count in
-    (omega arith, omega (arith, next-length told c.loop-i.i))
+    omega (arith, next-length told c.loop-i.i)
 
 pub returns : goal.returns
 returns c =
     let told = in_arrays c.args.from.now c.args.to.now c.args.cents.now c.args.count in
     let z : c.loop-i.i ≡ c.args.count = omega arith in
-    c.loop-i.invariant.1 ∙ ap (λ (n : ℕ). length (lamination_lines told n)) z
+    c.loop-i.invariant ∙ ap (λ (n : ℕ). length (lamination_lines told n)) z

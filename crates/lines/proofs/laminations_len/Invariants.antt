@@ -1,15 +1,10 @@
 use mathlib.Core.Path.{◌≡◌}
-use Prim.Native.Nat.{◌≤◌, ◌-◌}
 use lib.ListN.{length}
 use Rattle.arrays.specs.Packed.{in_arrays}
 use Rattle.lines.specs.Parts.{lamination_lines}
 use Rattle.lines.proofs.laminations_len.Given as goal
 
--- `lines::laminations_len` meets its contract. The loop's invariant: `len` is the length of the lines passed. The measure is how many
--- laminations are left.
+-- `lines::laminations_len` meets its contract. The loop's invariant: `len` is the length of the lines passed.
 
 abbrev pub invariant-loop-i : goal.invariant-loop-i
-invariant-loop-i l = (l.i ≤ l.count) × (l.len ≡ length (lamination_lines (in_arrays l.from l.to l.cents l.count) l.i))
-
-abbrev pub decreases-loop-i : goal.decreases-loop-i
-decreases-loop-i l = l.count - l.i
+invariant-loop-i l = l.len ≡ length (lamination_lines (in_arrays l.from l.to l.cents l.count) l.i)

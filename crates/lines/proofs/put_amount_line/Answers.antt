@@ -1,21 +1,10 @@
 use mathlib.Core.List.{◌++◌}
-use native.Mathlib.Omega.{arith}
 use Rattle.text.specs.Text.{hundredths, newline}
 use Rattle.text.proofs.Over.{then}
 use Rattle.layout.specs.Report.{amount_line}
-use Rattle.layout.proofs.Lines.{amount-length}
 use Rattle.lines.proofs.put_amount_line.Goals as goal
 
 -- `lines::put_amount_line` meets its contract: the word, the level and the line end, each behind the last.
-
-pub put-a-requires : goal.put-a-requires
-put-a-requires c = omega (arith, amount-length c.args.word.now c.args.cents)
-
-pub put_hundredths-requires : goal.put_hundredths-requires
-put_hundredths-requires c = omega (arith, amount-length c.args.word.now c.args.cents)
-
-pub put-requires : goal.put-requires
-put-requires c = omega (arith, amount-length c.args.word.now c.args.cents)
 
 pub returns : goal.returns
 unfolding amount_line

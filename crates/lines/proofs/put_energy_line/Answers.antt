@@ -1,25 +1,11 @@
 use mathlib.Core.List.{◌++◌}
-use native.Mathlib.Omega.{arith}
 use Rattle.text.specs.Text.{decimal, tenths, energy_word, space}
 use Rattle.text.proofs.Over.{then-two}
 use Rattle.layout.specs.Report.{energy_line}
-use Rattle.layout.proofs.Lines.{energy-length, amount-length, then-amount}
+use Rattle.layout.proofs.Lines.{then-amount}
 use Rattle.lines.proofs.put_energy_line.Goals as goal
 
 -- `lines::put_energy_line` meets its contract: the word with the lamination, from, to, and the level with the line end.
-
-pub put_numbered-a-requires : goal.put_numbered-a-requires
-put_numbered-a-requires c = omega (arith, energy-length c.args.lamination c.args.from c.args.to c.args.cents)
-
-pub put_output-requires : goal.put_output-requires
-put_output-requires c = omega (arith, energy-length c.args.lamination c.args.from c.args.to c.args.cents)
-
-pub put_output-requires-2 : goal.put_output-requires-2
-put_output-requires-2 c = omega (arith, energy-length c.args.lamination c.args.from c.args.to c.args.cents)
-
-pub put_amount_line-requires : goal.put_amount_line-requires
-put_amount_line-requires c =
-    omega (arith, energy-length c.args.lamination c.args.from c.args.to c.args.cents, amount-length space c.args.cents)
 
 pub returns : goal.returns
 unfolding energy_line

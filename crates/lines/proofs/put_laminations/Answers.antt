@@ -13,7 +13,7 @@ use Rattle.lines.proofs.put_laminations.Goals as goal
 pub loop-i-init : goal.loop-i-init
 loop-i-init c =
     let z = no_line (in_arrays c.args.from.now c.args.to.now c.args.cents.now c.args.count) in
-    (omega arith, refl, (ap length (sym z), rw z))
+    (refl, (ap length (sym z), rw z))
 
 -- the lines before place i and the line there fit
 pub put_energy_line-at-requires : goal.put_energy_line-at-requires
@@ -24,11 +24,11 @@ put_energy_line-at-requires c =
 pub loop-i-preserved : goal.loop-i-preserved
 loop-i-preserved c =
     let told = in_arrays c.args.from.now c.args.to.now c.args.cents.now c.args.count in
-    (omega arith, search rules, turn told c.loop-i.i c.args.buf.now c.loop-i.invariant.2 c.put_energy_line-at.ensures)
+    (search rules, turn told c.loop-i.i c.args.buf.now c.loop-i.invariant.1 c.put_energy_line-at.ensures)
 
 pub returns : goal.returns
 returns c =
     let told = in_arrays c.args.from.now c.args.to.now c.args.cents.now c.args.count in
     let l = c.loop-i in
     let z : l.i ≡ c.args.count = omega arith in
-    subst (λ (n : ℕ). Wrote (lamination_lines told n) c.args.buf.now l.at l.buf) z l.invariant.2
+    subst (λ (n : ℕ). Wrote (lamination_lines told n) c.args.buf.now l.at l.buf) z l.invariant.1

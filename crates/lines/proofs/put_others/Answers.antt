@@ -1,22 +1,12 @@
 use mathlib.Core.List.{◌++◌}
-use native.Mathlib.Omega.{arith}
 use Rattle.text.specs.Text.{start_word, no_load_word, reserve_word}
 use Rattle.text.proofs.Over.{then}
 use Rattle.rules.specs.Fit.{holds}
 use Rattle.lines.specs.Parts.{held_line}
-use Rattle.lines.proofs.Levels.{others-are, others-length}
+use Rattle.lines.proofs.Levels.{others-are}
 use Rattle.lines.proofs.put_others.Goals as goal
 
 -- `lines::put_others` meets its contract: start, no-load and reserve, each behind the last.
-
-pub put_held_line-a-requires : goal.put_held_line-a-requires
-put_held_line-a-requires c = omega (arith, others-length c.args.technology c.args.start c.args.noload c.args.reserve)
-
-pub put_held_line-requires : goal.put_held_line-requires
-put_held_line-requires c = omega (arith, others-length c.args.technology c.args.start c.args.noload c.args.reserve)
-
-pub put_held_line-requires-2 : goal.put_held_line-requires-2
-put_held_line-requires-2 c = omega (arith, others-length c.args.technology c.args.start c.args.noload c.args.reserve)
 
 pub returns : goal.returns
 returns c =

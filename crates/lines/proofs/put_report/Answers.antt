@@ -21,14 +21,6 @@ returns-then-buf-report_len c =
     record { answer = put.0; buffer = put.1 }
 
 -- past the test there is room for every part: the report was found to fit, or any would
-pub put_number_line-a-requires : goal.put_number_line-a-requires
-put_number_line-a-requires c =
-    let r = hour_of c.args.lv c.args.from.now c.args.to.now c.args.cents.now in
-    elim c.if-buf-lt-LONGEST.branch [
-      | then-buf-lt-LONGEST+else-buf-report_len w ↦ omega (arith, report-length r c.args.retired)
-      | else-buf-lt-LONGEST w ↦ omega (arith, report-length r c.args.retired, report-within r c.args.retired (omega arith))
-    ]
-
 pub put_laminations-requires : goal.put_laminations-requires
 put_laminations-requires c =
     let r = hour_of c.args.lv c.args.from.now c.args.to.now c.args.cents.now in

@@ -19,8 +19,3 @@ pub overflow_add-result-3 : goal.overflow_add-result-3
 overflow_add-result-3 c =
     let r = hour_of c.args.lv c.args.from.now c.args.to.now c.args.cents.now in
     omega (arith, report-length r c.args.retired, report-within r c.args.retired (omega arith))
-
-pub returns : goal.returns
-returns c =
-    let r = hour_of c.args.lv c.args.from.now c.args.to.now c.args.cents.now in
-    omega (arith, report-length r c.args.retired)

@@ -1,36 +1,22 @@
 use mathlib.Core.Path.{ap, sym, ◌∙◌}
 use Prim.Native.Nat.{◌<◌}
 use native.Mathlib.Omega.{arith}
-use Rattle.records.specs.Table.{marks, kinds}
+use Rattle.records.specs.Marks.{row}
+use Rattle.records.specs.Table.{kinds}
 use Rattle.records.specs.Record.{kind_of, key_width}
 use Rattle.records.proofs.MarkShapes.{shape-width}
 use Rattle.records.proofs.EveryMark.{mark-lt, kind-lt}
 use Rattle.lookup.proofs.Lookup.{width-le, lookup-ends, looked, other_width}
 use borrow.Author.Rules.{rules}
 use Rattle.lookup.proofs.current.Goals as goal
-use Rattle.lookup.proofs.current.Goals.{After-mark_at-mark, After-kind_of}
+use Rattle.lookup.proofs.current.Goals.{After-kind_of}
 
 pub key_number-requires : goal.key_number-requires
 key_number-requires c =
-    omega (
-      arith,
-      c.if-key-m.true,
-      shape-width _ c.mark_shape-m.ensures,
-      width-le c.mark_at-mark.result,
-    )
+    let k = row c.mark_at-mark.result in omega (arith, c.if-key-m.true, shape-width k c.mark_shape-m.ensures, width-le k)
 
--- the mark is known
-known : (c : After-mark_at-mark) → c.mark_at-mark.result < marks
-known c = rw c.mark_at-mark.ensures (mark-lt _)
-
-pub mark_shape-m-requires : goal.mark_shape-m-requires
-mark_shape-m-requires c = known c
-
-pub kind_of-requires : goal.kind_of-requires
-kind_of-requires c = known (goal.at.kind_of-requires c).After-mark_at-mark
-
--- its kind is one of the table's
-kind-is : (c : After-kind_of) → c.kind_of.result < kinds
+-- the mark's kind is one of the table's
+kind-is : (c : After-kind_of) → row c.kind_of.result < kinds
 kind-is c = rw c.kind_of.ensures (kind-lt _ (rw c.mark_at-mark.ensures (mark-lt _)))
 
 pub lookup_part-requires : goal.lookup_part-requires

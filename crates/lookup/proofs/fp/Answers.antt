@@ -1,16 +1,12 @@
 use mathlib.Core.Path.{refl, sym, ◌∙◌}
-use Prim.Native.Nat.{◌<◌}
 use native.Mathlib.Omega.{arith}
-use lib.ListN.{length}
 use Rattle.lists.specs.Tests.{among}
 use Rattle.records.specs.Record.{datable}
 use Rattle.records.specs.Table.{table, FP}
 use Rattle.records.proofs.Record.{fp-size}
-use Rattle.index.specs.Slots.{slot}
 use Rattle.lookup.proofs.Keys.{place-key}
 use Rattle.lookup.proofs.Parts.{beyond-index}
-use Rattle.lookup.proofs.Held.{part-is, record-in}
-use borrow.Author.Rules.{rules}
+use Rattle.lookup.proofs.Held.{part-is, asks-record}
 use Rattle.lookup.proofs.fp.Goals as goal
 
 pub returns-then-index-j : goal.returns-then-index-j
@@ -21,17 +17,16 @@ returns-then-index-j c =
       c.slot_fp-j.ensures,
     )))
 
-pub record_at-requires : goal.record_at-requires
+pub held_at-requires : goal.held_at-requires
 unfolding datable among table
-record_at-requires c =
+held_at-requires c =
     let p = c.requires in
     let e = c.slot_fp-j.ensures in
-    let fits : slot FP c.args.n < length c.args.index.now = omega (arith, c.if-index-j.false, e) in
-    (rw e fits, search rules, record-in p.0 FP _ (place-key _ p.2 p.3) fits refl e (sym fp-size))
+    asks-record p.0 FP _ (place-key _ p.2 p.3) (omega (arith, c.if-index-j.false, e)) refl e (sym fp-size)
 
 pub returns : goal.returns
 unfolding datable among table
 returns c =
     let p = c.requires in
     let e = c.slot_fp-j.ensures in
-    c.record_at.ensures ∙ part-is p.0 FP _ (place-key _ p.2 p.3) (omega (arith, c.if-index-j.false, e)) refl e (sym fp-size)
+    c.held_at.ensures.record refl ∙ part-is p.0 FP _ (place-key _ p.2 p.3) (omega (arith, c.if-index-j.false, e)) refl e (sym fp-size)

@@ -1,20 +1,26 @@
+use mathlib.Core.Path.{◌≡◌, refl}
+use Prim.Native.Nat.{◌^◌, ◌+◌, ◌≤◌}
 use native.Mathlib.Omega.{arith}
-use Rattle.lookup.proofs.Lookup.{number-0, number_at, number-3}
+use Rattle.std.proofs.Math.Nat.{pow-le-pow_right, pow-suc}
+use Rattle.std.proofs.Math.Numerals.{add-one}
+use lib.Dec.{lit<}
+use Rattle.fields.specs.Numbers.{number}
 use Rattle.lookup.proofs.key_number.Goals as goal
 
-pub returns-then-key-eq0 : goal.returns-then-key-eq0
-returns-then-key-eq0 c = number-0 c.args.key.now c.if-key-eq0.true
+pub loop-byte-init : goal.loop-byte-init
+unfolding number
+loop-byte-init c = (refl, lit< tt)
 
-pub returns-then-key-eq1 : goal.returns-then-key-eq1
-returns-then-key-eq1 c = number_at c.args.key.now 1 c.if-key-eq1.true c.u8_at.ensures
+pub overflow_mul-n : goal.overflow_mul-n
+overflow_mul-n c =
+    let i : c.loop-byte.byte-index ≤ 3 = omega arith in
+    let b : 256 ^ c.loop-byte.byte-index ≤ 256 ^ 3 = pow-le-pow_right (lit< tt) i in
+    omega arith
 
-pub returns-then-key-eq2 : goal.returns-then-key-eq2
-returns-then-key-eq2 c = number_at c.args.key.now 2 c.if-key-eq2.true c.u16_at.ensures
-
-pub returns-then-key-eq3 : goal.returns-then-key-eq3
-returns-then-key-eq3 c =
-    number-3 c.args.key.now c.if-key-eq3.true c.u16_at-then-key-eq3.ensures
-    c.u8_at-then-key-eq3.ensures
-
-pub returns : goal.returns
-returns c = number_at c.args.key.now 4 (omega arith) c.u32_at.ensures
+pub loop-byte-preserved : goal.loop-byte-preserved
+unfolding number
+loop-byte-preserved c =
+    let l = c.loop-byte in
+    let here : 0 + l.byte-index ≡ l.byte-index = omega arith in
+    rw add-one
+    (rw (here, l.invariant.0, c.from.ensures) refl, rw (pow-suc 256 l.byte-index) (omega (arith, c.type_inv.key l.byte-index, c.from.ensures)))

@@ -2,38 +2,29 @@ use mathlib.Core.Path.{ap, sym, ◌∙◌}
 use mathlib.Core.Bool.{Bool}
 use native.Mathlib.Omega.{arith}
 use borrow.Author.Tests.{ltb-true}
+use Rattle.std.proofs.lemmas.Result.{err_from_is_err_and}
 use Rattle.lists.proofs.Tests.{and_left, and_right}
 use Rattle.records.proofs.Answers.{not-refused}
-use Rattle.index.specs.declared.Passed.TheVariants.{Ended}
+use Rattle.index.specs.Passed.{Ended}
 use Rattle.lookup.proofs.Opening.{scan-stopped, scan-rising, scan-twins}
 use Rattle.lookup.proofs.open.Goals as goal
 
-pub first_twin-requires : goal.first_twin-requires
-first_twin-requires c =
-    let i = (c.scan.ensures.1 _ _ _ c.in-Ended.is).0 in
-    (i.short, i.clean)
+pub returns-in_err-pass : goal.returns-in_err-pass
+returns-in_err-pass c =
+    let p = err_from_is_err_and c.from_residual.result c.from_residual.ensures.1 in
+    rw (p.1, p.2) (scan-stopped _ _ c.in_err-pass.ensures.pass, λ e. absurd (not-refused _ _ e))
 
-pub returns-then-rising-top : goal.returns-then-rising-top
-returns-then-rising-top c =
-    let e = c.in-Ended in
-    let j = c.scan.ensures.1 _ _ _ e.is in
-    let i = j.0 in
-    let t = c.if-rising-top.true in
-    let z = ltb-true e.top _ (and_right e.rising _ t) in (
-      scan-rising _ _ (ap (λ (b : Bool). Ended b e.top e.dated) (sym (and_left e.rising _ t)) ∙ sym e.is
-          ∙ c.scan.ensures.0) (omega (arith, z, c.scan.auto.index)) i,
-      λ _. (i, j.2),
+pub returns-then-pass-index : goal.returns-then-pass-index
+returns-then-pass-index c =
+    let s = c.in_ok-pass.pass in
+    let e = c.in_ok-pass.ensures in
+    let t = c.if-pass-index.true in
+    let z = ltb-true s.top _ (and_right s.rising _ t) in (
+      scan-rising _ _ (ap (λ (b : Bool). Ended b s.top s.dated) (sym (and_left s.rising _ t)) ∙ e.pass) (omega (arith, z, c.scan.auto.index)) e.read.0,
+      λ _. (e.read.0, e.read.2),
     )
 
-pub returns-else-rising-top : goal.returns-else-rising-top
-returns-else-rising-top c =
-    let s = c.scan in
-    let i = s.ensures.1 _ _ _ c.in-Ended.is in
-    (c.first_twin.ensures ∙ sym (scan-twins _ i.0), λ _. (i.0, i.2))
-
-pub returns-in-Stopped : goal.returns-in-Stopped
-returns-in-Stopped c = (
-  scan-stopped _ _ (sym c.in-Stopped.is ∙ c.scan.ensures.0),
-  λ e. absurd
-      (not-refused _ _ e),
-)
+pub returns : goal.returns
+returns c =
+    let r = c.in_ok-pass.ensures.read in
+    (c.first_twin.ensures ∙ sym (scan-twins _ r.0), λ _. (r.0, r.2))

@@ -1,5 +1,6 @@
 use mathlib.Core.Path.{sym, ◌∙◌}
 use native.Mathlib.Omega.{arith}
+use Rattle.records.specs.Marks.{row}
 use Rattle.index.proofs.KeyBounds.{InKey, test-key}
 use Rattle.index.proofs.Slots.{slot_lt}
 use Rattle.lookup.proofs.Parts.{covered, place-current, no_key, key-small}
@@ -7,7 +8,7 @@ use Rattle.lookup.proofs.place_of.Goals as goal
 use Rattle.lookup.proofs.place_of.Goals.{Then-in_key}
 
 -- the number is a key of the kind
-its-key : (c : Then-in_key) → InKey c.args.kind c.args.n
+its-key : (c : Then-in_key) → InKey (row c.args.kind) c.args.n
 its-key c = test-key _ _ c.requires.1 (sym c.in_key.ensures ∙ c.if-in_key.true)
 
 pub slot_of-requires : goal.slot_of-requires

@@ -4,9 +4,6 @@ use Rattle.lookup.proofs.Keys.{fuel-key}
 use Rattle.query.proofs.Drawn.{fuel-slot, without, with-fuel}
 use Rattle.query.proofs.fuel_at.Goals as goal
 
-pub profile-profile-requires : goal.profile-profile-requires
-profile-profile-requires c = c.requires
-
 pub offset_bounds-index-slot_fu : goal.offset_bounds-index-slot_fu
 offset_bounds-index-slot_fu c = let p = c.profile-profile.ensures in omega (arith, c.slot_fu.ensures, slot_lt _ _ (fuel-key _ p.1 p.2))
 

@@ -1,21 +1,25 @@
-use borrow.Author.Rules.{rules}
 use mathlib.Core.Path.{ap}
-use Rattle.query.specs.Drawn.{drawn_by}
+use borrow.Author.Rules.{rules}
+use Rattle.std.proofs.lemmas.Result.{err_from_is_err_and}
+use Rattle.records.specs.Answers.{refusal_of}
 use Rattle.query.proofs.WayIn.{way-closed, way-open}
 use Rattle.reference.proofs.AtQuery.{levels-refused}
 use Rattle.reference.proofs.levels.Goals as goal
 
-pub returns-in-Closed : goal.returns-in-Closed
-returns-in-Closed c =
-    let a = c.args in
-    levels-refused _ _ _ _ (way-closed a.d.now a.owner c.way_in.result c.way_in.ensures c.in-Closed.is a.hour) c.no_levels-levels.ensures
+pub returns-in_err-way_in : goal.returns-in_err-way_in
+returns-in_err-way_in c =
+    let p = err_from_is_err_and c.from_residual.result c.from_residual.ensures.1 in
+    rw (p.1, p.2) (levels-refused _ _ (way-closed _ _ c.way_in.result c.way_in.ensures c.in_err-way_in.was c.args.hour))
 
 -- where the way is open, an owner asks
 pub levels_in-requires : goal.levels_in-requires
-levels_in-requires c = (search rules, way-open _ _ c.way_in.result c.way_in.ensures (ap drawn_by c.in-Short.is))
+unfolding refusal_of
+levels_in-requires c = (search rules, search rules, way-open _ _ c.way_in.result c.way_in.ensures (ap refusal_of c.in_ok-way_in.was))
 
 pub levels_in-requires-in-Narrow : goal.levels_in-requires-in-Narrow
-levels_in-requires-in-Narrow c = (search rules, way-open _ _ c.way_in.result c.way_in.ensures (ap drawn_by c.in-Narrow.is))
+unfolding refusal_of
+levels_in-requires-in-Narrow c = (search rules, search rules, way-open _ _ c.way_in.result c.way_in.ensures (ap refusal_of c.in_ok-way_in.was))
 
 pub levels_in-requires-in-Wide : goal.levels_in-requires-in-Wide
-levels_in-requires-in-Wide c = (search rules, way-open _ _ c.way_in.result c.way_in.ensures (ap drawn_by c.in-Wide.is))
+unfolding refusal_of
+levels_in-requires-in-Wide c = (search rules, search rules, way-open _ _ c.way_in.result c.way_in.ensures (ap refusal_of c.in_ok-way_in.was))

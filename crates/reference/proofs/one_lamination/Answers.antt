@@ -1,15 +1,8 @@
 use mathlib.Core.Path.{ap}
 use Prim.Native.Nat.{ℕ}
-use native.Mathlib.Omega.{arith}
 use Rattle.arrays.specs.Packed.{single_levels}
-use Rattle.arrays.proofs.Packed.{twenty, first-set}
+use Rattle.arrays.proofs.Packed.{first-set}
 use Rattle.reference.proofs.one_lamination.Goals as goal
-
-pub bounds-to-0 : goal.bounds-to-0
-bounds-to-0 c = omega (arith, twenty c.requires.1)
-
-pub bounds-cents-0 : goal.bounds-cents-0
-bounds-cents-0 c = omega (arith, twenty c.requires.2)
 
 pub returns : goal.returns
 returns c =

@@ -3,7 +3,7 @@ use mathlib.Core.List.{List}
 use Prim.Native.Nat.{ℕ}
 use native.Mathlib.Omega.{arith}
 use Rattle.lists.specs.Tests.{among}
-use Rattle.records.specs.declared.Answer.TheVariants.{Accepted}
+use Rattle.records.specs.Answers.{Accepted}
 use Rattle.records.specs.Table.{table, RS}
 use Rattle.records.specs.Record.{datable}
 use Rattle.records.specs.Dossier.{records}
@@ -20,11 +20,6 @@ use Rattle.arrays.proofs.Packed.{nuclear-packed, storage-packed, hydro-packed, o
 use Rattle.reference.proofs.Accepted.{technology-low, hours-fit, places-fit}
 use Rattle.reference.proofs.profile_levels.Goals as goal
 use Rattle.reference.proofs.profile_levels.Goals.{Else-technology-eq3}
-
-pub thermal_levels-requires : goal.thermal_levels-requires
-thermal_levels-requires c =
-    let a = c.requires in
-    (a.1, a.2, a.3, sym c.technology-technology.ensures.0 ∙ c.if-technology-eq1.true, a.6, a.7, a.8)
 
 pub returns-then-technology-eq2 : goal.returns-then-technology-eq2
 returns-then-technology-eq2 c =

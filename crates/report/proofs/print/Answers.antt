@@ -1,4 +1,4 @@
-use mathlib.Core.Path.{sym, ap, ◌∙◌}
+use mathlib.Core.Path.{ap, ◌∙◌}
 use native.Mathlib.Omega.{arith}
 use lib.ListN.{length}
 use Rattle.text.specs.Text.{over, refusal_line}
@@ -25,29 +25,29 @@ returns-then-input-lt4 c =
     record { answer = told.0; buffer = told.1 }
 
 -- what the report told is of the input after the hour, and a refusal that it told is all that is printed
-pub put_refusal-requires-in-Refused : goal.put_refusal-requires-in-Refused
-put_refusal-requires-in-Refused c =
+pub put_refusal-requires-in-Err : goal.put_refusal-requires-in-Err
+put_refusal-requires-in-Err c =
     let i = c.args.input.now in
     let e = c.args.out.now in
-    let told = after-hour i e c.u32_at.ensures (sym c.in-Refused.is ∙ c.report.ensures.answer, c.report.ensures.buffer) in
-    let refused = print-refusal i e c.if-out-lt-LONGEST.false c.if-input-lt4.false _ _ told in
+    let told = after-hour i e c.u32_at.ensures (c.in-Err.ensures.answer, c.in-Err.ensures.buffer) in
+    let refused = print-refusal i e c.if-out-lt-LONGEST.false c.if-input-lt4.false c.in-Err.refusal told in
     omega (arith, prints-fits i, ap length refused.0)
 
-pub returns-in-Bytes : goal.returns-in-Bytes
-returns-in-Bytes c =
+pub returns-in-Ok : goal.returns-in-Ok
+returns-in-Ok c =
     let i = c.args.input.now in
     let e = c.args.out.now in
-    let told = after-hour i e c.u32_at.ensures (sym c.in-Bytes.is ∙ c.report.ensures.answer, c.report.ensures.buffer) in
+    let told = after-hour i e c.u32_at.ensures (c.in-Ok.ensures.answer, c.in-Ok.ensures.buffer) in
     let t = told_text i e c.if-out-lt-LONGEST.false (print-report i e c.if-out-lt-LONGEST.false c.if-input-lt4.false _ told) in
     record { answer = t.0; buffer = t.1 }
 
-pub returns-in-Refused : goal.returns-in-Refused
-returns-in-Refused c =
+pub returns-in-Err : goal.returns-in-Err
+returns-in-Err c =
     let i = c.args.input.now in
     let e = c.args.out.now in
-    let n = c.in-Refused in
-    let told = after-hour i e c.u32_at.ensures (sym n.is ∙ c.report.ensures.answer, c.report.ensures.buffer) in
-    let refused = print-refusal i e c.if-out-lt-LONGEST.false c.if-input-lt4.false _ _ told in
-    let put = c.put_refusal-in-Refused.ensures in
-    let t = told_text i e c.if-out-lt-LONGEST.false (rw refused.0 (put.0, put.1 ∙ ap (over (refusal_line n.number n.place)) refused.1)) in
+    let r = c.in-Err.refusal in
+    let told = after-hour i e c.u32_at.ensures (c.in-Err.ensures.answer, c.in-Err.ensures.buffer) in
+    let refused = print-refusal i e c.if-out-lt-LONGEST.false c.if-input-lt4.false r told in
+    let put = c.put_refusal-in-Err.ensures in
+    let t = told_text i e c.if-out-lt-LONGEST.false (rw refused.0 (put.0, put.1 ∙ ap (over (refusal_line r.number r.place)) refused.1)) in
     record { answer = t.0; buffer = t.1 }

@@ -1,8 +1,8 @@
-use mathlib.Core.Path.{◌≡◌, refl, ap, sym, ◌∙◌}
-use Prim.Native.Nat.{ℕ}
+use mathlib.Core.Path.{◌≡◌, refl, sym, ◌∙◌}
+use mathlib.Core.Bool.{Bool, ◌&&◌}
+use Prim.Native.Nat.{ℕ, zero, suc, ◌+◌, ◌-◌, ◌≤◌}
 use native.Mathlib.Omega.{arith}
 use Rattle.lists.specs.Tests.{all_to}
-use Rattle.lists.proofs.Tests.{to-next}
 use Rattle.records.specs.Table.{RQ}
 use Rattle.records.specs.Dossier.{records}
 use Rattle.station.specs.Parameters.{parameters}
@@ -23,19 +23,20 @@ returns-then-slots_empty c =
     requests-none _ _ c.requires c.slot_rq.ensures
     (sym c.slots_empty.ensures ∙ c.if-slots_empty.true)
 
-pub loop-n-init : goal.loop-n-init
-loop-n-init c = (omega arith, unfold all_to in refl)
+-- one request more
+turn : (f : ℕ → Bool) (n : ℕ) {a b : Bool} → 1 ≤ n → a ≡ all_to (n - 1) f → b ≡ f n → a && b ≡ all_to n f
+unfolding all_to
+turn f zero h p q = absurd (omega arith)
+turn f (suc n) h p q =
+    let z : suc n - 1 ≡ n = omega arith in
+    rw (rw z at p, q) refl
 
-pub request_fuelled-ok-requires : goal.request_fuelled-ok-requires
-request_fuelled-ok-requires c = (c.requires, omega arith, omega arith)
+pub loop-n-init : goal.loop-n-init
+unfolding all_to
+loop-n-init c = refl
 
 pub loop-n-preserved : goal.loop-n-preserved
-loop-n-preserved c = (
-  omega arith,
-  to-next c.loop-n.n (fuelled (parameters (records c.args.d.now))) c.loop-n.invariant.1
-      c.request_fuelled-ok.ensures,
-)
-
-pub returns : goal.returns
-returns c =
-    c.loop-n.invariant.1 ∙ ap (λ (n : ℕ). all_to n (fuelled (parameters (records c.args.d.now)))) (omega arith)
+loop-n-preserved c =
+    let l = c.loop-n in
+    let z : l.n + 1 - 1 ≡ l.n = omega arith in
+    rw z (turn (fuelled (parameters (records c.args.d.now))) l.n l.auto.n l.invariant c.request_fuelled-ok.ensures)

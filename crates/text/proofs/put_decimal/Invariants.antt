@@ -1,17 +1,12 @@
 use mathlib.Core.Path.{◌≡◌}
 use mathlib.Core.List.{◌++◌}
-use Prim.Native.Nat.{◌≤◌}
-use lib.ListN.{length, drop}
+use lib.ListN.{drop}
 use Rattle.text.specs.Text.{over, decimal}
+use Rattle.text.proofs.Decimal.{last_digits}
 use Rattle.text.proofs.put_decimal.Given as goal
 
--- `text::put_decimal` meets its contract. The loop's invariant: `i` is the length of what is left of the number, whose text and
--- the buffer from there on are what the buffer shall hold. The measure is what is left of the number.
+-- `text::put_decimal` meets its contract. The loop's invariant: the digits that are left, and the buffer behind their places, are
+-- what the buffer shall hold.
 
-abbrev pub invariant-loop-m : goal.invariant-loop-m
-invariant-loop-m l =
-    (l.m ≤ l.n) × (l.i ≡ length (decimal l.m)) × (l.i ≤ length l.buf) × (length l.buf ≡ length l.initial.buf)
-    × (decimal l.m ++ drop l.i l.buf ≡ over (decimal l.n) l.initial.buf)
-
-abbrev pub decreases-loop-m : goal.decreases-loop-m
-decreases-loop-m l = l.m
+abbrev pub invariant-loop-i : goal.invariant-loop-i
+invariant-loop-i l = last_digits l.i l.m ++ drop l.i l.buf ≡ over (decimal l.n) l.initial.buf

@@ -7,15 +7,6 @@ use Rattle.text.proofs.put_hundredths.Goals as goal
 
 -- `text::put_hundredths` meets its contract: the last digit goes behind the tenths.
 
-pub put_tenths-a-requires : goal.put_tenths-a-requires
-put_tenths-a-requires c = omega (arith, hundredths-length c.args.n)
-
-pub bounds-buf-a : goal.bounds-buf-a
-bounds-buf-a c = omega (arith, hundredths-length c.args.n)
-
-pub overflow_add-result : goal.overflow_add-result
-overflow_add-result c = omega (arith, hundredths-length c.args.n)
-
 pub returns : goal.returns
 unfolding hundredths
 returns c =

@@ -9,20 +9,8 @@ use Rattle.text.proofs.put_tenths.Goals as goal
 
 -- `text::put_tenths` meets its contract: the point and the last digit go behind the whole MW.
 
-pub put_decimal-a-requires : goal.put_decimal-a-requires
-put_decimal-a-requires c = omega (arith, tenths-length c.args.n)
-
-pub bounds-buf-a : goal.bounds-buf-a
-bounds-buf-a c = omega (arith, tenths-length c.args.n)
-
-pub overflow_add-b : goal.overflow_add-b
-overflow_add-b c = omega (arith, tenths-length c.args.n)
-
 pub bounds-buf-b : goal.bounds-buf-b
 bounds-buf-b c = simp length-set (omega (arith, tenths-length c.args.n))
-
-pub overflow_add-result : goal.overflow_add-result
-overflow_add-result c = omega (arith, tenths-length c.args.n)
 
 pub returns : goal.returns
 unfolding tenths

@@ -1,7 +1,11 @@
-use mathlib.Core.Path.{refl}
-use Rattle.trials.specs.Trials.{valued}
+use mathlib.Core.Path.{sym}
+use Rattle.trials.proofs.Laws.{is-asked, not-asked}
 use Rattle.trials.proofs.is_valued.Goals as goal
 
-pub returns : goal.returns
-unfolding valued
-returns c = rw c.kind_of-kind.ensures refl
+pub returns-in-FU : goal.returns-in-FU
+returns-in-FU c = sym (is-asked _ c.in-FU.is)
+
+pub returns-in_default : goal.returns-in_default
+returns-in_default c =
+    let d = c.in_default in
+    sym (not-asked _ d.not-FU d.not-MM d.not-FV d.not-MV)

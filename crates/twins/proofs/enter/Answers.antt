@@ -5,9 +5,6 @@ use Rattle.twins.proofs.Way.{begin, sizes, first, facts, onward, met, gap}
 use Rattle.twins.proofs.enter.Goals as goal
 use Rattle.twins.proofs.enter.Goals.{After-root_of-at, In-loop-node}
 
-pub root_of-at-requires : goal.root_of-at-requires
-root_of-at-requires c = c.requires.few
-
 -- the way begins among the roots
 first_fits : (c : After-root_of-at) → c.root_of-at.result < c.args.roots
 first_fits c = first c.requires c.args.x c.root_of-at.ensures
@@ -29,35 +26,11 @@ loop-node-init c = (
 here : (c : In-loop-node) → (0 < c.loop-node.node) × (c.loop-node.node ≤ c.args.count) × (c.loop-node.at < c.args.roots + 2 * c.loop-node.node)
 here c = facts c.requires c.loop-node.invariant.1 c.loop-node-test.true
 
-pub offset_bounds-ids-node : goal.offset_bounds-ids-node
-offset_bounds-ids-node c = omega (arith, here (goal.at.offset_bounds-ids-node c).In-loop-node, sizes c.requires)
-
-pub bounds-ids-node : goal.bounds-ids-node
-bounds-ids-node c = omega (arith, here (goal.at.bounds-ids-node c).In-loop-node, sizes c.requires)
-
 pub returns-then-ids-node : goal.returns-then-ids-node
 returns-then-ids-node c =
     let l = c.loop-node in
     met _ c.args.links.now c.args.ids.now c.args.count c.args.x l.at l.left l.node l.invariant.2 l.invariant.1
     (here (goal.at.returns-then-ids-node c).In-loop-node).0 c.if-ids-node.true
-
-pub overflow_mul-at : goal.overflow_mul-at
-overflow_mul-at c = omega (arith, here (goal.at.overflow_mul-at c).In-loop-node, sizes c.requires)
-
-pub overflow_add-at : goal.overflow_add-at
-overflow_add-at c = omega (arith, here (goal.at.overflow_add-at c).In-loop-node, sizes c.requires)
-
-pub overflow_add-at-in-loop-node : goal.overflow_add-at-in-loop-node
-overflow_add-at-in-loop-node c = omega (arith, here (goal.at.overflow_add-at-in-loop-node c).In-loop-node, sizes c.requires)
-
-pub offset_bounds-links-at-in-loop-node : goal.offset_bounds-links-at-in-loop-node
-offset_bounds-links-at-in-loop-node c = omega (arith, here (goal.at.offset_bounds-links-at-in-loop-node c).In-loop-node, sizes c.requires)
-
-pub bounds-links-at-in-loop-node : goal.bounds-links-at-in-loop-node
-bounds-links-at-in-loop-node c = omega (arith, here (goal.at.bounds-links-at-in-loop-node c).In-loop-node, sizes c.requires)
-
-pub loop-node-smaller : goal.loop-node-smaller
-loop-node-smaller c = omega (arith, here (goal.at.loop-node-smaller c).In-loop-node, sizes c.requires)
 
 pub loop-node-preserved : goal.loop-node-preserved
 loop-node-preserved c =
@@ -67,24 +40,6 @@ loop-node-preserved c =
       refl,
       onward _ c.args.links.now c.args.ids.now c.args.count c.args.x l.at l.left l.node l.invariant.2 l.invariant.1 h.0 c.if-ids-node.false,
     )
-
-pub overflow_add-links : goal.overflow_add-links
-overflow_add-links c = omega (arith, c.loop-node.invariant.0, sizes c.requires)
-
-pub offset_bounds-links-at-2 : goal.offset_bounds-links-at-2
-offset_bounds-links-at-2 c = omega (arith, c.loop-node.invariant.0, sizes c.requires)
-
-pub bounds-links-at-2 : goal.bounds-links-at-2
-bounds-links-at-2 c = omega (arith, c.loop-node.invariant.0, sizes c.requires)
-
-pub overflow_add-ids : goal.overflow_add-ids
-overflow_add-ids c = omega (arith, c.loop-node.invariant.0, sizes c.requires)
-
-pub offset_bounds-ids-count : goal.offset_bounds-ids-count
-offset_bounds-ids-count c = omega (arith, c.loop-node.invariant.0, sizes c.requires)
-
-pub bounds-ids-count : goal.bounds-ids-count
-bounds-ids-count c = omega (arith, c.loop-node.invariant.0, sizes c.requires)
 
 pub returns : goal.returns
 returns c =

@@ -22,9 +22,6 @@ its-mark d at e = e ∙ ap mark (tail d at)
 its-size : (d : List ℕ) (at : ℕ) {m n : ℕ} → m ≡ mark (take (length d - at) (drop at d)) → n ≡ size m → n ≡ size (mark (drop at d))
 its-size d at e f = f ∙ ap size (its-mark d at e)
 
-pub length_of-requires : goal.length_of-requires
-length_of-requires c = rw (its-mark c.args.d.now c.args.at c.mark_at.ensures) (mark-lt (drop c.args.at c.args.d.now))
-
 pub overflow_add-result : goal.overflow_add-result
 overflow_add-result c =
     let m = mark (drop c.args.at c.args.d.now) in

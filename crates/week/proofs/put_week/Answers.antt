@@ -1,4 +1,5 @@
-use mathlib.Core.Path.{◌≡◌, sym, ◌∙◌}
+use mathlib.Core.Path.{◌≡◌, refl, sym, ◌∙◌}
+use borrow.Author.Rules.{rules}
 use Prim.Native.Nat.{ℕ, ◌≤◌}
 use native.Mathlib.Omega.{arith}
 use lib.IntN.{pos}
@@ -11,7 +12,7 @@ use Rattle.station.specs.Week.{week_price, week_energy, week_prices, week_energi
 use Rattle.index.specs.Slots.{slot}
 use Rattle.index.proofs.Slots.{in-empty}
 use Rattle.rules.proofs.Week.{accepted-readable}
-use Rattle.week.proofs.Stands.{stands_same, stands-whole}
+use Rattle.week.proofs.Stands.{cleared, stands_same, stands-whole}
 use Rattle.week.proofs.Reading.{price-none, energy-none, reading_begins, prices-read, energies-read}
 use Rattle.week.proofs.put_week.Goals as goal
 
@@ -35,10 +36,12 @@ unfolding week_prices week_energies
 returns-then-slots_empty c =
     let p = c.requires in
     let d = c.args.d.now in
-    let ok = accepted-readable p.0 in (
-      stands-whole (pos 0) _ (stands_same (pos 0) _ c.clear_prices.ensures (week_price d)
+    let ok = accepted-readable p.0 in
+    let prices = cleared (pos 0) _ _ refl p.3 (c.fill.ensures.after (λ y h. search rules)) in
+    let energies = cleared 0 _ _ refl p.4 (c.fill-2.ensures.after (λ y h. search rules)) in (
+      stands-whole (pos 0) _ (stands_same (pos 0) _ prices (week_price d)
           (λ n x y. sym (price-none ok p.1 p.2 n x y (empty-slot c n x y)))) p.3,
-      stands-whole 0 _ (stands_same 0 _ c.clear_energies.ensures (week_energy d)
+      stands-whole 0 _ (stands_same 0 _ energies (week_energy d)
           (λ n x y. sym (energy-none ok p.1 p.2 n x y (empty-slot c n x y)))) p.4,
     )
 
@@ -47,13 +50,15 @@ returns-then-slots_empty c =
 pub put_record-at-requires : goal.put_record-at-requires
 put_record-at-requires c =
     let p = c.requires in
-    let l = c.loop-at in (
+    let l = c.loop-at in
+    let prices = cleared (pos 0) _ _ refl p.3 (c.fill.ensures.after (λ y h. search rules)) in
+    let energies = cleared 0 _ _ refl p.4 (c.fill-2.ensures.after (λ y h. search rules)) in (
       p.0,
       p.1,
       p.2,
       c.loop-at-test.true,
-      omega (arith, l.invariant.0, c.clear_prices.auto, p.3),
-      omega (arith, l.invariant.1, c.clear_energies.auto, p.4),
+      omega (arith, l.invariant.0, prices.long, p.3),
+      omega (arith, l.invariant.1, energies.long, p.4),
     )
 
 pub loop-at-smaller : goal.loop-at-smaller
@@ -72,7 +77,9 @@ unfolding week_prices week_energies
 returns c =
     let p = c.requires in
     let ok = accepted-readable p.0 in
-    let f = c.loop-at.invariant.2 _ _ (reading_begins ok p.1 p.2 c.clear_prices.ensures c.clear_energies.ensures) in (
+    let prices = cleared (pos 0) _ _ refl p.3 (c.fill.ensures.after (λ y h. search rules)) in
+    let energies = cleared 0 _ _ refl p.4 (c.fill-2.ensures.after (λ y h. search rules)) in
+    let f = c.loop-at.invariant.2 _ _ (reading_begins ok p.1 p.2 prices energies) in (
       stands-whole (pos 0) _ (prices-read ok p.1 p.2 f c.loop-at-test.false) p.3,
       stands-whole 0 _ (energies-read ok p.1 p.2 f c.loop-at-test.false) p.4,
     )

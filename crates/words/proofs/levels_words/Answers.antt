@@ -1,25 +1,30 @@
 use mathlib.Core.Path.{ap}
 use borrow.Author.Rules.{rules}
+use Rattle.std.proofs.lemmas.Result.{err_from_is_err_and}
 use Rattle.station.specs.InForce.{query}
-use Rattle.query.specs.Drawn.{drawn_by}
+use Rattle.records.specs.Answers.{refusal_of}
 use Rattle.query.proofs.WayIn.{way-closed, way-open}
 use Rattle.words.proofs.Answers.{told-refusal}
 use Rattle.words.proofs.levels_words.Goals as goal
 
 -- `words::levels_words` meets its contract.
 
-pub returns-in-Closed : goal.returns-in-Closed
-returns-in-Closed c =
+pub returns-in_err-way_in : goal.returns-in_err-way_in
+returns-in_err-way_in c =
     let a = c.args in
-    told-refusal a.d.now (query a.hour a.owner) a.words.now _ 0 (way-closed a.d.now a.owner c.way_in.result c.way_in.ensures c.in-Closed.is
-    a.hour)
+    let closed = way-closed a.d.now a.owner c.way_in.result c.way_in.ensures c.in_err-way_in.was a.hour in
+    let p = err_from_is_err_and c.from_residual.result c.from_residual.ensures.1 in
+    rw (p.1, p.2) (told-refusal a.d.now (query a.hour a.owner) a.words.now _ closed)
 
 -- where the way is open, an owner asks
 pub levels_words_in-requires : goal.levels_words_in-requires
-levels_words_in-requires c = (search rules, way-open _ _ c.way_in.result c.way_in.ensures (ap drawn_by c.in-Short.is))
+unfolding refusal_of
+levels_words_in-requires c = (search rules, search rules, way-open _ _ c.way_in.result c.way_in.ensures (ap refusal_of c.in_ok-way_in.was))
 
 pub levels_words_in-requires-in-Narrow : goal.levels_words_in-requires-in-Narrow
-levels_words_in-requires-in-Narrow c = (search rules, way-open _ _ c.way_in.result c.way_in.ensures (ap drawn_by c.in-Narrow.is))
+unfolding refusal_of
+levels_words_in-requires-in-Narrow c = (search rules, search rules, way-open _ _ c.way_in.result c.way_in.ensures (ap refusal_of c.in_ok-way_in.was))
 
 pub levels_words_in-requires-in-Wide : goal.levels_words_in-requires-in-Wide
-levels_words_in-requires-in-Wide c = (search rules, way-open _ _ c.way_in.result c.way_in.ensures (ap drawn_by c.in-Wide.is))
+unfolding refusal_of
+levels_words_in-requires-in-Wide c = (search rules, search rules, way-open _ _ c.way_in.result c.way_in.ensures (ap refusal_of c.in_ok-way_in.was))

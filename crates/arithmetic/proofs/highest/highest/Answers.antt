@@ -11,12 +11,6 @@ times c =
     let b : c.price_threshold-v.result ≤ 4294967295 = omega arith in
     mul-le-mul a b
 
-pub overflow_mul-result : goal.overflow_mul-result
-overflow_mul-result c = omega (arith, times c)
-
-pub overflow_add-result : goal.overflow_add-result
-overflow_add-result c = omega (arith, times c)
-
 pub returns : goal.returns
 returns c =
     let e = highest-sum _ _ c.args.s.now c.price_threshold-v.ensures.0 in

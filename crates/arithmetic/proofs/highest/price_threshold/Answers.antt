@@ -5,8 +5,9 @@ use Prim.Native.Nat.{ℕ, min}
 use native.Mathlib.Nat.{le_refl}
 use native.Mathlib.Omega.{arith}
 use lib.Dec.{lit≤}
+use Rattle.std.specs.Prelude.{fold}
 use Rattle.lists.specs.Lists.{Each}
-use Rattle.arithmetic.specs.Highest.{in_turn, PriceIn}
+use Rattle.arithmetic.specs.Highest.{PriceIn}
 use Rattle.arithmetic.proofs.Selection.{topmost-le, all-least, threshold-lowest, none_above, lowest-in, topmost-in}
 use Rattle.arithmetic.proofs.highest.price_threshold.Goals as goal
 
@@ -14,7 +15,7 @@ highest-price : PriceIn 2147683648
 highest-price = record { low = lit≤ tt; high = le_refl 2147683648 }
 
 -- the lowest is a price
-low-price : (low : ℕ) (s : List ℕ) → Each PriceIn s → low ≡ in_turn min 2147683648 s → PriceIn low
+low-price : (low : ℕ) (s : List ℕ) → Each PriceIn s → low ≡ fold min 2147683648 s → PriceIn low
 low-price low s p e = rw e (lowest-in 2147683648 p highest-price)
 
 pub returns-then-s-most : goal.returns-then-s-most

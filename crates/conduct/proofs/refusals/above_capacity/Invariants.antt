@@ -1,6 +1,5 @@
 use mathlib.Core.Path.{◌≡◌}
 use Prim.Native.Nat.{◌-◌, ◌≤◌}
-use Rattle.station.specs.Parameters.{capacity as capacity_of}
 use Rattle.lookup.specs.Parts.{parameters_held}
 use Rattle.verdicts.specs.Refusals.{above_capacity}
 use Rattle.conduct.proofs.refusals.above_capacity.Given as goal
@@ -8,7 +7,4 @@ use Rattle.conduct.proofs.refusals.above_capacity.Given as goal
 abbrev pub invariant-loop-k : goal.invariant-loop-k
 invariant-loop-k l =
     let s = parameters_held l.d l.index in
-    (l.k ≤ l.pairs) × (l.pairs ≤ 20) × (l.capacity ≡ capacity_of s) × (above_capacity s l.offer l.k (l.pairs - l.k) ≡ above_capacity s l.offer 0 l.pairs)
-
-abbrev pub decreases-loop-k : goal.decreases-loop-k
-decreases-loop-k l = l.pairs - l.k
+    (l.pairs ≤ 20) × (above_capacity s l.offer l.k (l.pairs - l.k) ≡ above_capacity s l.offer 0 l.pairs)

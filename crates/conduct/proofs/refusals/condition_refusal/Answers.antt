@@ -6,15 +6,9 @@ use Rattle.station.specs.Current.{current}
 use Rattle.station.specs.Parameters.{threshold_key}
 use Rattle.lookup.specs.Parts.{held, parameters_held}
 use Rattle.lookup.proofs.Held.{held-always}
-use Rattle.conduct.proofs.Turns.{in-conditions, condition-in, condition-none, condition-out}
+use Rattle.conduct.proofs.Turns.{condition-in, condition-none, condition-out}
 use Rattle.conduct.proofs.refusals.condition_refusal.Goals as goal
 use Rattle.conduct.proofs.refusals.condition_refusal.Goals.{After-th-th}
-
-pub th-th-requires : goal.th-th-requires
-th-th-requires c =
-    let p = c.requires in
-    let q = in-conditions c.args.condition c.if-condition.true in
-    (p.0, q.0, q.1, p.1, p.2)
 
 -- what was found is held
 found : (c : After-th-th) → let a = c.args in

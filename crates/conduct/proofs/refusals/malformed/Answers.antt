@@ -10,33 +10,32 @@ use Rattle.conduct.proofs.refusals.malformed.Goals as goal
 
 pub loop-k-init : goal.loop-k-init
 unfolding before price_before
-loop-k-init c = (omega arith, omega (arith, c.requires), refl, refl, all_left (malformed _ 0) _)
+loop-k-init c = (omega (arith, c.requires), refl, refl, all_left (malformed _ 0) _)
 
 pub returns-then-not-pair_holds : goal.returns-then-not-pair_holds
 returns-then-not-pair_holds c =
     let i = c.loop-k in
     let o = c.args.offer.now in
-    malformed-stop o (length o / 6) i.k i.low i.last _ _ c.loop-k-test.true i.invariant.2 i.invariant.3
+    malformed-stop o (length o / 6) i.k i.low i.last _ _ c.loop-k-test.true i.invariant.1 i.invariant.2
     c.quantity_at-high.ensures c.price_at-price.ensures.0
     (sym c.pair_holds.ensures ∙ c.if-not-pair_holds.true)
-    ∙ i.invariant.4
+    ∙ i.invariant.3
 
 pub loop-k-preserved : goal.loop-k-preserved
 loop-k-preserved c =
     let i = c.loop-k in
     let o = c.args.offer.now in (
       omega arith,
-      omega arith,
       c.quantity_at-high.ensures ∙ before-next o i.k,
       c.price_at-price.ensures.0 ∙ price_before-next o i.k,
-      malformed-next o (length o / 6) i.k i.low i.last _ _ c.loop-k-test.true i.invariant.2 i.invariant.3
+      malformed-next o (length o / 6) i.k i.low i.last _ _ c.loop-k-test.true i.invariant.1 i.invariant.2
           c.quantity_at-high.ensures c.price_at-price.ensures.0
           (sym c.pair_holds.ensures ∙ c.if-not-pair_holds.false)
-          ∙ i.invariant.4,
+          ∙ i.invariant.3,
     )
 
 pub returns : goal.returns
 returns c =
     let i = c.loop-k in
     let o = c.args.offer.now in
-    malformed-end o (length o / 6) i.k c.loop-k-test.false ∙ i.invariant.4
+    malformed-end o (length o / 6) i.k c.loop-k-test.false ∙ i.invariant.3

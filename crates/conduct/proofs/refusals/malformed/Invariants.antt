@@ -6,11 +6,7 @@ use Rattle.conduct.proofs.refusals.malformed.Given as goal
 
 abbrev pub invariant-loop-k : goal.invariant-loop-k
 invariant-loop-k l =
-    (l.k ≤ l.pairs)
-    × (l.pairs ≤ 20)
+    (l.pairs ≤ 20)
     × (l.low ≡ before l.offer l.k)
     × (l.last ≡ price_before l.offer l.k)
     × (malformed l.offer l.k (l.pairs - l.k) ≡ malformed l.offer 0 l.pairs)
-
-abbrev pub decreases-loop-k : goal.decreases-loop-k
-decreases-loop-k l = l.pairs - l.k

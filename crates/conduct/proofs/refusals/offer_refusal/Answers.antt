@@ -1,45 +1,35 @@
-use mathlib.Core.Path.{sym, ◌∙◌}
+use mathlib.Core.Path.{refl, sym}
+use Rattle.std.proofs.lemmas.Result.{err_from_is_err_and}
+use Rattle.records.specs.Answers.{or_else}
 use Rattle.verdicts.specs.Refusals.{offer_refusal}
 use Rattle.verdicts.proofs.Settled.{length-accepted}
-use Rattle.conduct.proofs.Turns.{refused-first, accepted-then}
 use Rattle.conduct.proofs.refusals.offer_refusal.Goals as goal
 
 pub malformed-requires : goal.malformed-requires
-malformed-requires c = length-accepted _ (sym c.length_refusal.ensures ∙ c.in-Accepted-length_refusal.is)
+malformed-requires c = length-accepted _ (sym c.in_ok-length_refusal.ensures)
 
 pub capacity_refusal-requires : goal.capacity_refusal-requires
-capacity_refusal-requires c = (
-  c.requires,
-  length-accepted _ (sym c.length_refusal.ensures ∙ c.in-Accepted-length_refusal.is),
-  sym c.malformed.ensures ∙ c.in-Accepted-malformed.is,
-)
+capacity_refusal-requires c = (c.requires, length-accepted _ (sym c.in_ok-length_refusal.ensures), sym c.in_ok-malformed.ensures)
 
-pub returns-in-Refused : goal.returns-in-Refused
-unfolding offer_refusal
-returns-in-Refused c = refused-first _ (sym c.condition_refusal.ensures ∙ c.in-Refused.is)
+pub returns-in_err-condition_refusal : goal.returns-in_err-condition_refusal
+unfolding offer_refusal or_else
+returns-in_err-condition_refusal c =
+    let p = err_from_is_err_and c.from_residual.result c.from_residual.ensures.1 in
+    rw (p.1, p.2, ← c.in_err-condition_refusal.ensures) refl
 
-pub returns-in-Refused-length_refusal : goal.returns-in-Refused-length_refusal
-unfolding offer_refusal
-returns-in-Refused-length_refusal c =
-    refused-first _ (sym c.length_refusal.ensures ∙ c.in-Refused-length_refusal.is)
-    ∙ accepted-then _ (sym c.condition_refusal.ensures
-    ∙ c.in-Accepted.is)
+pub returns-in_err-length_refusal : goal.returns-in_err-length_refusal
+unfolding offer_refusal or_else
+returns-in_err-length_refusal c =
+    let p = err_from_is_err_and c.from_residual-in_err-length_refusal.result c.from_residual-in_err-length_refusal.ensures.1 in
+    rw (p.1, p.2, ← c.in_ok-condition_refusal.ensures, ← c.in_err-length_refusal.ensures) refl
 
-pub returns-in-Refused-malformed : goal.returns-in-Refused-malformed
-unfolding offer_refusal
-returns-in-Refused-malformed c =
-    refused-first _ (sym c.malformed.ensures ∙ c.in-Refused-malformed.is)
-    ∙ accepted-then _ (sym c.length_refusal.ensures
-    ∙ c.in-Accepted-length_refusal.is)
-    ∙ accepted-then _ (sym c.condition_refusal.ensures
-    ∙ c.in-Accepted.is)
+pub returns-in_err-malformed : goal.returns-in_err-malformed
+unfolding offer_refusal or_else
+returns-in_err-malformed c =
+    let p = err_from_is_err_and c.from_residual-in_err-malformed.result c.from_residual-in_err-malformed.ensures.1 in
+    rw (p.1, p.2, ← c.in_ok-condition_refusal.ensures, ← c.in_ok-length_refusal.ensures, ← c.in_err-malformed.ensures) refl
 
-pub returns-in-Accepted-malformed : goal.returns-in-Accepted-malformed
-unfolding offer_refusal
-returns-in-Accepted-malformed c =
-    c.capacity_refusal.ensures
-    ∙ accepted-then _ (sym c.malformed.ensures ∙ c.in-Accepted-malformed.is)
-    ∙ accepted-then _ (sym c.length_refusal.ensures
-    ∙ c.in-Accepted-length_refusal.is)
-    ∙ accepted-then _ (sym c.condition_refusal.ensures
-    ∙ c.in-Accepted.is)
+pub returns : goal.returns
+unfolding offer_refusal or_else
+returns c =
+    rw (← c.in_ok-condition_refusal.ensures, ← c.in_ok-length_refusal.ensures, ← c.in_ok-malformed.ensures) c.capacity_refusal.ensures

@@ -2,13 +2,6 @@ use native.Mathlib.Omega.{arith}
 use Rattle.costs.proofs.Retired.{some-le, payments-there}
 use Rattle.costs.proofs.maintenance.payments.Goals as goal
 
-pub overflow_add-result : goal.overflow_add-result
-overflow_add-result c = record { fits = omega (arith, some-le c.ad.result.now, some-le c.ao.result.now) }
-
-pub overflow_add-result-2 : goal.overflow_add-result-2
-overflow_add-result-2 c =
-    record { fits = omega (arith, some-le c.ad.result.now, some-le c.ao.result.now, some-le c.ao-2.result.now) }
-
 pub returns : goal.returns
 returns c = (
   payments-there c.requires.0 c.args.p c.args.v c.ad.ensures c.ao.ensures c.ao-2.ensures,

@@ -27,10 +27,10 @@ unfolding micro_dollars charging_cost charging_sum
 returns c =
     let s = c.requires.2 in
     let e = energy-is s in
-    let x = c.less-sum.result in
+    let x = c.saturating_sub-sum.result in
     let y = get_or c.args.sums.now 1 0 in (
       rw (ne_eqb (total_energy _) 0 (λ z. c.if-energy-eq0.false (e ∙ z)))
           (c.share.ensures.0
-          ∙ ap₂ quotient (ap (λ (z : ℕ). z * 10000) (c.less-sum.ensures ∙ ap₂ (λ (m n : ℕ). m - 2147483648 * n) s.cost-sum e)) e),
-      omega (arith, c.share.ensures.0, quotient_le (x * 10000) y 2000000000 (omega (arith, c.less-sum.ensures, s.cost-high))),
+          ∙ ap₂ quotient (ap (λ (z : ℕ). z * 10000) (c.saturating_sub-sum.ensures ∙ ap₂ (λ (m n : ℕ). m - 2147483648 * n) s.cost-sum e)) e),
+      omega (arith, c.share.ensures.0, quotient_le (x * 10000) y 2000000000 (omega (arith, c.saturating_sub-sum.ensures, s.cost-high))),
     )

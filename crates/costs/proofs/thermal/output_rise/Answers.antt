@@ -7,4 +7,4 @@ use Rattle.costs.proofs.thermal.output_rise.Goals as goal
 pub returns : goal.returns
 unfolding rise
 returns c =
-    (c.less.ensures ∙ ap₂ (λ (x y : ℕ). x - y) c.output.ensures.0 c.output-2.ensures.0, omega (arith, c.less.ensures))
+    (c.saturating_sub.ensures ∙ ap₂ (λ (x y : ℕ). x - y) c.output.ensures.0 c.output-2.ensures.0, omega (arith, c.saturating_sub.ensures))

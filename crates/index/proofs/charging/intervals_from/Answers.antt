@@ -7,6 +7,7 @@ use Rattle.index.specs.declared.charging.Interval.{Interval}
 use Rattle.index.specs.Intervals.{is_interval}
 use Rattle.index.proofs.Intervals.{interval-none}
 use Rattle.index.proofs.HeldSums.{cost-within, energy-within, sums-put}
+use Rattle.index.proofs.Turn.{max-higher}
 use Rattle.index.proofs.Runs.{says, inside, last, price-high, energy-high, run-held, run-new, run-beyond}
 use Rattle.index.proofs.Runs.{new-sums, instead-sums, left-held, left-cost, left-energy, left-low}
 use Rattle.index.proofs.charging.intervals_from.Goals as goal
@@ -68,7 +69,7 @@ loop-i-preserved c =
     let l = c.loop-i in
     let its = says d l.end l.invariant.3 c.loop-i-test.true in
     let ej = c.slot_ch-j.ensures in
-    let em = c.higher_of-top.ensures in (
+    let em = c.max-top.ensures ∙ max-higher _ _ in (
       inside d l.end its,
       omega (arith, l.invariant.1),
       c.if-j-index.auto.index ∙ l.invariant.2,

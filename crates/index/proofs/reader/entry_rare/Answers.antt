@@ -9,27 +9,27 @@ use Rattle.index.proofs.reader.entry_rare.Goals as goal
 
 pub returns-then-is_mark : goal.returns-then-is_mark
 unfolding mark_in table
-returns-then-is_mark c = c.entry_rs.ensures ∙ entry-as _ (begun 82 83 _ (sym c.is_mark.ensures ∙ c.if-is_mark.true))
+returns-then-is_mark c = c.entry_as.ensures ∙ entry-as _ (begun 82 83 _ (sym c.is_mark.ensures ∙ c.if-is_mark.true))
 
 pub returns-then-is_mark-2 : goal.returns-then-is_mark-2
 unfolding mark_in table
-returns-then-is_mark-2 c = c.entry_lc.ensures ∙ entry-as _ (begun 76 67 _ (sym c.is_mark-2.ensures ∙ c.if-is_mark-2.true))
+returns-then-is_mark-2 c = c.entry_as-then-is_mark-2.ensures ∙ entry-as _ (begun 76 67 _ (sym c.is_mark-2.ensures ∙ c.if-is_mark-2.true))
 
 pub returns-then-is_mark-3 : goal.returns-then-is_mark-3
 unfolding mark_in table
-returns-then-is_mark-3 c = c.entry_ao.ensures ∙ entry-as _ (begun 65 79 _ (sym c.is_mark-3.ensures ∙ c.if-is_mark-3.true))
+returns-then-is_mark-3 c = c.entry_as-then-is_mark-3.ensures ∙ entry-as _ (begun 65 79 _ (sym c.is_mark-3.ensures ∙ c.if-is_mark-3.true))
 
 pub returns-then-is_mark-4 : goal.returns-then-is_mark-4
 unfolding mark_in table
-returns-then-is_mark-4 c = c.entry_fv.ensures ∙ entry-as _ (begun 70 86 _ (sym c.is_mark-4.ensures ∙ c.if-is_mark-4.true))
+returns-then-is_mark-4 c = c.entry_as-then-is_mark-4.ensures ∙ entry-as _ (begun 70 86 _ (sym c.is_mark-4.ensures ∙ c.if-is_mark-4.true))
 
 pub returns-then-is_mark-5 : goal.returns-then-is_mark-5
 unfolding mark_in table
-returns-then-is_mark-5 c = c.entry_av.ensures ∙ entry-as _ (begun 65 86 _ (sym c.is_mark-5.ensures ∙ c.if-is_mark-5.true))
+returns-then-is_mark-5 c = c.entry_as-then-is_mark-5.ensures ∙ entry-as _ (begun 65 86 _ (sym c.is_mark-5.ensures ∙ c.if-is_mark-5.true))
 
 pub returns-then-is_mark-6 : goal.returns-then-is_mark-6
 unfolding mark_in table
-returns-then-is_mark-6 c = c.entry_mv.ensures ∙ entry-as _ (begun 77 86 _ (sym c.is_mark-6.ensures ∙ c.if-is_mark-6.true))
+returns-then-is_mark-6 c = c.entry_as-then-is_mark-6.ensures ∙ entry-as _ (begun 77 86 _ (sym c.is_mark-6.ensures ∙ c.if-is_mark-6.true))
 
 pub returns : goal.returns
 unfolding slot slot_at kind_of is_dated size fields_at widths key_width key_in row_of table

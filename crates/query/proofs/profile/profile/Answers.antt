@@ -1,4 +1,3 @@
-use borrow.Author.Rules.{rules}
 use mathlib.Core.Path.{◌≡◌, refl, ap, sym, ◌∙◌}
 use mathlib.Core.List.{List}
 use Prim.Native.Nat.{ℕ, ◌≤◌}
@@ -29,28 +28,28 @@ returns-then-slots_empty c = (
 
 pub loop-n-init : goal.loop-n-init
 unfolding profile
-loop-n-init c = (search rules, refl)
+loop-n-init c = refl
 
 in-range : {d ix : List ℕ} → Indexed d ix → (h : ℕ) → (1 ≤ profile (parameters (records d)) h) × (profile (parameters (records d)) h ≤ 4)
 unfolding profile
 in-range i h = profile-range (clean i) h 16
 
-pub returns-then-asked-ne0 : goal.returns-then-asked-ne0
-returns-then-asked-ne0 c =
+pub returns-in-Some : goal.returns-in-Some
+returns-in-Some c =
     let l = c.loop-n in
-    let e : c.asked_at-asked.result ≡ profile (parameters (records c.args.d.now)) c.args.hour = highest-asks _ _ l.n
-    c.loop-n-test.true c.asked_at-asked.ensures c.if-asked-ne0.true ∙ l.invariant.1 in
+    let e : c.in-Some.asked ≡ profile (parameters (records c.args.d.now)) c.args.hour = highest-asks _ _ l.n
+    (omega arith) c.in-Some.ensures ∙ l.invariant in
     let z = in-range c.requires c.args.hour in
     (e, rw e z.0, rw e z.1)
 
 pub loop-n-preserved : goal.loop-n-preserved
 loop-n-preserved c =
     let l = c.loop-n in
-    (omega arith, highest-silent _ _ l.n c.loop-n-test.true c.asked_at-asked.ensures c.if-asked-ne0.false ∙ l.invariant.1)
+    highest-silent _ _ l.n (omega arith) (sym c.in_default.is ∙ c.asked_at.ensures) ∙ l.invariant
 
 pub returns : goal.returns
 unfolding profile_of
 returns c =
     let l = c.loop-n in
     let w : 0 ≡ l.n = omega arith in
-    (ap (profile_of _ _) w ∙ l.invariant.1, omega arith, omega arith)
+    (ap (profile_of _ _) w ∙ l.invariant, omega arith, omega arith)

@@ -1,5 +1,4 @@
 use mathlib.Core.Path.{◌≡◌}
-use Prim.Native.Nat.{◌≤◌}
 use Rattle.records.specs.Dossier.{records}
 use Rattle.station.specs.Parameters.{parameters}
 use Rattle.formulas.specs.Levels.{profile_of, profile}
@@ -7,7 +6,4 @@ use Rattle.query.proofs.profile.profile.Given as goal
 
 -- requests 1 to n decide
 abbrev pub invariant-loop-n : goal.invariant-loop-n
-invariant-loop-n l = (l.n ≤ 16) × (profile_of (parameters (records l.d)) l.hour l.n ≡ profile (parameters (records l.d)) l.hour)
-
-abbrev pub decreases-loop-n : goal.decreases-loop-n
-decreases-loop-n l = l.n
+invariant-loop-n l = profile_of (parameters (records l.d)) l.hour l.n ≡ profile (parameters (records l.d)) l.hour

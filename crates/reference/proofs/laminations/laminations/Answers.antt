@@ -1,4 +1,3 @@
-use borrow.Author.Rules.{rules}
 use mathlib.Core.Path.{◌≡◌, ap, ◌∙◌}
 use mathlib.Core.List.{List}
 use Prim.Native.Nat.{ℕ, ◌+◌, ◌≤◌}
@@ -8,7 +7,7 @@ use Rattle.lookup.specs.Parts.{held}
 use Rattle.station.specs.Parameters.{parameters, amounts, output}
 use Rattle.formulas.specs.Levels.{Line, amount, lamination}
 use Rattle.arrays.specs.Packed.{padded}
-use Rattle.arrays.proofs.Packed.{row_more, row_ends, row-length, laminations-length, lamination-at}
+use Rattle.arrays.proofs.Packed.{row_more, row_ends, laminations-length, lamination-at}
 use Rattle.reference.proofs.laminations.laminations.Invariants.{column}
 use Rattle.reference.proofs.laminations.laminations.Goals as goal
 
@@ -16,27 +15,7 @@ pub loop-i-init : goal.loop-i-init
 unfolding padded
 loop-i-init c =
     let h = c.requires in
-    (search rules, h.4, h.5, h.6)
-
-pub bounds-from-i : goal.bounds-from-i
-bounds-from-i c =
-    let a = c.args in
-    omega (arith, row-length (column (held a.d.now a.index.now) a.p a.n (λ x. x.from)) _ _ c.loop-i.invariant.1)
-
-pub bounds-to-i : goal.bounds-to-i
-bounds-to-i c =
-    let a = c.args in
-    omega (arith, row-length (column (held a.d.now a.index.now) a.p a.n (λ x. x.to)) _ _ c.loop-i.invariant.2)
-
-pub bounds-cents-i : goal.bounds-cents-i
-bounds-cents-i c =
-    let a = c.args in
-    omega (arith, row-length (column (held a.d.now a.index.now) a.p a.n (λ x. amount x)) _ _ c.loop-i.invariant.3)
-
-pub lamination-requires : goal.lamination-requires
-lamination-requires c =
-    let h = c.requires in
-    (h.0, h.1, h.2, omega arith, omega arith, c.additions-more.ensures.0, c.additions-more.ensures.1)
+    (h.4, h.5, h.6)
 
 -- what one turn writes to an array is the next number of its column
 turn : (l : List (List ℕ)) (p n i : ℕ) (g : Line → ℕ) (a : List ℕ) (x : ℕ) → n ≤ 20 → i + 1 ≤ n → a ≡ padded 20 (take i (column l p n g))
@@ -52,11 +31,10 @@ loop-i-preserved c =
     let m = held a.d.now a.index.now in
     let l = c.loop-i in
     let h = c.requires.3 in (
-      omega arith,
-      turn m a.p a.n l.i (λ x. x.from) l.from _ h (omega arith) l.invariant.1 c.bottom.ensures,
-      turn m a.p a.n l.i (λ x. x.to) l.to _ h (omega arith) l.invariant.2
+      turn m a.p a.n l.i (λ x. x.from) l.from _ h (omega arith) l.invariant.0 c.bottom.ensures,
+      turn m a.p a.n l.i (λ x. x.to) l.to _ h (omega arith) l.invariant.1
           (c.output.ensures.0 ∙ ap (λ (j : ℕ). output (parameters m) j) (omega arith)),
-      turn m a.p a.n l.i (λ x. amount x) l.cents _ h (omega arith) l.invariant.3 c.lamination.ensures,
+      turn m a.p a.n l.i (λ x. amount x) l.cents _ h (omega arith) l.invariant.2 c.lamination.ensures,
     )
 
 -- a column that is filled
@@ -70,4 +48,4 @@ returns c =
     let m = held a.d.now a.index.now in
     let h = c.loop-i.invariant in
     let e = c.loop-i-test.false in
-    (filled m a.p a.n _ (λ x. x.from) e h.1, filled m a.p a.n _ (λ x. x.to) e h.2, filled m a.p a.n _ (λ x. amount x) e h.3)
+    (filled m a.p a.n _ (λ x. x.from) e h.0, filled m a.p a.n _ (λ x. x.to) e h.1, filled m a.p a.n _ (λ x. amount x) e h.2)

@@ -1,6 +1,6 @@
 use mathlib.Core.Path.{◌≡◌}
 use mathlib.Core.List.{List, [], map}
-use Prim.Native.Nat.{ℕ, ◌-◌, ◌≤◌}
+use Prim.Native.Nat.{ℕ}
 use lib.ListN.{take}
 use Rattle.lookup.specs.Parts.{held}
 use Rattle.station.specs.Parameters.{parameters, amounts}
@@ -14,10 +14,6 @@ column l p n g = map g (laminations (parameters l) (amounts l) p 1 n [])
 
 abbrev pub invariant-loop-i : goal.invariant-loop-i
 invariant-loop-i l =
-    (l.i ≤ l.n)
-    × (l.from ≡ padded 20 (take l.i (column (held l.d l.index) l.p l.n (λ x. x.from))))
+    (l.from ≡ padded 20 (take l.i (column (held l.d l.index) l.p l.n (λ x. x.from))))
     × (l.to ≡ padded 20 (take l.i (column (held l.d l.index) l.p l.n (λ x. x.to))))
     × (l.cents ≡ padded 20 (take l.i (column (held l.d l.index) l.p l.n (λ x. amount x))))
-
-abbrev pub decreases-loop-i : goal.decreases-loop-i
-decreases-loop-i l = l.n - l.i

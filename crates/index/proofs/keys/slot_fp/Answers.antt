@@ -1,7 +1,0 @@
-use mathlib.Core.Path.{refl}
-use Rattle.index.specs.Slots.{slot}
-use Rattle.index.proofs.keys.slot_fp.Goals as goal
-
-pub returns : goal.returns
-unfolding slot
-returns c = refl

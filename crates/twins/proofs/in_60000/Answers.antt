@@ -1,7 +1,0 @@
-use native.Mathlib.Omega.{arith}
-use Rattle.twins.proofs.Tree.{fresh}
-use Rattle.twins.proofs.in_60000.Goals as goal
-
-pub search-requires : goal.search-requires
-search-requires c =
-    (fresh 8192 6002 (omega arith) (omega arith) (omega arith) (omega (arith, c.requires.0)), c.requires.1)
