@@ -9,7 +9,7 @@ use mir.Facts.{to_z-of_z}
 use borrow.Author.Tests.{le-ltb}
 use Rattle.fields.specs.Numbers.{biased_of}
 
-wider : (y : ℤ) → SFits w32 y → SFits w64 y
+pub wider : (y : ℤ) → SFits w32 y → SFits w64 y
 wider (pos n) f = record { sfits = omega (arith, f.sfits) }
 wider (negsuc n) f = record { sfits = omega (arith, f.sfits) }
 

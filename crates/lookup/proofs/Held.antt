@@ -136,7 +136,7 @@ module _ {d ix : List ℕ} (h : Indexed d ix) where
     part-is i fit u p q = part_held i fit (or-false-left (datable k) (eqb k AO) u) p q ∙ held-always u
 
     -- and it lies in the dossier
-    record-in : InKey k n → slot k n < length ix → datable k ≡ false → {j len : ℕ} → j ≡ slot k n → len ≡ size k → RecordIn d (get_or ix j 0) len
+    pub record-in : InKey k n → slot k n < length ix → datable k ≡ false → {j len : ℕ} → j ≡ slot k n → len ≡ size k → RecordIn d (get_or ix j 0) len
     record-in i fit u p q = index-inside h.index some_good k n i fit u p q
 
     -- which is what `held_at` asks of a record

@@ -22,6 +22,12 @@ use records::{Answer, Mark, Refusal};
 // The longest dossier.
 pub const LONGEST: usize = 60000;
 
+// What a longer one draws.
+const TOO_LONG: Refusal = Refusal {
+    number: 13,
+    place: 0,
+};
+
 // A part of a dossier, by its start and length.
 #[derive(Clone, Copy)]
 pub struct Part {
@@ -80,10 +86,7 @@ pub fn room_for(d: &[u8]) -> Result<Room, Refusal>
     ensures { refusal_of result ≡ too_long d.now }
 {
     if LONGEST < d.len() {
-        return Err(Refusal {
-            number: 13,
-            place: 0,
-        });
+        return Err(TOO_LONG);
     }
     Ok(guess(d))
 }
@@ -113,10 +116,7 @@ pub fn scan(d: &[u8], index: &mut [u16], sums: &mut [u64]) -> Passed
         × (s.dated ≡ false → Undated d.now)) }
 {
     if LONGEST < d.len() {
-        return Err(Refusal {
-            number: 13,
-            place: 0,
-        });
+        return Err(TOO_LONG);
     }
     index::pass(d, index, sums)
 }
