@@ -37,18 +37,18 @@ fn summed<F: Fn(usize) -> u64>(n: usize, part: F) -> u64
     sum
 }
 
-// What is said of the costs of a level, added up; third-party payments are no cost of it.
-fn claimed<F: Fn(usize) -> u64>(cost: F) -> u64
+// What is said of the costs of a level, added up, without one that is withdrawn.
+fn claimed<F: Fn(usize) -> u64>(withdrawn: usize, cost: F) -> u64
     requires said { (c : ℕ) → 1 ≤ c → c ≤ 5 → F.pre cost c }
     requires small { (c r : ℕ) → 1 ≤ c → c ≤ 5 → F.post cost c r → r ≤ 2000000000000 }
-    ensures sum { (f : ℕ → ℕ) → ((c r : ℕ) → 1 ≤ c → c ≤ 5 → F.post cost c r → r ≡ f c) → result ≡ sum_to 5 (λ c. cond (eqb c third_party) 0 (f c)) }
+    ensures sum { (f : ℕ → ℕ) → ((c r : ℕ) → 1 ≤ c → c ≤ 5 → F.post cost c r → r ≡ f c) → result ≡ sum_to 5 (λ c. cond (eqb c withdrawn) 0 (f c)) }
     ensures within { (most : ℕ) → ((c r : ℕ) → 1 ≤ c → c ≤ 5 → F.post cost c r → r ≤ most) → result ≤ 5 * most }
 {
     summed(
         5,
         |c: usize| -> u64
             requires { F.pre cost c }
-        { if c == THIRD_PARTY { 0 } else { cost(c) } },
+        { if c == withdrawn { 0 } else { cost(c) } },
     )
 }
 
@@ -57,7 +57,7 @@ fn common_adders(d: &[u8], index: &[u16], p: usize, v: usize) -> u64
     requires { Indexed d.now index.now × (1 ≤ p) × (p ≤ 4) × (1 ≤ v) × (v ≤ 4) }
     ensures { (result ≡ sum_to 5 (λ c. cond (eqb c third_party) 0 (adder (amounts_held d.now index.now) p c v))) × (result ≤ 5000000000000) }
 {
-    claimed(|c| parameters::adder(d, index, p, c, v))
+    claimed(THIRD_PARTY, |c| parameters::adder(d, index, p, c, v))
 }
 
 // The owners' adders.
@@ -66,8 +66,11 @@ fn own_adders(d: &[u8], index: &[u16], p: usize, v: usize) -> u64
     ensures { (result ≡ sum_to 5 (λ c. cond (eqb c third_party) 0 (own_adder (amounts_held d.now index.now) 1 p c v
         + own_adder (amounts_held d.now index.now) 2 p c v))) × (result ≤ 10000000000000) }
 {
-    claimed(|c| parameters::own_adder(d, index, 1, p, c, v)
-        + parameters::own_adder(d, index, 2, p, c, v))
+    claimed(
+        THIRD_PARTY,
+        |c| parameters::own_adder(d, index, 1, p, c, v)
+            + parameters::own_adder(d, index, 2, p, c, v),
+    )
 }
 
 // The adders of a level: the common ones, and of the owners those of the one that is asked for, whose records alone the index holds.
