@@ -10,7 +10,7 @@ loop-i-init c = rw (c.decimal_len-len.ensures, decimal-digits_all c.args.n (omeg
 pub loop-i-preserved : goal.loop-i-preserved
 loop-i-preserved c =
     let l = c.loop-i in
-    more _ l.buf l.i l.m c.digit.result c.loop-i-test.true (omega arith) c.digit.ensures l.invariant
+    more _ l.buf l.i l.m c.digit.result c.loop-i-test.true (omega arith) (omega (arith, c.digit.ensures)) l.invariant
 
 pub returns : goal.returns
 unfolding last_digits
