@@ -27,6 +27,9 @@ fields-most k = go (is_dated k) refl
     go true e = omega (arith, dated-at k e)
     go false e = omega (arith, undated-at k e)
 
+pub fields-at-most : (n k : ℕ) → n ≡ fields_at k → n ≤ 10
+fields-at-most n k e = omega (arith, e, fields-most k)
+
 -- ---- the slot, by kind
 
 -- the key is as wide as the kind's

@@ -1,17 +1,17 @@
 use mathlib.Core.Path.{ap}
 use native.Mathlib.Omega.{arith}
 use Rattle.records.specs.Marks.{row}
-use Rattle.hours.proofs.Marks.{fields-most, slot-fu, slot-ad, slot-mm, slot-other}
+use Rattle.hours.proofs.Marks.{fields-at-most, slot-fu, slot-ad, slot-mm, slot-other}
 use Rattle.hours.proofs.slot_of_dated.Goals as goal
 
 pub overflow_add-at : goal.overflow_add-at
-overflow_add-at c = omega (arith, c.fields_at-at.ensures, fields-most (row c.args.mark))
+overflow_add-at c = omega (arith, fields-at-most _ _ c.fields_at-at.ensures)
 
 pub overflow_add-at-in-AD : goal.overflow_add-at-in-AD
-overflow_add-at-in-AD c = omega (arith, c.fields_at-at.ensures, fields-most (row c.args.mark))
+overflow_add-at-in-AD c = omega (arith, fields-at-most _ _ c.fields_at-at.ensures)
 
 pub overflow_add-at-in-MM : goal.overflow_add-at-in-MM
-overflow_add-at-in-MM c = omega (arith, c.fields_at-at.ensures, fields-most (row c.args.mark))
+overflow_add-at-in-MM c = omega (arith, fields-at-most _ _ c.fields_at-at.ensures)
 
 pub returns-in-FU : goal.returns-in-FU
 returns-in-FU c = slot-fu _ _ c.kind_of.ensures c.fields_at-at.ensures (ap row c.in-FU.is) c.u8_at.ensures c.slot_fu.ensures
