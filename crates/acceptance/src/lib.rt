@@ -142,7 +142,8 @@ fn accept_in<const SLOTS: usize>(d: &[u8]) -> Answer
     Ok(())
 }
 
-// The answer to a dossier.
+// The answer to a dossier. The law of 13 is named, so that a number that is written here is told right from wrong.
+#[tactic(auto, using(rules::proofs::Draws::overlong))]
 pub fn accept(d: &[u8]) -> Answer
     ensures { result ≡ answer d.now }
 {
